@@ -1,0 +1,27 @@
+use Rattle.std.specs.Prelude.{ℕ, List, codes}
+use Rattle.cal_value.specs.declared.kind.Kind.{Kind}
+use Rattle.cal_value.specs.declared.kind.Kind.TheVariants.{Usr, Int, Uint, Str, Addr, Double, Bool, TypeName, Ptr}
+
+-- the node that stands for a kind in every stream (this project's profile)
+abbrev pub kind_node : Kind → ℕ
+kind_node Usr = 0
+kind_node Int = 1
+kind_node Uint = 2
+kind_node Str = 3
+kind_node Addr = 4
+kind_node Double = 5
+kind_node Bool = 6
+kind_node TypeName = 7
+kind_node Ptr = 11
+
+-- the name of a kind (the `.cali` format)
+abbrev pub kind_name : Kind → List ℕ
+kind_name Usr = codes "usr"
+kind_name Int = codes "int"
+kind_name Uint = codes "uint"
+kind_name Str = codes "string"
+kind_name Addr = codes "addr"
+kind_name Double = codes "double"
+kind_name Bool = codes "bool"
+kind_name TypeName = codes "type"
+kind_name Ptr = codes "ptr"

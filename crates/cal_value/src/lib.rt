@@ -1,0 +1,26 @@
+//! Values, attributes, entries and records: the data that every layer of Giltmoth speaks of.
+//!
+//! A contract sees a `Seq` as a list and a `Text` as the list of its bytes, so a record is plain data: its
+//! paths, and its immediates. The layers above use that a copy is the value itself, and what a value's
+//! text, order and kind are. Nothing is promised of where a list lies in memory.
+#![tactic(auto)]
+
+mod attribute;
+mod copying;
+mod kind;
+mod memory;
+mod props;
+mod record;
+mod seq;
+mod text;
+mod variant;
+
+pub use attribute::{Attribute, Entry};
+pub use copying::TryCopy;
+pub use kind::Kind;
+pub use memory::OutOfMemory;
+pub use props::Props;
+pub use record::{Rec, Records};
+pub use seq::Seq;
+pub use text::Text;
+pub use variant::{Variant, print_value};

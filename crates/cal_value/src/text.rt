@@ -1,0 +1,96 @@
+ghost use Rattle.std.specs.Prelude.{◌≡◌, ◌==◌, [], ◌++◌, length, IfOk, OnOk, OnErr, string_bytes, encode_utf8};
+
+use crate::{OutOfMemory, TryCopy};
+use std::alloc::Global;
+use std::marker::Model;
+
+/// A text in UTF-8, which contracts see as the list of its bytes, over a `String`.
+#[derive(Debug, Drop)]
+pub struct Text {
+    string: String,
+}
+
+impl Model for Text {
+    ghost use Rattle.std.specs.Prelude.{ℕ, List, string_bytes};
+
+    ghost Value = { List ℕ };
+
+    ghost view = { λ t. string_bytes t.string };
+}
+
+impl Text {
+    /// The empty text. It takes no memory.
+    pub fn new(alloc: Global) -> Self
+        ensures { result ≡ [] }
+    {
+        Text {
+            string: String::new(alloc),
+        }
+    }
+
+    /// A copy of these characters.
+    pub fn from_str(alloc: Global, text: &str) -> Result<Self, OutOfMemory>
+        ensures { IfOk result (λ copied. copied ≡ text.now) }
+    {
+        Ok(Text {
+            string: String::from_str(alloc, text)?,
+        })
+    }
+
+    /// The text of this string. It takes no memory.
+    pub fn from_string(string: String) -> Self
+        ensures { result ≡ string_bytes string }
+    {
+        Text { string }
+    }
+
+    /// The string. It takes no memory.
+    pub fn into_string(self) -> String
+        ensures { string_bytes result ≡ self }
+    {
+        self.string
+    }
+
+    /// Its length in bytes.
+    pub fn len(&self) -> usize
+        ensures { result ≡ length self.now }
+    {
+        self.string.len()
+    }
+
+    pub fn is_empty(&self) -> bool
+        ensures { result ≡ (length self.now == 0) }
+    {
+        self.string.is_empty()
+    }
+
+    pub fn as_str(&self) -> &str
+        ensures { result.now ≡ self.now }
+    {
+        self.string.as_str()
+    }
+
+    /// Adds these characters at the end. An `Err` leaves the text.
+    pub fn push_str(&mut self, text: &str) -> Result<(), OutOfMemory>
+        ensures ok { OnOk result (self.new ≡ self.old ++ text.now) }
+        ensures err { OnErr result (self.new ≡ self.old) }
+    {
+        self.string.push_str(text)?;
+        Ok(())
+    }
+
+    /// Adds a character at the end. An `Err` leaves the text.
+    pub fn push(&mut self, character: char) -> Result<(), OutOfMemory>
+        ensures ok { OnOk result (self.new ≡ self.old ++ encode_utf8 character) }
+        ensures err { OnErr result (self.new ≡ self.old) }
+    {
+        self.string.push(character)?;
+        Ok(())
+    }
+}
+
+impl TryCopy for Text {
+    fn copy(&self, alloc: Global) -> Result<Self, OutOfMemory> {
+        Text::from_str(alloc, self.as_str())
+    }
+}
