@@ -1,0 +1,8 @@
+//! The program `caliper`.
+#![tactic(auto)]
+
+mod words;
+
+pub use words::{Command, read_words};
+
+fn main() {}
