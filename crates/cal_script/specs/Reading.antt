@@ -1,0 +1,130 @@
+-- What the lines of a script say, one after another. What stands here is the part of the grammar that is read so far:
+-- a line that isn't of it may not stand.
+use Rattle.std.specs.Prelude.{ℕ, Bool, List, [], ◌∷◌, ◌++◌, length, Option, Some, None, codes, sum_by, nat_lt, nat_le, not, ◌==◌, ◌&&◌, if◌then◌else◌, option_and_then}
+use Rattle.std.specs.List.{position_from}
+use Rattle.std.specs.Str.{bytes_eq, is_utf8}
+use Rattle.cal_value.specs.declared.attribute.Attribute.{Attribute}
+use Rattle.cal_value.specs.declared.kind.Kind.TheVariants.{Str}
+use Rattle.cal_value.specs.declared.variant.Variant.TheVariants.{Text}
+use Rattle.cal_script.specs.declared.script.Script.{Script}
+use Rattle.cal_script.specs.declared.script.Line.{Line}
+use Rattle.cal_script.specs.declared.script.Line.TheVariants.{Begin, End, Snapshot}
+use Rattle.cal_script.specs.Lines.{lines_of, words_of, joined, is_skipped}
+use Rattle.cal_script.specs.Names.{is_name, is_attribute_name}
+use Rattle.cal_script.specs.Values.{spelled_text}
+use Rattle.cal_script.specs.Depth.{open_count}
+
+infixl 10 ◌>>=◌
+abbrev pub ◌>>=◌ : {A B : Type 0} → Option A → (A → Option B) → Option B
+found >>= next = option_and_then next found
+
+-- the script without lines
+abbrev pub no_lines : Script
+no_lines = record { attributes = []; channels = []; values = []; threads = [] }
+
+-- the attribute of the kind `string` and the properties 276: nested, with thread scope
+abbrev pub nested_text : List ℕ → Attribute
+nested_text name = record { name = name; kind = Str; props = record { 0 = 276 } }
+
+-- the place of the attribute of this name
+abbrev pub attribute_place : Script → List ℕ → Option ℕ
+attribute_place script name = position_from (λ attribute. bytes_eq attribute.name name) 0 script.attributes
+
+-- the lines of the last thread
+abbrev pub last_thread : List (List Line) → List Line
+last_thread [] = []
+last_thread (thread ∷ []) = thread
+last_thread (thread ∷ next ∷ threads) = last_thread (next ∷ threads)
+
+-- the threads with one line more in the last
+abbrev pub add_line : Line → List (List Line) → List (List Line)
+add_line line [] = []
+add_line line (thread ∷ []) = (thread ++ line ∷ []) ∷ []
+add_line line (thread ∷ next ∷ threads) = thread ∷ add_line line (next ∷ threads)
+
+-- A line of a thread may stand behind a `thread` line, and 1,048,576 of them in a script (the limit is ours).
+abbrev pub has_room : Script → Bool
+has_room script = nat_lt 0 (length script.threads) && nat_lt (sum_by length script.threads) 1048576
+
+-- how many values are open in the last thread
+abbrev pub open_now : Script → ℕ
+open_now script = open_count (last_thread script.threads)
+
+-- `attribute NAME string 276`, the first line
+abbrev pub attribute_after : Script → List (List ℕ) → Option Script
+attribute_after script (name ∷ kind ∷ props ∷ []) =
+    if length script.attributes == 0 && bytes_eq kind (codes "string") && bytes_eq props (codes "276") && is_attribute_name name
+    then Some (record script { attributes = script.attributes ++ nested_text name ∷ [] }) else None
+attribute_after script _ = None
+
+-- `channel NAME trace`, the line behind it
+abbrev pub channel_after : Script → List (List ℕ) → Option Script
+channel_after script (name ∷ services ∷ []) =
+    if length script.attributes == 1 && length script.channels == 0 && bytes_eq services (codes "trace") && is_name name
+    then Some (record script { channels = script.channels ++ record { name = name } ∷ [] }) else None
+channel_after script _ = None
+
+-- `thread`, the line behind that
+abbrev pub thread_after : Script → List (List ℕ) → Option Script
+thread_after script [] =
+    if length script.channels == 1 && length script.threads == 0
+    then Some (record script { threads = script.threads ++ [] ∷ [] }) else None
+thread_after script _ = None
+
+-- `begin NAME VALUE` opens a value of at most 4,096 bytes, where fewer than 128 are open (the limits are ours). VALUE is the
+-- rest of the line and may have spaces.
+abbrev pub begin_after : Script → List (List ℕ) → Option Script
+begin_after script (name ∷ word ∷ words) = do
+  attr ← attribute_place script name
+  text ← spelled_text (joined (word ∷ words))
+  if has_room script && nat_lt (open_now script) 128 && nat_le (length text) 4096
+      then Some (record script { values = script.values ++ Text text ∷ []; threads = add_line (Begin attr (length script.values)) script.threads })
+      else None
+begin_after script _ = None
+
+-- `end NAME` closes the value that was opened last
+abbrev pub end_after : Script → List (List ℕ) → Option Script
+end_after script (name ∷ []) = do
+  attr ← attribute_place script name
+  if has_room script && nat_lt 0 (open_now script)
+      then Some (record script { threads = add_line (End attr) script.threads }) else None
+end_after script _ = None
+
+-- `snapshot`
+abbrev pub snapshot_after : Script → List (List ℕ) → Option Script
+snapshot_after script [] =
+    if has_room script then Some (record script { threads = add_line Snapshot script.threads }) else None
+snapshot_after script _ = None
+
+-- a line by its first word
+abbrev pub words_after : Script → List (List ℕ) → Option Script
+words_after script [] = None
+words_after script (word ∷ words) =
+    if bytes_eq word (codes "attribute") then attribute_after script words
+    else (if bytes_eq word (codes "channel") then channel_after script words
+    else (if bytes_eq word (codes "thread") then thread_after script words
+    else (if bytes_eq word (codes "begin") then begin_after script words
+    else (if bytes_eq word (codes "end") then end_after script words
+    else (if bytes_eq word (codes "snapshot") then snapshot_after script words
+    else None)))))
+
+-- What a line makes of the script that stands before it, or nothing where the line may not stand there. It must be UTF-8.
+unfoldable pub line_after : Script → List ℕ → Option Script
+line_after script line =
+    if not (is_utf8 line) then None
+    else (if is_skipped line then Some script else words_after script (words_of line))
+
+-- what further lines make of a script
+abbrev pub lines_after : Script → List (List ℕ) → Option Script
+lines_after script [] = Some script
+lines_after script (line ∷ lines) = do
+  next ← line_after script line
+  lines_after next lines
+
+-- the script that lines say, if each of them may stand where it does
+abbrev pub reading : List (List ℕ) → Option Script
+reading lines = lines_after no_lines lines
+
+-- the script that bytes say
+abbrev pub meaning : List ℕ → Option Script
+meaning bytes = reading (lines_of bytes)
