@@ -1,0 +1,4 @@
+pub mod Same
+pub mod Nodes
+pub mod CanonicalText
+pub mod Written

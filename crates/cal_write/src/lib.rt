@@ -1,0 +1,11 @@
+//! The canonical text of records: the program's one way to write a `.cali` stream.
+//!
+//! The layer above lends a `Writer` one record after another, and its text is then the `canonical_text` of
+//! those records. Nothing is said of a writer that was refused memory.
+#![tactic(auto)]
+
+mod whole;
+mod writer;
+
+pub use whole::cali_text;
+pub use writer::Writer;
