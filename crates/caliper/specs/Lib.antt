@@ -1,3 +1,4 @@
 pub mod Words
 pub mod Board
 pub mod Kept
+pub mod Runs
