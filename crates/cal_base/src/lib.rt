@@ -12,8 +12,8 @@ mod mem_source;
 mod reading;
 mod sink;
 mod source;
-//mod std_sink;
-//mod std_source;
+mod std_sink;
+mod std_source;
 
 pub use failed::Failed;
 pub use mem_sink::MemSink;
@@ -21,5 +21,5 @@ pub use mem_source::MemSource;
 pub use reading::{ReadEnd, read_all};
 pub use sink::Sink;
 pub use source::Source;
-//pub use std_sink::StdSink;
-//pub use std_source::StdSource;
+pub use std_sink::StdSink;
+pub use std_source::StdSource;
