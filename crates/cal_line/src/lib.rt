@@ -1,6 +1,9 @@
-//! Escapes of the stream's lines (a stand-in until the line grammar is here).
+//! The stream's line grammar: fields and escapes.
+//!
+//! The layers above use that `split_fields` gives exactly the fields that a line spells, and that what `escape`
+//! writes is one spelling of the text, which reads back as it. Nothing is promised of what a field means.
 #![tactic(auto)]
 
-mod spelling;
+mod escaping;
 
-pub use spelling::escape;
+pub use escaping::escape;
