@@ -19,6 +19,10 @@ kind_of (variant.Real t) = kind.Double
 kind_of (variant.Usr t) = kind.Usr
 kind_of (variant.Ptr t) = kind.Ptr
 
+-- an address in lower-case hexadecimal digits, without leading zeros, behind `0x` (ours)
+abbrev pub address_text : ℕ → List ℕ
+address_text a = codes "0x" ++ digits 16 std.false a
+
 -- The text of a value (the `.cali` format; of an address and a kind ours): a number in digits without leading
 -- zeros, an address in lower-case hexadecimal digits behind `0x`, and a text as it is.
 abbrev pub value_text : variants.Variant → List ℕ
@@ -26,7 +30,7 @@ value_text (variant.Int n) = signed_decimal n
 value_text (variant.Uint n) = decimal n
 value_text (variant.Text t) = t
 value_text (variant.Bool b) = if b then codes "true" else codes "false"
-value_text (variant.Addr a) = codes "0x" ++ digits 16 std.false a
+value_text (variant.Addr a) = address_text a
 value_text (variant.Kind k) = kind_name k
 value_text (variant.Real t) = t
 value_text (variant.Usr t) = t

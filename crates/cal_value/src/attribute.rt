@@ -1,8 +1,14 @@
+ghost use Rattle.std.specs.Prelude.{◌≡◌, ◌↔◌, IsTrue};
+ghost use Rattle.std.specs.Ordering.{eq_by_cmp};
+ghost use Rattle.cal_value.specs.Order.{attribute_cmp, entry_cmp};
+ghost use Rattle.cal_value.specs.OrderLaws.{attribute_exact, entry_exact};
+ghost use Rattle.cal_value.specs.ExactOrder.{exact_per, exact_equiv, exact_alike};
+
 use crate::{Kind, OutOfMemory, Props, Text, TryCopy, Variant};
 use std::alloc::Global;
 
 /// An attribute: two with equal name, kind and properties are the same one (Caliper's data model).
-#[derive(Debug, Drop)]
+#[derive(Debug, Drop, Hash)]
 pub struct Attribute {
     pub name: Text,
     pub kind: Kind,
@@ -10,7 +16,7 @@ pub struct Attribute {
 }
 
 /// An attribute with a value, which is of the attribute's kind.
-#[derive(Debug, Drop)]
+#[derive(Debug, Drop, Hash)]
 pub struct Entry {
     pub attr: Attribute,
     pub value: Variant,
@@ -33,4 +39,48 @@ impl TryCopy for Entry {
             value: self.value.copy(alloc)?,
         })
     }
+}
+
+impl PartialEq for Attribute {
+    ghost eq = { eq_by_cmp attribute_cmp };
+
+    ghost laws = { exact_per attribute_exact };
+
+    fn eq(&self, other: &Attribute) -> bool
+        ensures value { result ≡ eq_by_cmp attribute_cmp self.now other.now }
+        ensures same { IsTrue result ↔ (self.now ≡ other.now) }
+    {
+        self.kind == other.kind && self.props == other.props && self.name == other.name
+    }
+}
+
+impl Eq for Attribute {
+    ghost laws = { exact_equiv attribute_exact };
+}
+
+impl PartialEq for Entry {
+    ghost eq = { eq_by_cmp entry_cmp };
+
+    ghost laws = { exact_per entry_exact };
+
+    fn eq(&self, other: &Entry) -> bool
+        ensures value { result ≡ eq_by_cmp entry_cmp self.now other.now }
+        ensures same { IsTrue result ↔ (self.now ≡ other.now) }
+    {
+        self.attr == other.attr && self.value == other.value
+    }
+}
+
+impl Eq for Entry {
+    ghost laws = { exact_equiv entry_exact };
+}
+
+#[derived]
+impl Hash for Attribute {
+    ghost respects_eq = { exact_alike attribute_exact _ };
+}
+
+#[derived]
+impl Hash for Entry {
+    ghost respects_eq = { exact_alike entry_exact _ };
 }

@@ -1,8 +1,15 @@
+ghost use Rattle.std.specs.Prelude.{◌≡◌, ◌↔◌, IsTrue};
+ghost use Rattle.std.specs.Ordering.{eq_by_cmp};
+ghost use Rattle.cal_value.specs.Kinds.{kind_name, kind_node};
+ghost use Rattle.cal_value.specs.Order.{kind_cmp};
+ghost use Rattle.cal_value.specs.OrderLaws.{kind_exact};
+ghost use Rattle.cal_value.specs.ExactOrder.{exact_per, exact_equiv, exact_alike};
+
 use crate::{OutOfMemory, TryCopy};
 use std::alloc::Global;
 
 /// What the values of an attribute are (Caliper's data model; the numbers of the nodes are this project's).
-#[derive(Clone, Copy, Debug, PartialEq, Eq, Hash)]
+#[derive(Clone, Copy, Debug, Hash)]
 pub enum Kind {
     Usr,
     Int,
@@ -13,6 +20,59 @@ pub enum Kind {
     Bool,
     TypeName,
     Ptr,
+}
+
+impl Kind {
+    /// The node that stands for the kind in every stream.
+    pub fn node(self) -> u64
+        ensures { result ≡ kind_node self }
+    {
+        match self {
+            Kind::Usr => 0,
+            Kind::Int => 1,
+            Kind::Uint => 2,
+            Kind::Str => 3,
+            Kind::Addr => 4,
+            Kind::Double => 5,
+            Kind::Bool => 6,
+            Kind::TypeName => 7,
+            Kind::Ptr => 11,
+        }
+    }
+
+    /// The name of the kind, as the `.cali` format spells it.
+    pub fn name(self) -> &'static str
+        ensures { result.now ≡ kind_name self }
+    {
+        match self {
+            Kind::Usr => "usr",
+            Kind::Int => "int",
+            Kind::Uint => "uint",
+            Kind::Str => "string",
+            Kind::Addr => "addr",
+            Kind::Double => "double",
+            Kind::Bool => "bool",
+            Kind::TypeName => "type",
+            Kind::Ptr => "ptr",
+        }
+    }
+}
+
+impl PartialEq for Kind {
+    ghost eq = { eq_by_cmp kind_cmp };
+
+    ghost laws = { exact_per kind_exact };
+
+    fn eq(&self, other: &Kind) -> bool
+        ensures value { result ≡ eq_by_cmp kind_cmp self.now other.now }
+        ensures same { IsTrue result ↔ (self.now ≡ other.now) }
+    {
+        self.node() == other.node()
+    }
+}
+
+impl Eq for Kind {
+    ghost laws = { exact_equiv kind_exact };
 }
 
 impl TryCopy for Kind {

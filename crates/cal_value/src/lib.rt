@@ -7,8 +7,10 @@
 
 mod attribute;
 mod copying;
+mod exact;
 mod kind;
 mod memory;
+mod print;
 mod props;
 mod record;
 mod seq;
@@ -17,10 +19,12 @@ mod variant;
 
 pub use attribute::{Attribute, Entry};
 pub use copying::TryCopy;
+pub use exact::{Exact, same};
 pub use kind::Kind;
 pub use memory::OutOfMemory;
+pub use print::print_value;
 pub use props::Props;
 pub use record::{Rec, Records};
 pub use seq::Seq;
 pub use text::Text;
-pub use variant::{Variant, print_value};
+pub use variant::Variant;

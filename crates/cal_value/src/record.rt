@@ -1,8 +1,14 @@
-use crate::{Entry, OutOfMemory, Seq, TryCopy};
+ghost use Rattle.std.specs.Prelude.{◌≡◌, ◌↔◌, IsTrue};
+ghost use Rattle.std.specs.Ordering.{eq_by_cmp};
+ghost use Rattle.cal_value.specs.Order.{group_cmp};
+ghost use Rattle.cal_value.specs.OrderLaws.{group_exact};
+ghost use Rattle.cal_value.specs.ExactOrder.{exact_per, exact_equiv, exact_alike};
+
+use crate::{Entry, OutOfMemory, Seq, TryCopy, same};
 use std::alloc::Global;
 
 /// A snapshot or a group: the paths of its nodes, each from the root, and its immediates. No path is empty.
-#[derive(Debug, Drop)]
+#[derive(Debug, Drop, Hash)]
 pub struct Rec {
     pub paths: Seq<Seq<Entry>>,
     pub imms: Seq<Entry>,
@@ -29,4 +35,26 @@ impl TryCopy for Records {
             rows: self.rows.copy(alloc)?,
         })
     }
+}
+
+impl PartialEq for Rec {
+    ghost eq = { eq_by_cmp group_cmp };
+
+    ghost laws = { exact_per group_exact };
+
+    fn eq(&self, other: &Rec) -> bool
+        ensures value { result ≡ eq_by_cmp group_cmp self.now other.now }
+        ensures same { IsTrue result ↔ (self.now ≡ other.now) }
+    {
+        same(&self.paths, &other.paths) && same(&self.imms, &other.imms)
+    }
+}
+
+impl Eq for Rec {
+    ghost laws = { exact_equiv group_exact };
+}
+
+#[derived]
+impl Hash for Rec {
+    ghost respects_eq = { exact_alike group_exact _ };
 }

@@ -1,7 +1,12 @@
-ghost use Rattle.std.specs.Prelude.{◌≡◌, ◌==◌, [], ◌++◌, length, IfOk, OnOk, OnErr, string_bytes, encode_utf8};
+ghost use Rattle.std.specs.Prelude.{◌≡◌, ◌==◌, ◌↔◌, [], ◌++◌, length, IfOk, IsTrue, OnOk, OnErr, string_bytes, encode_utf8};
+ghost use Rattle.std.specs.Hash as fed;
+ghost use Rattle.std.specs.Ordering.{eq_by_cmp};
+ghost use Rattle.cal_value.specs.Texts.{text_cmp};
+ghost use Rattle.cal_value.specs.ExactOrder.{text_exact, exact_per, exact_equiv, exact_alike};
 
 use crate::{OutOfMemory, TryCopy};
 use std::alloc::Global;
+use std::hash::{Hash, Hasher};
 use std::marker::Model;
 
 /// A text in UTF-8, which contracts see as the list of its bytes, over a `String`.
@@ -70,6 +75,11 @@ impl Text {
         self.string.as_str()
     }
 
+    /// The allocator of the text, for what is made beside it.
+    pub fn allocator(&self) -> Global {
+        *self.string.allocator()
+    }
+
     /// Adds these characters at the end. An `Err` leaves the text.
     pub fn push_str(&mut self, text: &str) -> Result<(), OutOfMemory>
         ensures ok { OnOk result (self.new ≡ self.old ++ text.now) }
@@ -92,5 +102,32 @@ impl Text {
 impl TryCopy for Text {
     fn copy(&self, alloc: Global) -> Result<Self, OutOfMemory> {
         Text::from_str(alloc, self.as_str())
+    }
+}
+
+impl PartialEq for Text {
+    ghost eq = { eq_by_cmp text_cmp };
+
+    ghost laws = { exact_per text_exact };
+
+    fn eq(&self, other: &Text) -> bool
+        ensures value { result ≡ eq_by_cmp text_cmp self.now other.now }
+        ensures same { IsTrue result ↔ (self.now ≡ other.now) }
+    {
+        self.string == other.string
+    }
+}
+
+impl Eq for Text {
+    ghost laws = { exact_equiv text_exact };
+}
+
+impl Hash for Text {
+    ghost hash_input = { fed.str };
+
+    ghost respects_eq = { exact_alike text_exact fed.str };
+
+    fn hash<H: Hasher>(&self, state: &mut H) {
+        self.string.hash(state);
     }
 }
