@@ -5,3 +5,4 @@ pub mod Depth
 pub mod Reading
 pub mod Faults
 pub mod Shape
+pub mod Kinds

@@ -1,3 +1,6 @@
+ghost use Rattle.std.specs.Prelude.{◌≡◌};
+ghost use Rattle.cal_script.specs.Kinds.{script_kind_name};
+
 use std::fmt;
 
 /// What is wrong with a line of a script.
@@ -9,7 +12,9 @@ pub enum ScriptKind {
 
 impl ScriptKind {
     /// Its name, as a fault's text has it.
-    pub fn name(self) -> &'static str {
+    pub fn name(self) -> &'static str
+        ensures { result.now ≡ script_kind_name self }
+    {
         match self {
             ScriptKind::NotYet => "NotYet",
         }

@@ -19,4 +19,4 @@ recorded_both w v u xs ys first second before stands = rw (← append_assoc) (se
 pub snapshots_from-drop : (script : Script) (board next : Board) (lines : List Line) (i : ℕ) (d : Line) (taken all : List Rec) → i < length lines → next ≡ board_after script board (get_or lines i d) → taken ++ snapshots_from script board (drop i lines) ≡ all → (taken ++ snapshots_at board (get_or lines i d)) ++ snapshots_from script next (drop (i + 1) lines) ≡ all
 snapshots_from-drop script board next lines i d taken all below after so_far =
     rw (append_assoc, after, add-one)
-      (rw (drop-cons lines i d) at so_far)
+    (rw (drop-cons lines i d) at so_far)

@@ -2,10 +2,14 @@
 #![tactic(auto)]
 
 mod board;
+mod fault;
+mod report;
 mod serial;
 mod words;
 
 pub use board::Board;
+pub use fault::{Fault, InputKind};
+pub use report::put_fault;
 pub use serial::serial_text;
 pub use words::{Command, read_words};
 
