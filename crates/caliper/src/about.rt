@@ -1,0 +1,33 @@
+ghost use Rattle.std.specs.Prelude.{◌≡◌, map, string_bytes};
+
+/// What `--help` tells.
+pub const HELP: &str = "\
+caliper: runs annotation scripts and queries their .cali streams, in whole numbers
+
+usage: caliper COMMAND < INPUT > OUTPUT
+
+    serial      reads a script, and writes the .cali text of its records, the threads one after another
+    --help      this text
+    --version   the version, and what it is proved with
+
+A fault is told on standard error, and by the status. The guide is the README of the repository;
+docs/FORMATS.md there has the scripts, the streams and the faults.
+";
+
+/// What `--version` tells.
+pub const VERSION: &str = "\
+caliper 0.1.0
+proved with rattle-kit-13b logic dac8208d650f15bf
+";
+
+/// The text for people that the only word asks for, if it asks for one.
+pub fn about(words: &[String]) -> Option<&'static str> {
+    match words {
+        [word] => match word.as_str() {
+            "--help" => Some(HELP),
+            "--version" => Some(VERSION),
+            _ => None,
+        },
+        _ => None,
+    }
+}
