@@ -2,12 +2,11 @@ use Rattle.std.proofs.Common.{◌≡◌, ◌≢◌, ℕ, ◌+◌, ◌<◌, ◌�
 use Rattle.std.specs.Option.{IsSomeAnd}
 use Rattle.std.specs.Result.{result_err}
 use Rattle.cal_base.specs.Told.{TakesOver}
-use Rattle.caliper.specs.Causes.{IsInputFault, IsValidInput, TellsOfScript}
+use Rattle.caliper.specs.Causes.{input_limit, IsInputFault, IsValidInput, TellsOfScript}
 use Rattle.caliper.specs.Faults.{status_of}
 use Rattle.caliper.specs.declared.fault.Fault as faults
 use Rattle.caliper.specs.declared.fault.Fault.TheVariants as fault
 use Rattle.caliper.specs.declared.fault.InputKind.{InputKind}
-use Rattle.caliper.specs.declared.run.TheConstants.{INPUT_LIMIT}
 use Rattle.caliper.proofs.FirstFault.{faulty_without_meaning}
 
 -- 2, 5, 7 and 8 aren't among 0, 3 and 6
@@ -39,7 +38,7 @@ valid_without_fault line kind None valid faulty = valid
 valid_without_fault line kind (Some bytes) valid faulty = faulty_without_meaning bytes line faulty.0 valid.1
 
 -- a valid input isn't too long
-pub valid_within : (old new : Option (List ℕ)) → IsSomeAnd old IsValidInput → TakesOver INPUT_LIMIT old new → ⊥
+pub valid_within : (old new : Option (List ℕ)) → IsSomeAnd old IsValidInput → TakesOver input_limit old new → ⊥
 valid_within None new valid over = valid
 valid_within (Some old) None valid over = over.2
 valid_within (Some old) (Some new) valid over = omega (arith, valid.0, over.1, ap length over.2, length-append over.0 new)

@@ -11,7 +11,6 @@ use Rattle.cal_script.specs.declared.kind.ScriptKind.TheVariants.{NotYet}
 use Rattle.caliper.specs.Runs.{text_of}
 use Rattle.caliper.specs.declared.fault.InputKind.{InputKind}
 use Rattle.caliper.specs.declared.fault.InputKind.TheVariants.{Script}
-use Rattle.caliper.specs.declared.run.TheConstants.{INPUT_LIMIT}
 
 -- A text was put behind what a sink has: whole, or a front of it where its count of faults rose.
 pub record Tells (old new : Option (List ℕ)) (before now : ℕ) (text : List ℕ) : Type 0 where
@@ -19,9 +18,13 @@ pub record Tells (old new : Option (List ℕ)) (before now : ℕ) (text : List �
   pub front : AppendsFront old new text
   pub later : before ≤ now
 
+-- the most bytes that an input may have (ours)
+abbrev pub input_limit : ℕ
+input_limit = 268435456
+
 -- the input was read to its end, and is no longer than allowed
 pub record IsRead (old new : Option (List ℕ)) : Type 0 where
-  pub within : TakesUpTo INPUT_LIMIT old new
+  pub within : TakesUpTo input_limit old new
   pub ended : IsAtEnd new
 
 -- the bytes mean a script, and the text of its run was put behind what the output has
@@ -38,7 +41,7 @@ IsInputFault line kind bytes = IsFirstFault (lines_of bytes) line × (kind ≡ S
 
 -- bytes that mean a script, no more of them than allowed
 abbrev pub IsValidInput : List ℕ → Type 0
-IsValidInput bytes = (length bytes ≤ INPUT_LIMIT) × IsSome (meaning bytes)
+IsValidInput bytes = (length bytes ≤ input_limit) × IsSome (meaning bytes)
 
 -- with this status the input was read to its end: all is written, the script is faulty, or the output failed
 abbrev pub TellsOfScript : ℕ → Type 0

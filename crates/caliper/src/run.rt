@@ -4,7 +4,7 @@ ghost use Rattle.cal_base.specs.Faults.{Rose};
 ghost use Rattle.cal_base.specs.Told.{Appends, AppendsFront, TakesOver};
 ghost use Rattle.cal_script.specs.Reading.{meaning};
 ghost use Rattle.cal_script.specs.Shape.{IsScript};
-ghost use Rattle.caliper.specs.Causes.{IsRead, IsInputFault, IsValidInput, Tells, TellsOfScript, WritesRun, WritesFront};
+ghost use Rattle.caliper.specs.Causes.{input_limit, IsRead, IsInputFault, IsValidInput, Tells, TellsOfScript, WritesRun, WritesFront};
 ghost use Rattle.caliper.specs.Faults.{report_of, status_of};
 ghost use Rattle.caliper.specs.Words.{command_of};
 ghost use Rattle.caliper.specs.declared.fault.InputKind as kinds;
@@ -46,7 +46,7 @@ pub fn run<S: Source, W: Sink, E: Sink>(
     ensures usage { (word : ℕ) → (result.fault ≡ Some (Fault.Usage word)) ↔ (command_of (map string_bytes words.now) ≡ Err word) }
     ensures bad_input { (line : ℕ) (kind : kinds.InputKind) → result.fault ≡ Some (Fault.BadInput line kind) → IfSome (S.left input.old) (IsInputFault line kind) }
     ensures read_fault { result.fault ≡ Some Fault.ReadFault → Rose (S.faults input.old) (S.faults input.new) }
-    ensures too_long { result.fault ≡ Some Fault.TooLong → TakesOver INPUT_LIMIT (S.left input.old) (S.left input.new) }
+    ensures too_long { result.fault ≡ Some Fault.TooLong → TakesOver input_limit (S.left input.old) (S.left input.new) }
     ensures write_fault { result.fault ≡ Some Fault.WriteFault → Rose (W.faults output.old) (W.faults output.new) }
     ensures front { result.fault ≡ Some Fault.WriteFault → IfSome (S.left input.old) (WritesFront (W.written output.old) (W.written output.new)) }
 
@@ -80,7 +80,7 @@ fn serial<S: Source, W: Sink>(alloc: Global, input: &mut S, output: &mut W) -> R
     ensures bad_input { (line : ℕ) (kind : kinds.InputKind) → IsErrOf result (Fault.BadInput line kind) →
         IfSome (S.left input.old) (IsInputFault line kind) × IsRead (S.left input.old) (S.left input.new) }
     ensures read_fault { IsErrOf result Fault.ReadFault → Rose (S.faults input.old) (S.faults input.new) }
-    ensures too_long { IsErrOf result Fault.TooLong → TakesOver INPUT_LIMIT (S.left input.old) (S.left input.new) }
+    ensures too_long { IsErrOf result Fault.TooLong → TakesOver input_limit (S.left input.old) (S.left input.new) }
     ensures write_fault { IsErrOf result Fault.WriteFault → Rose (W.faults output.old) (W.faults output.new) }
     ensures front { IsErrOf result Fault.WriteFault → IfSome (S.left input.old) (WritesFront (W.written output.old) (W.written output.new)) }
     ensures front_read { IsErrOf result Fault.WriteFault → IsRead (S.left input.old) (S.left input.new) }
@@ -105,7 +105,7 @@ fn read_input<S: Source>(alloc: Global, input: &mut S) -> Result<Script, Fault>
     ensures bad_input { (line : ℕ) (kind : kinds.InputKind) → IsErrOf result (Fault.BadInput line kind) →
         IfSome (S.left input.old) (IsInputFault line kind) × IsRead (S.left input.old) (S.left input.new) }
     ensures read_fault { IsErrOf result Fault.ReadFault → Rose (S.faults input.old) (S.faults input.new) }
-    ensures too_long { IsErrOf result Fault.TooLong → TakesOver INPUT_LIMIT (S.left input.old) (S.left input.new) }
+    ensures too_long { IsErrOf result Fault.TooLong → TakesOver input_limit (S.left input.old) (S.left input.new) }
     ensures no_other { (word : ℕ) → IsErrOf result (Fault.Usage word) → ⊥ }
     ensures no_write { IsErrOf result Fault.WriteFault → ⊥ }
 {
