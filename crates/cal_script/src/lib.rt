@@ -8,8 +8,13 @@
 
 mod end;
 mod kind;
+mod names;
+mod parts;
+mod reader;
 mod reading;
 mod script;
+mod value;
+mod words;
 
 pub use end::ScriptEnd;
 pub use kind::ScriptKind;
