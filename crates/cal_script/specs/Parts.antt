@@ -1,5 +1,5 @@
 -- What the words behind the first word of a line say.
-use Rattle.std.specs.Prelude.{ℕ, Bool, List, [], ◌∷◌, length, Option, Some, None, codes, nat_le, ◌&&◌, if◌then◌else◌, option_and_then}
+use Rattle.std.specs.Prelude.{ℕ, List, [], ◌∷◌, length, Option, Some, None, codes, nat_le, ◌&&◌, if◌then◌else◌, option_and_then}
 use Rattle.std.specs.List.{position}
 use Rattle.std.specs.Str.{bytes_eq}
 use Rattle.cal_value.specs.declared.attribute.Attribute.{Attribute}

@@ -24,5 +24,5 @@ script_of reader = record {
 pub record IsReading (reader : Reader) : Type 0 where
   pub script : IsScript (script_of reader)
   pub idle : reader.in_thread ≡ false → reader.lines ≡ []
-  pub depth : closed reader.lines + reader.open ≡ opened reader.lines
+  pub counted : closed reader.lines + reader.depth ≡ opened reader.lines
   pub numbered : length reader.values ≡ opened reader.lines

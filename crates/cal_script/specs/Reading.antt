@@ -1,6 +1,6 @@
 -- What the lines of a script say, one after another. What stands here is the part of the grammar that is read so far:
 -- a line that isn't of it may not stand.
-use Rattle.std.specs.Prelude.{ℕ, Bool, List, [], ◌∷◌, ◌++◌, length, Option, Some, None, codes, sum_by, nat_lt, nat_le, not, ◌==◌, ◌&&◌, if◌then◌else◌, option_and_then}
+use Rattle.std.specs.Prelude.{ℕ, Bool, List, [], ◌∷◌, ◌++◌, length, Option, Some, None, codes, sum_by, nat_lt, not, ◌==◌, ◌&&◌, if◌then◌else◌}
 use Rattle.std.specs.Str.{bytes_eq, is_utf8}
 use Rattle.cal_value.specs.declared.variant.Variant.TheVariants.{Text}
 use Rattle.cal_script.specs.declared.script.Script.{Script}
@@ -45,7 +45,7 @@ abbrev pub channel_after : Script → List (List ℕ) → Option Script
 channel_after script words = do
   channel ← channel_of words
   if length script.attributes == 1 && length script.channels == 0
-    then Some (record script { channels = script.channels ++ channel ∷ [] }) else None
+      then Some (record script { channels = script.channels ++ channel ∷ [] }) else None
 
 -- `thread` is the line behind that
 abbrev pub thread_after : Script → List (List ℕ) → Option Script
@@ -59,18 +59,18 @@ abbrev pub begin_after : Script → List (List ℕ) → Option Script
 begin_after script words = do
   opening ← opening_of script.attributes words
   if has_room script && nat_lt (open_now script) 128
-    then Some (record script {
-      values = script.values ++ Text opening.1 ∷ [];
-      threads = add_line (Begin opening.0 (length script.values)) script.threads;
-    })
-    else None
+      then Some (record script {
+        values = script.values ++ Text opening.1 ∷ [];
+        threads = add_line (Begin opening.0 (length script.values)) script.threads;
+      })
+      else None
 
 -- `end ..` closes the value that was opened last
 abbrev pub end_after : Script → List (List ℕ) → Option Script
 end_after script words = do
   attr ← closing_of script.attributes words
   if has_room script && nat_lt 0 (open_now script)
-    then Some (record script { threads = add_line (End attr) script.threads }) else None
+      then Some (record script { threads = add_line (End attr) script.threads }) else None
 
 -- `snapshot`
 abbrev pub snapshot_after : Script → List (List ℕ) → Option Script

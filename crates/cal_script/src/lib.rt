@@ -7,6 +7,7 @@
 #![tactic(auto)]
 
 mod end;
+mod faults;
 mod kind;
 mod names;
 mod parts;
@@ -17,6 +18,7 @@ mod value;
 mod words;
 
 pub use end::ScriptEnd;
+pub use faults::first_fault_law;
 pub use kind::ScriptKind;
 pub use reading::read_script;
 pub use script::{Channel, Line, Script};

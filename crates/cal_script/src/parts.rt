@@ -5,15 +5,16 @@ ghost use Rattle.cal_script.specs.Shape.{IsNestedText};
 ghost use Rattle.cal_script.specs.Names.{is_name};
 ghost use Rattle.cal_script.specs.Steps.{Gives, words_behind};
 
+use crate::Channel;
 use crate::end::{BAD, LineEnd};
 use crate::names::{is_attribute_name, is_name};
 use crate::value::read_value;
 use crate::words::first_word;
-use crate::Channel;
 use cal_value::{Attribute, Kind, Props, Text};
 use std::alloc::Global;
 
 const NESTED_WITH_THREAD_SCOPE: Props = Props(276);
+
 const LONGEST_TEXT: usize = 4_096;
 
 /// The attribute that the words behind `attribute` declare.

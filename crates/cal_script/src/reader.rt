@@ -7,12 +7,13 @@ ghost use Rattle.cal_script.specs.Steps.{Gives, words_behind};
 
 use crate::end::{BAD, LineEnd};
 use crate::parts::{attribute_of, channel_of, closing_of, opening_of};
-use crate::words::first_word;
+use crate::words::{first_word, is_skipped};
 use crate::{Channel, Line, Script};
 use cal_value::{Attribute, OutOfMemory, Seq, Variant};
 use std::alloc::Global;
 
 const MOST_LINES: usize = 1_048_576;
+
 const MOST_OPEN: usize = 128;
 
 /// What the lines of a script say so far. Beside the lines of the thread stands how many values they leave open.
@@ -23,7 +24,7 @@ pub(crate) struct Reader {
     values: Seq<Variant>,
     in_thread: bool,
     lines: Seq<Line>,
-    open: usize,
+    depth: usize,
 }
 
 impl Reader {
@@ -38,11 +39,12 @@ impl Reader {
             values: Seq::new(alloc),
             in_thread: false,
             lines: Seq::new(alloc),
-            open: 0,
+            depth: 0,
         }
     }
 
     /// Reads the next line. After an `Err` the reader is of no more use.
+    #[tactic(auto, unfolding(crate::specs::Reading::line_after), using(crate::proofs::Cuts::texts))]
     pub(crate) fn read_line(&mut self, alloc: Global, line: &[u8]) -> Result<(), LineEnd>
         requires { IsReading self.old }
         ensures said { Gives (λ _. script_of self.new) result (line_after (script_of self.old) line.now) }
@@ -51,25 +53,32 @@ impl Reader {
         let Ok(text) = std::str::from_utf8(line) else {
             return Err(BAD);
         };
-        match line {
-            [] => Ok(()),
-            [b'#', ..] => Ok(()),
-            _ => self.read_words(alloc, text),
+        if is_skipped(line) {
+            return Ok(());
         }
+        self.read_words(alloc, text)
     }
 
     /// The script that all lines say.
     pub(crate) fn into_script(self, alloc: Global) -> Result<Script, OutOfMemory>
         ensures { IfOk result (λ script. script ≡ script_of self) }
     {
+        let Reader {
+            attributes,
+            channels,
+            values,
+            in_thread,
+            lines,
+            depth: _,
+        } = self;
         let mut threads = Seq::new(alloc);
-        if self.in_thread {
-            threads.push(self.lines)?;
+        if in_thread {
+            threads.push(lines)?;
         }
         Ok(Script {
-            attributes: self.attributes,
-            channels: self.channels,
-            values: self.values,
+            attributes,
+            channels,
+            values,
             threads,
         })
     }
@@ -120,6 +129,7 @@ impl Reader {
         Ok(())
     }
 
+    #[tactic(auto, using(crate::proofs::Cuts::thread_lists))]
     fn read_thread(&mut self, rest: Option<&str>) -> Result<(), LineEnd>
         requires { IsReading self.old }
         ensures said { Gives (λ _. script_of self.new) result (thread_after (script_of self.old) (words_behind (option_copied rest.entry))) }
@@ -153,13 +163,13 @@ impl Reader {
         if !self.has_room() {
             return Err(BAD);
         }
-        if self.open >= MOST_OPEN {
+        if self.depth >= MOST_OPEN {
             return Err(BAD);
         }
         let value = self.values.len() as u32;
         self.values.push(Variant::Text(text))?;
         self.lines.push(Line::Begin { attr, value })?;
-        self.open += 1;
+        self.depth += 1;
         Ok(())
     }
 
@@ -172,14 +182,15 @@ impl Reader {
         if !self.has_room() {
             return Err(BAD);
         }
-        if self.open == 0 {
+        if self.depth == 0 {
             return Err(BAD);
         }
         self.lines.push(Line::End { attr })?;
-        self.open -= 1;
+        self.depth -= 1;
         Ok(())
     }
 
+    #[tactic(auto, using(crate::proofs::Cuts::snapshot_lists))]
     fn read_snapshot(&mut self, rest: Option<&str>) -> Result<(), LineEnd>
         requires { IsReading self.old }
         ensures said { Gives (λ _. script_of self.new) result (snapshot_after (script_of self.old) (words_behind (option_copied rest.entry))) }

@@ -1,4 +1,3 @@
-use Rattle.std.proofs.Common.{rules, sym, ◌∙◌, ap, Some}
 use Rattle.cal_script.proofs.Spelling.{spelled_text-same}
 use Rattle.cal_script.proofs.value.read_value.Goals as goal
 

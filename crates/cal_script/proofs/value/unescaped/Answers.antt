@@ -1,8 +1,7 @@
-use Rattle.std.proofs.Common.{◌≡◌, true, false, ◌++◌, eqb, rules}
-use Rattle.std.proofs.lemmas.Bool.{eqb-false}
+use Rattle.std.proofs.Common.{rules}
 use Rattle.std.specs.Str.Iter.{chars_rest}
 use Rattle.cal_script.specs.Values.{spelled_text}
-use Rattle.cal_script.proofs.Spelling.{onto_front, unread, escaped_step, plain_step}
+use Rattle.cal_script.proofs.Spelling.{escaped_step, plain_step}
 use Rattle.cal_script.proofs.value.unescaped.Goals as goal
 
 pub loop-character-preserved-then-behind_backslash :
