@@ -2,7 +2,10 @@ pub mod Lines
 pub mod Names
 pub mod Values
 pub mod Depth
+pub mod Parts
 pub mod Reading
+pub mod Kinds
 pub mod Faults
 pub mod Shape
-pub mod Kinds
+pub mod Steps
+pub mod Reader

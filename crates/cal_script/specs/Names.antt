@@ -17,6 +17,10 @@ abbrev pub reserved_names : List (List ℕ)
 reserved_names = codes "path" ∷ codes "count" ∷ codes "time.duration.ns" ∷ codes "time.inclusive.duration.ns"
     ∷ codes "region.depth" ∷ codes "region.count" ∷ []
 
--- An attribute that is declared has none of those names, nor one of Caliper's own, which begin with `cali.` (ours).
+-- a name that no script may declare for an attribute: one of those, or one of Caliper's own, which begin with `cali.` (ours)
+abbrev pub is_reserved : List ℕ → Bool
+is_reserved name = list_any (bytes_eq name) reserved_names || starts_with nat_eq name (codes "cali.")
+
+-- the name of an attribute that a script declares
 abbrev pub is_attribute_name : List ℕ → Bool
-is_attribute_name name = is_name name && not (list_any (bytes_eq name) reserved_names) && not (starts_with nat_eq name (codes "cali."))
+is_attribute_name name = is_name name && not (is_reserved name)

@@ -1,34 +1,18 @@
 -- What the lines of a script say, one after another. What stands here is the part of the grammar that is read so far:
 -- a line that isn't of it may not stand.
-use Rattle.std.specs.Prelude.{ℕ, Bool, List, [], ◌∷◌, ◌++◌, length, Option, Some, None, codes, sum_by, nat_lt, nat_le, not, ◌==◌, ◌&&◌, if◌then◌else◌, option_and_then}
-use Rattle.std.specs.List.{position_from}
+use Rattle.std.specs.Prelude.{ℕ, Bool, List, [], ◌∷◌, ◌++◌, length, Option, Some, None, codes, sum_by, nat_lt, not, ◌==◌, ◌&&◌, if◌then◌else◌}
 use Rattle.std.specs.Str.{bytes_eq, is_utf8}
-use Rattle.cal_value.specs.declared.attribute.Attribute.{Attribute}
-use Rattle.cal_value.specs.declared.kind.Kind.TheVariants.{Str}
 use Rattle.cal_value.specs.declared.variant.Variant.TheVariants.{Text}
 use Rattle.cal_script.specs.declared.script.Script.{Script}
 use Rattle.cal_script.specs.declared.script.Line.{Line}
 use Rattle.cal_script.specs.declared.script.Line.TheVariants.{Begin, End, Snapshot}
-use Rattle.cal_script.specs.Lines.{lines_of, words_of, joined, is_skipped}
-use Rattle.cal_script.specs.Names.{is_name, is_attribute_name}
-use Rattle.cal_script.specs.Values.{spelled_text}
+use Rattle.cal_script.specs.Lines.{lines_of, words_of, is_skipped}
+use Rattle.cal_script.specs.Parts.{◌>>=◌, attribute_of, channel_of, opening_of, closing_of}
 use Rattle.cal_script.specs.Depth.{open_count}
-
-infixl 10 ◌>>=◌
-abbrev pub ◌>>=◌ : {A B : Type 0} → Option A → (A → Option B) → Option B
-found >>= next = option_and_then next found
 
 -- the script without lines
 abbrev pub no_lines : Script
 no_lines = record { attributes = []; channels = []; values = []; threads = [] }
-
--- the attribute of the kind `string` and the properties 276: nested, with thread scope
-abbrev pub nested_text : List ℕ → Attribute
-nested_text name = record { name = name; kind = Str; props = record { 0 = 276 } }
-
--- the place of the attribute of this name
-abbrev pub attribute_place : Script → List ℕ → Option ℕ
-attribute_place script name = position_from (λ attribute. bytes_eq attribute.name name) 0 script.attributes
 
 -- the lines of the last thread
 abbrev pub last_thread : List (List Line) → List Line
@@ -50,51 +34,49 @@ has_room script = nat_lt 0 (length script.threads) && nat_lt (sum_by length scri
 abbrev pub open_now : Script → ℕ
 open_now script = open_count (last_thread script.threads)
 
--- `attribute NAME string 276`, the first line
+-- `attribute ..` is the first line
 abbrev pub attribute_after : Script → List (List ℕ) → Option Script
-attribute_after script (name ∷ kind ∷ props ∷ []) =
-    if length script.attributes == 0 && bytes_eq kind (codes "string") && bytes_eq props (codes "276") && is_attribute_name name
-    then Some (record script { attributes = script.attributes ++ nested_text name ∷ [] }) else None
-attribute_after script _ = None
+attribute_after script words = do
+  attribute ← attribute_of words
+  if length script.attributes == 0 then Some (record script { attributes = script.attributes ++ attribute ∷ [] }) else None
 
--- `channel NAME trace`, the line behind it
+-- `channel ..` is the line behind it
 abbrev pub channel_after : Script → List (List ℕ) → Option Script
-channel_after script (name ∷ services ∷ []) =
-    if length script.attributes == 1 && length script.channels == 0 && bytes_eq services (codes "trace") && is_name name
-    then Some (record script { channels = script.channels ++ record { name = name } ∷ [] }) else None
-channel_after script _ = None
+channel_after script words = do
+  channel ← channel_of words
+  if length script.attributes == 1 && length script.channels == 0
+      then Some (record script { channels = script.channels ++ channel ∷ [] }) else None
 
--- `thread`, the line behind that
+-- `thread` is the line behind that
 abbrev pub thread_after : Script → List (List ℕ) → Option Script
 thread_after script [] =
     if length script.channels == 1 && length script.threads == 0
     then Some (record script { threads = script.threads ++ [] ∷ [] }) else None
-thread_after script _ = None
+thread_after script (word ∷ words) = None
 
--- `begin NAME VALUE` opens a value of at most 4,096 bytes, where fewer than 128 are open (the limits are ours). VALUE is the
--- rest of the line and may have spaces.
+-- `begin ..` opens a value, where fewer than 128 are open (the limit is ours)
 abbrev pub begin_after : Script → List (List ℕ) → Option Script
-begin_after script (name ∷ word ∷ words) = do
-  attr ← attribute_place script name
-  text ← spelled_text (joined (word ∷ words))
-  if has_room script && nat_lt (open_now script) 128 && nat_le (length text) 4096
-      then Some (record script { values = script.values ++ Text text ∷ []; threads = add_line (Begin attr (length script.values)) script.threads })
+begin_after script words = do
+  opening ← opening_of script.attributes words
+  if has_room script && nat_lt (open_now script) 128
+      then Some (record script {
+        values = script.values ++ Text opening.1 ∷ [];
+        threads = add_line (Begin opening.0 (length script.values)) script.threads;
+      })
       else None
-begin_after script _ = None
 
--- `end NAME` closes the value that was opened last
+-- `end ..` closes the value that was opened last
 abbrev pub end_after : Script → List (List ℕ) → Option Script
-end_after script (name ∷ []) = do
-  attr ← attribute_place script name
+end_after script words = do
+  attr ← closing_of script.attributes words
   if has_room script && nat_lt 0 (open_now script)
       then Some (record script { threads = add_line (End attr) script.threads }) else None
-end_after script _ = None
 
 -- `snapshot`
 abbrev pub snapshot_after : Script → List (List ℕ) → Option Script
 snapshot_after script [] =
     if has_room script then Some (record script { threads = add_line Snapshot script.threads }) else None
-snapshot_after script _ = None
+snapshot_after script (word ∷ words) = None
 
 -- a line by its first word
 abbrev pub words_after : Script → List (List ℕ) → Option Script

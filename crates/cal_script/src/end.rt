@@ -1,3 +1,7 @@
+ghost use Rattle.cal_script.specs.declared.end.ScriptEnd.TheVariants as script_ends;
+ghost use Rattle.cal_script.specs.declared.end.LineEnd.TheVariants as line_ends;
+ghost use Rattle.std.specs.Prelude.{◌≡◌};
+
 use crate::ScriptKind;
 use cal_value::OutOfMemory;
 use thiserror::Error;
@@ -13,7 +17,27 @@ pub enum ScriptEnd {
 }
 
 impl From<OutOfMemory> for ScriptEnd {
+    ghost from_gives = { λ _ end. end ≡ script_ends.OutOfMemory };
+
     fn from(_error: OutOfMemory) -> ScriptEnd {
         ScriptEnd::OutOfMemory
     }
 }
+
+/// Why a line adds nothing to a script.
+#[derive(Clone, Copy, Debug, PartialEq, Eq)]
+pub(crate) enum LineEnd {
+    Bad(ScriptKind),
+    OutOfMemory,
+}
+
+impl From<OutOfMemory> for LineEnd {
+    ghost from_gives = { λ _ end. end ≡ line_ends.OutOfMemory };
+
+    fn from(_error: OutOfMemory) -> LineEnd {
+        LineEnd::OutOfMemory
+    }
+}
+
+/// A line that may not stand where it does.
+pub(crate) const BAD: LineEnd = LineEnd::Bad(ScriptKind::NotYet);

@@ -1,5 +1,5 @@
-ghost use Rattle.std.specs.Prelude.{◌≡◌};
-ghost use Rattle.cal_script.specs.Kinds.{script_kind_name};
+ghost use Rattle.std.specs.Prelude.{◌≡◌, Some};
+ghost use Rattle.cal_script.specs.Kinds.{kind_name};
 
 use std::fmt;
 
@@ -13,7 +13,7 @@ pub enum ScriptKind {
 impl ScriptKind {
     /// Its name, as a fault's text has it.
     pub fn name(self) -> &'static str
-        ensures { result.now ≡ script_kind_name self }
+        ensures { result.now ≡ kind_name self }
     {
         match self {
             ScriptKind::NotYet => "NotYet",
@@ -22,6 +22,8 @@ impl ScriptKind {
 }
 
 impl fmt::Display for ScriptKind {
+    ghost output = { λ kind. Some (kind_name kind) };
+
     fn fmt<W: fmt::Write>(&self, f: &mut fmt::Formatter<W>) -> fmt::Result {
         f.write_str(self.name())
     }

@@ -7,11 +7,18 @@
 #![tactic(auto)]
 
 mod end;
+mod faults;
 mod kind;
+mod names;
+mod parts;
+mod reader;
 mod reading;
 mod script;
+mod value;
+mod words;
 
 pub use end::ScriptEnd;
+pub use faults::first_fault_law;
 pub use kind::ScriptKind;
 pub use reading::read_script;
 pub use script::{Channel, Line, Script};

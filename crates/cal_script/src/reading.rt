@@ -1,9 +1,13 @@
-ghost use Rattle.std.specs.Prelude.{◌≡◌, Some, IfOk, IfErr};
+ghost use Rattle.std.specs.Prelude.{◌≡◌, ◌∷◌, ◌<◌, length, Some, IfOk, IfErr};
+ghost use Rattle.cal_script.specs.Lines.{lines_of};
 ghost use Rattle.cal_script.specs.Reading.{meaning};
 ghost use Rattle.cal_script.specs.Faults.{IsRefusalOf};
 ghost use Rattle.cal_script.specs.Shape.{IsScript};
 
+use crate::end::LineEnd;
+use crate::reader::Reader;
 use crate::{Script, ScriptEnd};
+use memchr::memchr;
 use std::alloc::Global;
 
 /// The script that the bytes say. It takes time in their number.
@@ -12,7 +16,29 @@ pub fn read_script(alloc: Global, bytes: &[u8]) -> Result<Script, ScriptEnd>
     ensures shape { IfOk result (λ script. IsScript script) }
     ensures fault { IfErr result (λ end. IsRefusalOf bytes.now end) }
 {
-    let _ = alloc;
-    let _ = bytes;
-    Err(ScriptEnd::OutOfMemory)
+    let mut reader = Reader::new(alloc);
+    let mut rest = bytes;
+    let mut line = 0;
+    while !rest.is_empty() {
+        let (text, after) = next_line(rest);
+        line += 1;
+        match reader.read_line(alloc, text) {
+            Ok(()) => {}
+            Err(LineEnd::Bad(kind)) => return Err(ScriptEnd::BadLine { line, kind }),
+            Err(LineEnd::OutOfMemory) => return Err(ScriptEnd::OutOfMemory),
+        }
+        rest = after;
+    }
+    Ok(reader.into_script(alloc)?)
+}
+
+fn next_line(bytes: &[u8]) -> (&[u8], &[u8])
+    requires { 0 < length bytes.now }
+    ensures lines { lines_of bytes.now ≡ result.0.now ∷ lines_of result.1.now }
+    ensures shorter { length result.1.now < length bytes.now }
+{
+    match memchr(b'\n', bytes) {
+        Some(end) => (&bytes[..end], &bytes[end + 1..]),
+        None => (bytes, &[]),
+    }
 }

@@ -1,6 +1,6 @@
 -- What a fault is told as (ours).
 use Rattle.std.specs.Prelude.{ℕ, ◌+◌, List, [], ◌++◌, Option, Some, None, codes, decimal}
-use Rattle.cal_script.specs.Kinds.{script_kind_name}
+use Rattle.cal_script.specs.Kinds.{kind_name}
 use Rattle.caliper.specs.declared.fault.Fault as faults
 use Rattle.caliper.specs.declared.fault.Fault.TheVariants as fault
 use Rattle.caliper.specs.declared.fault.InputKind.{InputKind}
@@ -8,7 +8,7 @@ use Rattle.caliper.specs.declared.fault.InputKind.TheVariants.{Script}
 
 -- the name of what is wrong with an input
 abbrev pub input_kind_name : InputKind → List ℕ
-input_kind_name (Script kind) = script_kind_name kind
+input_kind_name (Script kind) = kind_name kind
 
 -- what a fault is told as: a place among the words counts from 1 there
 abbrev pub message_of : faults.Fault → List ℕ

@@ -1,0 +1,5 @@
+pub mod Cuts
+pub mod Spelling
+pub mod Threads
+pub mod Inputs
+pub mod Runs
