@@ -66,7 +66,12 @@ pub fn read_all<S: Source>(alloc: Global, input: &mut S, limit: u64) -> Result<V
 }
 
 /// The same, through a buffer.
-fn take_all<S: Source>(alloc: Global, input: &mut S, limit: u64, buffer: &mut [u8]) -> Result<Vec<u8>, ReadEnd>
+fn take_all<S: Source>(
+    alloc: Global,
+    input: &mut S,
+    limit: u64,
+    buffer: &mut [u8],
+) -> Result<Vec<u8>, ReadEnd>
     requires { 0 < length buffer.old }
     ensures ok { IfOk result (λ bytes. Takes (S.left input.old) (S.left input.new) bytes.items) }
     ensures end { OnOk result (IsAtEnd (S.left input.new)) }

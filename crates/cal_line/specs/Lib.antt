@@ -1,1 +1,4 @@
 pub mod Escapes
+pub mod Spelling
+pub mod Fields
+pub mod Reading

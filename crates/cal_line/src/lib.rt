@@ -5,5 +5,10 @@
 #![tactic(auto)]
 
 mod escaping;
+mod field;
+mod field_end;
+mod piece;
 
 pub use escaping::escape;
+pub use field::Field;
+pub use field_end::FieldEnd;
