@@ -5,3 +5,4 @@ pub mod ExactOrder
 pub mod Order
 pub mod OrderLaws
 pub mod Flat
+pub mod Props

@@ -1,7 +1,8 @@
-ghost use Rattle.std.specs.Prelude.{◌≡◌, ◌↔◌, IsTrue, refl};
+ghost use Rattle.std.specs.Prelude.{◌≡◌, ◌≢◌, ◌↔◌, IfNone, IfSome, IsTrue, refl};
 ghost use Rattle.std.specs.Cmp.{partial_order_from_total};
 ghost use Rattle.std.specs.Ordering.{as_partial_cmp, eq_by_cmp};
-ghost use Rattle.cal_value.specs.Kinds.{kind_name, kind_node};
+ghost use Rattle.cal_value.specs.Kinds.{kind_name, kind_named, kind_node};
+ghost use Rattle.cal_value.specs.declared.kind.Kind.{Kind};
 ghost use Rattle.cal_value.specs.Order.{kind_cmp};
 ghost use Rattle.cal_value.specs.OrderLaws.{kind_exact};
 ghost use Rattle.cal_value.specs.ExactOrder.{exact_per, exact_equiv, exact_alike};
@@ -56,6 +57,26 @@ impl Kind {
             Kind::Bool => "bool",
             Kind::TypeName => "type",
             Kind::Ptr => "ptr",
+        }
+    }
+
+    /// The kind of this name, in the very letters.
+    pub fn from_name(name: &str) -> Option<Kind>
+        ensures value { result ≡ kind_named name.now }
+        ensures named { IfSome result (λ kind. kind_name kind ≡ name.now) }
+        ensures none { IfNone result ((kind : Kind) → kind_name kind ≢ name.now) }
+    {
+        match name {
+            "usr" => Some(Kind::Usr),
+            "int" => Some(Kind::Int),
+            "uint" => Some(Kind::Uint),
+            "string" => Some(Kind::Str),
+            "addr" => Some(Kind::Addr),
+            "double" => Some(Kind::Double),
+            "bool" => Some(Kind::Bool),
+            "type" => Some(Kind::TypeName),
+            "ptr" => Some(Kind::Ptr),
+            _ => None,
         }
     }
 }
