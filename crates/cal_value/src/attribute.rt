@@ -1,11 +1,13 @@
-ghost use Rattle.std.specs.Prelude.{◌≡◌, ◌↔◌, IsTrue};
-ghost use Rattle.std.specs.Ordering.{eq_by_cmp};
+ghost use Rattle.std.specs.Prelude.{◌≡◌, ◌↔◌, IsTrue, refl};
+ghost use Rattle.std.specs.Cmp.{partial_order_from_total};
+ghost use Rattle.std.specs.Ordering.{as_partial_cmp, eq_by_cmp};
 ghost use Rattle.cal_value.specs.Order.{attribute_cmp, entry_cmp};
 ghost use Rattle.cal_value.specs.OrderLaws.{attribute_exact, entry_exact};
 ghost use Rattle.cal_value.specs.ExactOrder.{exact_per, exact_equiv, exact_alike};
 
 use crate::{Kind, OutOfMemory, Props, Text, TryCopy, Variant};
 use std::alloc::Global;
+use std::cmp::Ordering;
 
 /// An attribute: two with equal name, kind and properties are the same one (Caliper's data model).
 #[derive(Debug, Drop, Hash)]
@@ -83,4 +85,58 @@ impl Hash for Attribute {
 #[derived]
 impl Hash for Entry {
     ghost respects_eq = { exact_alike entry_exact _ };
+}
+
+impl PartialOrd for Attribute {
+    ghost partial_cmp = { as_partial_cmp attribute_cmp };
+
+    ghost laws = { partial_order_from_total attribute_exact.total };
+
+    fn partial_cmp(&self, other: &Attribute) -> Option<Ordering> {
+        Some(self.cmp(other))
+    }
+}
+
+impl Ord for Attribute {
+    ghost cmp = { attribute_cmp };
+
+    ghost total = { attribute_exact.total };
+
+    ghost matches_partial_cmp = { λ _ _. refl };
+
+    ghost matches_eq = { λ _ _. refl };
+
+    fn cmp(&self, other: &Attribute) -> Ordering {
+        self.name.cmp(&other.name).then_with(|| {
+            self.kind
+                .cmp(&other.kind)
+                .then_with(|| self.props.cmp(&other.props))
+        })
+    }
+}
+
+impl PartialOrd for Entry {
+    ghost partial_cmp = { as_partial_cmp entry_cmp };
+
+    ghost laws = { partial_order_from_total entry_exact.total };
+
+    fn partial_cmp(&self, other: &Entry) -> Option<Ordering> {
+        Some(self.cmp(other))
+    }
+}
+
+impl Ord for Entry {
+    ghost cmp = { entry_cmp };
+
+    ghost total = { entry_exact.total };
+
+    ghost matches_partial_cmp = { λ _ _. refl };
+
+    ghost matches_eq = { λ _ _. refl };
+
+    fn cmp(&self, other: &Entry) -> Ordering {
+        self.attr
+            .cmp(&other.attr)
+            .then_with(|| self.value.cmp(&other.value))
+    }
 }

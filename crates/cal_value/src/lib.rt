@@ -7,21 +7,29 @@
 
 mod attribute;
 mod copying;
+mod digits;
 mod exact;
+mod flat;
 mod kind;
+mod laws;
 mod memory;
+mod parse;
 mod print;
 mod props;
 mod record;
 mod seq;
 mod text;
 mod variant;
+mod variant_order;
 
 pub use attribute::{Attribute, Entry};
 pub use copying::TryCopy;
 pub use exact::{Exact, same};
+pub use flat::Flat;
 pub use kind::Kind;
+pub use laws::{order_is_exact, printed_reads_back};
 pub use memory::OutOfMemory;
+pub use parse::{ValueFault, parse_value};
 pub use print::print_value;
 pub use props::Props;
 pub use record::{Rec, Records};
