@@ -1,4 +1,4 @@
-use Rattle.std.proofs.Common.{◌≡◌, ◌≢◌, ℕ, ◌+◌, ◌<◌, ◌≤◌, ◌⊎◌, inl, inr, List, ◌++◌, length, length-append, Option, Some, None, Result, Ok, Err, IsOk, IfSome, refl, ap, arith}
+use Rattle.std.proofs.Common.{◌≡◌, ◌≢◌, ℕ, ◌+◌, ◌<◌, ◌≤◌, ◌⊎◌, inl, inr, List, ◌++◌, length, length-append, Option, Some, None, IsSome, IsNone, Result, Ok, Err, IsOk, IfSome, refl, ap, arith}
 use Rattle.std.specs.Option.{IsSomeAnd}
 use Rattle.std.specs.Result.{result_err}
 use Rattle.cal_base.specs.Told.{TakesOver}
@@ -7,7 +7,9 @@ use Rattle.caliper.specs.Faults.{status_of}
 use Rattle.caliper.specs.declared.fault.Fault as faults
 use Rattle.caliper.specs.declared.fault.Fault.TheVariants as fault
 use Rattle.caliper.specs.declared.fault.InputKind.{InputKind}
-use Rattle.caliper.proofs.FirstFault.{faulty_without_meaning}
+use Rattle.cal_script.specs.Lines.{lines_of}
+use Rattle.cal_script.specs.Reading.{reading}
+use Rattle.cal_script.proofs.Runs.{none_from_fault}
 
 -- 2, 5, 7 and 8 aren't among 0, 3 and 6
 none_of_three : (status : ℕ) → status ≢ 0 → status ≢ 3 → status ≢ 6 → TellsOfScript status → ⊥
@@ -32,10 +34,13 @@ only_memory fault.WriteFault usage input read write long = absurd (write refl)
 only_memory fault.TooLong usage input read write long = absurd (long refl)
 only_memory fault.OutOfMemory usage input read write long = inr refl
 
+not_both : {A : Type 0} (o : Option A) → IsNone o → IsSome o → ⊥
+not_both o none some = cc
+
 -- a valid input has no first fault
 pub valid_without_fault : (line : ℕ) (kind : InputKind) (left : Option (List ℕ)) → IsSomeAnd left IsValidInput → IfSome left (IsInputFault line kind) → ⊥
 valid_without_fault line kind None valid faulty = valid
-valid_without_fault line kind (Some bytes) valid faulty = faulty_without_meaning bytes line faulty.0 valid.1
+valid_without_fault line kind (Some bytes) valid faulty = not_both (reading (lines_of bytes)) (none_from_fault (lines_of bytes) line faulty.0) valid.1
 
 -- a valid input isn't too long
 pub valid_within : (old new : Option (List ℕ)) → IsSomeAnd old IsValidInput → TakesOver input_limit old new → ⊥
