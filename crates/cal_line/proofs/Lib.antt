@@ -1,2 +1,4 @@
 pub mod PieceSteps
 pub mod LineSteps
+pub mod Exits
+pub mod Grammar

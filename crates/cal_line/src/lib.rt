@@ -8,7 +8,9 @@ mod escaping;
 mod field;
 mod field_end;
 mod piece;
+mod splitting;
 
 pub use escaping::escape;
 pub use field::Field;
 pub use field_end::FieldEnd;
+pub use splitting::split_fields;
