@@ -1,4 +1,4 @@
-ghost use Rattle.std.specs.Prelude.{◌≡◌, ◌==◌, [], ◌++◌, length, IfOk, OnOk, OnErr, string_bytes, encode_utf8};
+ghost use Rattle.std.specs.Prelude.{◌≡◌, ◌==◌, [], ◌++◌, length, IfOk, OnOk, OnErr, string_bytes, encode_utf8, take, IsUtf8};
 
 use crate::{OutOfMemory, TryCopy};
 use std::alloc::Global;
@@ -86,6 +86,14 @@ impl Text {
     {
         self.string.push(character)?;
         Ok(())
+    }
+
+    /// Cuts all behind the first `place` bytes, where these are a text.
+    pub fn truncate(&mut self, place: usize)
+        requires { IsUtf8 (take place self.old) }
+        ensures { self.new ≡ take place self.old }
+    {
+        self.string.truncate(place);
     }
 }
 
