@@ -82,10 +82,10 @@ rest_of-fields field (next ∷ fields) line whole =
 field_of-pieces : (bytes : List ℕ) (field : Field) → IsField bytes field → field_of (pieces_of field) ≡ Some field
 field_of-pieces bytes field whole = go field.key field.values whole.key whole.values
   where
-  go : (key : List ℕ) (values : List (List ℕ)) → key ≢ [] → values ≢ [] → field_of (key ∷ values) ≡ Some (record { key = key; values = values })
-  go [] values k v = absurd (k refl)
-  go (b ∷ key) [] k v = absurd (v refl)
-  go (b ∷ key) (value ∷ values) k v = refl
+    go : (key : List ℕ) (values : List (List ℕ)) → key ≢ [] → values ≢ [] → field_of (key ∷ values) ≡ Some (record { key = key; values = values })
+    go [] values k v = absurd (k refl)
+    go (b ∷ key) [] k v = absurd (v refl)
+    go (b ∷ key) (value ∷ values) k v = refl
 
 all_fields-pieces : (field : Field) (fields : List Field) (line : List ℕ) → IsFields line (field ∷ fields) → all_fields (map pieces_of (field ∷ fields)) ≡ Some (field ∷ fields)
 all_fields-pieces field [] line whole =
@@ -104,12 +104,12 @@ fields_of-IsFields line (field ∷ fields) whole =
 Separated-front : {X : Type 0} (separator : ℕ) (IsPart : List ℕ → X → Type 0) (start : List ℕ) (x y : X) (xs : List X) (bytes : List ℕ) → ((front : List ℕ) → IsPart front x → IsPart (start ++ front) y) → Separated separator IsPart bytes (x ∷ xs) → Separated separator IsPart (start ++ bytes) (y ∷ xs)
 Separated-front separator IsPart start x y [] bytes grows whole = grows bytes whole
 Separated-front separator IsPart start x y (z ∷ xs) bytes grows whole = (
-      start ++ whole.0,
-      whole.1,
-      ap (λ bs. start ++ bs) whole.2 ∙ sym (append_assoc start whole.0 (separator ∷ whole.1)),
-      grows whole.0 whole.3,
-      whole.4,
-    )
+  start ++ whole.0,
+  whole.1,
+  ap (λ bs. start ++ bs) whole.2 ∙ sym (append_assoc start whole.0 (separator ∷ whole.1)),
+  grows whole.0 whole.3,
+  whole.4,
+)
 
 -- The bytes are spelled pieces with the separators between them.
 abbrev pub IsGrid : List ℕ → LineRest → Type 0
@@ -125,14 +125,14 @@ IsGrid-taken : (c : ℕ) (bytes : List ℕ) (rest : LineRest) → IsGrid bytes r
 IsGrid-taken c bytes rest whole =
     IsGrid-front (92 ∷ c ∷ []) (taken_for c ∷ rest.piece) bytes rest (λ front spelled. grows front spelled (eqb c 110) refl) whole
   where
-  grows : (front : List ℕ) → IsPiece front rest.piece → (is_n : Bool) → eqb c 110 ≡ is_n → IsPiece (92 ∷ c ∷ front) (taken_for c ∷ rest.piece)
-  grows front spelled true e =
-      let letter : 110 ≡ c = sym (eqb-true c 110 e) in
-      let made : taken_for c ≡ 10 = ap (λ is_n. cond is_n 10 c) e in
-      subst (λ b. IsPiece (92 ∷ b ∷ front) (taken_for c ∷ rest.piece)) letter (subst (λ b. IsPiece (92 ∷ 110 ∷ front) (b ∷ rest.piece)) (sym made) (newline spelled))
-  grows front spelled false e =
-      let made : taken_for c ≡ c = ap (λ is_n. cond is_n 10 c) e in
-      subst (λ b. IsPiece (92 ∷ c ∷ front) (b ∷ rest.piece)) (sym made) (taken (eqb-false c 110 e) spelled)
+    grows : (front : List ℕ) → IsPiece front rest.piece → (is_n : Bool) → eqb c 110 ≡ is_n → IsPiece (92 ∷ c ∷ front) (taken_for c ∷ rest.piece)
+    grows front spelled true e =
+        let letter : 110 ≡ c = sym (eqb-true c 110 e) in
+        let made : taken_for c ≡ 10 = ap (λ is_n. cond is_n 10 c) e in
+        subst (λ b. IsPiece (92 ∷ b ∷ front) (taken_for c ∷ rest.piece)) letter (subst (λ b. IsPiece (92 ∷ 110 ∷ front) (b ∷ rest.piece)) (sym made) (newline spelled))
+    grows front spelled false e =
+        let made : taken_for c ≡ c = ap (λ is_n. cond is_n 10 c) e in
+        subst (λ b. IsPiece (92 ∷ c ∷ front) (b ∷ rest.piece)) (sym made) (taken (eqb-false c 110 e) spelled)
 
 IsGrid-comma : (bytes : List ℕ) (rest : LineRest) → IsGrid bytes rest → IsGrid (44 ∷ bytes) (put_comma rest)
 IsGrid-comma bytes rest whole = ([], bytes, refl, nothing, whole)
@@ -150,15 +150,15 @@ IsGrid-plain b bytes rest plain whole =
 IsGrid-byte : (b : ℕ) (bytes : List ℕ) (rest : LineRest) → eqb b 92 ≡ false → IsGrid bytes rest → IsGrid (b ∷ bytes) (put_byte b rest)
 IsGrid-byte b bytes rest plain whole = go (eqb b 44) refl (eqb b 61) refl
   where
-  go : (p : Bool) → eqb b 44 ≡ p → (q : Bool) → eqb b 61 ≡ q → IsGrid (b ∷ bytes) (put_byte b rest)
-  go true comma q e =
-      subst (λ c. IsGrid (c ∷ bytes) (put_byte c rest)) (sym (eqb-true b 44 comma)) (IsGrid-comma bytes rest whole)
-  go false comma true equals =
-      subst (λ c. IsGrid (c ∷ bytes) (put_byte c rest)) (sym (eqb-true b 61 equals)) (IsGrid-equals bytes rest whole)
-  go false comma false equals =
-      let is : put_byte b rest ≡ put_character b rest = simp (comma, equals) in
-      let alone : is_plain true b ≡ true = simp (plain, comma, equals) in
-      subst (λ r. IsGrid (b ∷ bytes) r) (sym is) (IsGrid-plain b bytes rest alone whole)
+    go : (p : Bool) → eqb b 44 ≡ p → (q : Bool) → eqb b 61 ≡ q → IsGrid (b ∷ bytes) (put_byte b rest)
+    go true comma q e =
+        subst (λ c. IsGrid (c ∷ bytes) (put_byte c rest)) (sym (eqb-true b 44 comma)) (IsGrid-comma bytes rest whole)
+    go false comma true equals =
+        subst (λ c. IsGrid (c ∷ bytes) (put_byte c rest)) (sym (eqb-true b 61 equals)) (IsGrid-equals bytes rest whole)
+    go false comma false equals =
+        let is : put_byte b rest ≡ put_character b rest = simp (comma, equals) in
+        let alone : is_plain true b ≡ true = simp (plain, comma, equals) in
+        subst (λ r. IsGrid (b ∷ bytes) r) (sym is) (IsGrid-plain b bytes rest alone whole)
 
 -- what is read is spelled so
 abbrev ReadsGrid : List ℕ → Option LineRest → Type 0
@@ -219,14 +219,14 @@ IsFields-grid pieces (next ∷ grid) bytes fields spelled made =
     subst (IsFields bytes) (sym parts.4)
     (joined parts.0 parts.1 bytes spelled.0 spelled.1 spelled.2 (IsField-pieces spelled.0 pieces parts.0 spelled.3 parts.2) (IsFields-grid next grid spelled.1 parts.1 spelled.4 parts.3))
   where
-  joined : (field : Field) (more : List Field) (bytes front rest : List ℕ) → bytes ≡ front ++ 44 ∷ rest → IsField front field → IsFields rest more → IsFields bytes (field ∷ more)
-  joined field [] bytes front rest cut first others = absurd others
-  joined field (second ∷ more) bytes front rest cut first others = (front, rest, cut, first, others)
+    joined : (field : Field) (more : List Field) (bytes front rest : List ℕ) → bytes ≡ front ++ 44 ∷ rest → IsField front field → IsFields rest more → IsFields bytes (field ∷ more)
+    joined field [] bytes front rest cut first others = absurd others
+    joined field (second ∷ more) bytes front rest cut first others = (front, rest, cut, first, others)
 
 -- what is read is a list of fields
 pub IsFields-fields_of : (line : List ℕ) (fields : List Field) → fields_of line ≡ Some fields → IsFields line fields
 IsFields-fields_of line fields made = go (rest_of line) (ReadsGrid-rest_of line) made
   where
-  go : (rest : Option LineRest) → ReadsGrid line rest → option_and_then fields_in rest ≡ Some fields → IsFields line fields
-  go None whole made = absurd (cc)
-  go (Some rest) whole made = IsFields-grid (rest.piece ∷ rest.pieces) rest.fields line fields whole made
+    go : (rest : Option LineRest) → ReadsGrid line rest → option_and_then fields_in rest ≡ Some fields → IsFields line fields
+    go None whole made = absurd (cc)
+    go (Some rest) whole made = IsFields-grid (rest.piece ∷ rest.pieces) rest.fields line fields whole made

@@ -49,19 +49,19 @@ set_piece-put_byte : (b : ℕ) (rest : Option LineRest) → separates true b ≡
 set_piece-put_byte b None apart = refl
 set_piece-put_byte b (Some rest) apart = ap Some (by_cases b rest (eqb b 44) (eqb b 61) apart)
   where
-  by_cases : (b : ℕ) (rest : LineRest) (p q : Bool) → (p || q) ≡ true → cond p (put_comma rest) (cond q (put_equals rest) (put_character b rest)) ≡ set_piece [] (cond p (put_comma rest) (cond q (put_equals rest) (put_character b rest)))
-  by_cases b rest true q h = refl
-  by_cases b rest false true h = refl
-  by_cases b rest false false h = absurd (cc)
+    by_cases : (b : ℕ) (rest : LineRest) (p q : Bool) → (p || q) ≡ true → cond p (put_comma rest) (cond q (put_equals rest) (put_character b rest)) ≡ set_piece [] (cond p (put_comma rest) (cond q (put_equals rest) (put_character b rest)))
+    by_cases b rest true q h = refl
+    by_cases b rest false true h = refl
+    by_cases b rest false false h = absurd (cc)
 
 -- a character before a piece
 after_piece-put_front : (b : ℕ) (piece : Option (List ℕ × List ℕ)) → option_map (put_character b) (after_piece piece) ≡ after_piece (option_map (put_front b) piece)
 after_piece-put_front b None = refl
 after_piece-put_front b (Some piece) = go (rest_of piece.1)
   where
-  go : (rest : Option LineRest) → option_map (put_character b) (option_map (set_piece piece.0) rest) ≡ option_map (set_piece (b ∷ piece.0)) rest
-  go None = refl
-  go (Some rest) = refl
+    go : (rest : Option LineRest) → option_map (put_character b) (option_map (set_piece piece.0) rest) ≡ option_map (set_piece (b ∷ piece.0)) rest
+    go None = refl
+    go (Some rest) = refl
 
 pub option_map-put_byte : (b : ℕ) (rest : Option LineRest) → separates true b ≡ false → option_map (put_byte b) rest ≡ option_map (put_character b) rest
 option_map-put_byte b None apart = refl
@@ -134,9 +134,9 @@ pub ReadsField-values : (line key : List ℕ) (values : List (List ℕ)) (start 
 ReadsField-values line key values start middle place first then =
     record { read = first.read ∙ ap (option_map (set_field key [])) then.read ∙ go (rest_of (drop place line)) }
   where
-  go : (rest : Option LineRest) → option_map (set_field key []) (option_map (set_field [] values) rest) ≡ option_map (set_field key values) rest
-  go None = refl
-  go (Some rest) = refl
+    go : (rest : Option LineRest) → option_map (set_field key []) (option_map (set_field [] values) rest) ≡ option_map (set_field key values) rest
+    go None = refl
+    go (Some rest) = refl
 
 -- a value more
 value_more : (key value : List ℕ) (values : List (List ℕ)) (rest : Option LineRest) → option_map (set_field key values) (option_map put_equals (option_map (set_piece value) rest)) ≡ option_map (set_field key (values ++ value ∷ [])) rest
@@ -157,8 +157,8 @@ pub ReadsField-more : (line key value : List ℕ) (values : List (List ℕ)) (st
 ReadsField-more line key value values start place next so_far within equals piece =
     record {
       read = so_far.read
-        ∙ ap (option_map (set_field key values)) (rest_of-equals line place within equals ∙ ap (option_map put_equals) (rest_of-piece (drop (place + 1) line) ∙ ap after_piece piece))
-        ∙ value_more key value values (rest_of (drop next line));
+          ∙ ap (option_map (set_field key values)) (rest_of-equals line place within equals ∙ ap (option_map put_equals) (rest_of-piece (drop (place + 1) line) ∙ ap after_piece piece))
+          ∙ value_more key value values (rest_of (drop next line));
     }
 
 -- a lone backslash in a value leaves nothing
@@ -181,12 +181,13 @@ pub fields_of-no_key : (line : List ℕ) (start place : ℕ) → ReadsField line
 fields_of-no_key line start place so_far =
     ap (option_and_then fields_in) so_far.read ∙ go (rest_of (drop place line))
   where
-  no_key : (rest : LineRest) (pieces : List (List ℕ)) → all_fields (([] ∷ pieces) ∷ rest.fields) ≡ None
-  no_key rest [] = refl
-  no_key rest (piece ∷ pieces) = refl
-  go : (rest : Option LineRest) → option_and_then fields_in (option_map (set_field [] []) rest) ≡ None
-  go None = refl
-  go (Some rest) = no_key rest rest.pieces
+    no_key : (rest : LineRest) (pieces : List (List ℕ)) → all_fields (([] ∷ pieces) ∷ rest.fields) ≡ None
+    no_key rest [] = refl
+    no_key rest (piece ∷ pieces) = refl
+
+    go : (rest : Option LineRest) → option_and_then fields_in (option_map (set_field [] []) rest) ≡ None
+    go None = refl
+    go (Some rest) = no_key rest rest.pieces
 
 -- the field ends here: the line does, or a comma follows
 pub data EndsField (line : List ℕ) (place : ℕ) : Type 0 where
@@ -204,31 +205,32 @@ set_field-end line key values place (comma within sign) =
     let e = rest_of-comma line place within sign in
     ap (option_map (set_field key values)) e ∙ go (rest_of (drop (place + 1) line)) ∙ ap (option_map (put_field key values)) (sym e)
   where
-  go : (rest : Option LineRest) → option_map (set_field key values) (option_map put_comma rest) ≡ option_map (put_field key values) (option_map put_comma rest)
-  go None = refl
-  go (Some rest) = ap (λ pieces. Some (record { piece = key; pieces = pieces; fields = (rest.piece ∷ rest.pieces) ∷ rest.fields })) (append-nil values)
+    go : (rest : Option LineRest) → option_map (set_field key values) (option_map put_comma rest) ≡ option_map (put_field key values) (option_map put_comma rest)
+    go None = refl
+    go (Some rest) = ap (λ pieces. Some (record { piece = key; pieces = pieces; fields = (rest.piece ∷ rest.pieces) ∷ rest.fields })) (append-nil values)
 
 -- a key without a value leaves no fields
 pub fields_of-no_value : (line key : List ℕ) (start place : ℕ) → ReadsField line start key [] place → EndsField line place → fields_of (drop start line) ≡ None
 fields_of-no_value line key start place so_far ends =
     ap (option_and_then fields_in) (so_far.read ∙ set_field-end line key [] place ends) ∙ go (rest_of (drop place line))
   where
-  go : (rest : Option LineRest) → option_and_then fields_in (option_map (put_field key []) rest) ≡ None
-  go None = refl
-  go (Some rest) = refl
+    go : (rest : Option LineRest) → option_and_then fields_in (option_map (put_field key []) rest) ≡ None
+    go None = refl
+    go (Some rest) = refl
 
 -- a whole field, and the further ones
 pub fields_of-field : (line key : List ℕ) (values : List (List ℕ)) (start place : ℕ) → ReadsField line start key values place → EndsField line place → key ≢ [] → values ≢ [] → fields_of (drop start line) ≡ option_map (with_field (record { key = key; values = values })) (further_fields (drop place line))
 fields_of-field line key values start place so_far ends some_key some_value =
     ap (option_and_then fields_in) (so_far.read ∙ set_field-end line key values place ends) ∙ go (rest_of (drop place line))
   where
-  field : (key : List ℕ) (values : List (List ℕ)) → key ≢ [] → values ≢ [] → field_of (key ∷ values) ≡ Some (record { key = key; values = values })
-  field [] values k v = absurd (k refl)
-  field (b ∷ key) [] k v = absurd (v refl)
-  field (b ∷ key) (value ∷ values) k v = refl
-  go : (rest : Option LineRest) → option_and_then fields_in (option_map (put_field key values) rest) ≡ option_map (with_field (record { key = key; values = values })) (option_and_then further_in rest)
-  go None = refl
-  go (Some rest) = ap (option_and_then (λ field. option_map (with_field field) (all_fields rest.fields))) (field key values some_key some_value)
+    field : (key : List ℕ) (values : List (List ℕ)) → key ≢ [] → values ≢ [] → field_of (key ∷ values) ≡ Some (record { key = key; values = values })
+    field [] values k v = absurd (k refl)
+    field (b ∷ key) [] k v = absurd (v refl)
+    field (b ∷ key) (value ∷ values) k v = refl
+
+    go : (rest : Option LineRest) → option_and_then fields_in (option_map (put_field key values) rest) ≡ option_map (with_field (record { key = key; values = values })) (option_and_then further_in rest)
+    go None = refl
+    go (Some rest) = ap (option_and_then (λ field. option_map (with_field field) (all_fields rest.fields))) (field key values some_key some_value)
 
 -- what follows the last field, and what follows a comma
 pub further_fields-end : (line : List ℕ) (place : ℕ) → length line ≤ place → further_fields (drop place line) ≡ Some []
@@ -238,9 +240,9 @@ pub further_fields-comma : (line : List ℕ) (place : ℕ) → place < length li
 further_fields-comma line place within sign =
     ap (option_and_then further_in) (rest_of-comma line place within sign) ∙ go (rest_of (drop (place + 1) line))
   where
-  go : (rest : Option LineRest) → option_and_then further_in (option_map put_comma rest) ≡ option_and_then fields_in rest
-  go None = refl
-  go (Some rest) = refl
+    go : (rest : Option LineRest) → option_and_then further_in (option_map put_comma rest) ≡ option_and_then fields_in rest
+    go None = refl
+    go (Some rest) = refl
 
 -- an empty list
 pub empty-from_length : {X : Type 0} (xs : List X) → eqb (length xs) 0 ≡ true → xs ≡ []
@@ -269,13 +271,13 @@ pub ReadsFields-more : (line : List ℕ) (fields : List Field) (field : Field) (
 ReadsFields-more line fields field place next so_far within sign more =
     record {
       read = so_far.read
-        ∙ ap (option_map (λ further. fields ++ further)) (further_fields-comma line place within sign ∙ more)
-        ∙ go (further_fields (drop next line));
+          ∙ ap (option_map (λ further. fields ++ further)) (further_fields-comma line place within sign ∙ more)
+          ∙ go (further_fields (drop next line));
     }
   where
-  go : (further : Option (List Field)) → option_map (λ further. fields ++ further) (option_map (with_field field) further) ≡ option_map (λ further. (fields ++ field ∷ []) ++ further) further
-  go None = refl
-  go (Some further) = ap Some (sym (append_assoc fields (field ∷ []) further))
+    go : (further : Option (List Field)) → option_map (λ further. fields ++ further) (option_map (with_field field) further) ≡ option_map (λ further. (fields ++ field ∷ []) ++ further) further
+    go None = refl
+    go (Some further) = ap Some (sym (append_assoc fields (field ∷ []) further))
 
 -- a further field that isn't one
 pub fields_of-bad_field : (line : List ℕ) (fields : List Field) (place : ℕ) → ReadsFields line fields place → place < length line → get_or line place 0 ≡ 44 → fields_of (drop (place + 1) line) ≡ None → fields_of line ≡ None
