@@ -47,10 +47,10 @@ Reads-plain in_line line text start run place so_far order within plain apart =
     let rest = piece_at in_line (drop (place + 1) line) in
     record {
       read = so_far.read
-        ∙ ap (λ bs. option_map (with_text (text ++ between run place line)) (piece_at in_line bs)) (drop_more line place 0 within)
-        ∙ ap (option_map (with_text (text ++ between run place line))) (piece_at-plain in_line b (drop (place + 1) line) plain apart)
-        ∙ with_text-put_front (text ++ between run place line) b rest
-        ∙ ap (λ front. option_map (with_text front) rest) (append_assoc text (between run place line) (b ∷ []) ∙ ap (λ more. text ++ more) (sym (between_more line run place 0 order within)));
+          ∙ ap (λ bs. option_map (with_text (text ++ between run place line)) (piece_at in_line bs)) (drop_more line place 0 within)
+          ∙ ap (option_map (with_text (text ++ between run place line))) (piece_at-plain in_line b (drop (place + 1) line) plain apart)
+          ∙ with_text-put_front (text ++ between run place line) b rest
+          ∙ ap (λ front. option_map (with_text front) rest) (append_assoc text (between run place line) (b ∷ []) ∙ ap (λ more. text ++ more) (sym (between_more line run place 0 order within)));
     }
 
 -- a backslash takes the next character, and the run before it goes into the text
@@ -70,12 +70,12 @@ Reads-newline in_line line text next start run place so_far within backslash let
     let two : place + 1 + 1 ≡ place + 2 = omega arith in
     let empty : between (place + 2) (place + 2) line ≡ [] = ap (λ n. take n (drop (place + 2) line)) none in
     let texts : front ++ taken_for (get_or line (place + 1) 0) ∷ [] ≡ next ++ between (place + 2) (place + 2) line =
-        ap (λ b. front ++ taken_for b ∷ []) letter ∙ sym is ∙ sym (append-nil next) ∙ ap (λ more. next ++ more) (sym empty)
+    ap (λ b. front ++ taken_for b ∷ []) letter ∙ sym is ∙ sym (append-nil next) ∙ ap (λ more. next ++ more) (sym empty)
     in
     record {
       read = read-taken in_line line text start run place so_far within backslash
-        ∙ ap (λ t. option_map (with_text t) (piece_at in_line (drop (place + 1 + 1) line))) texts
-        ∙ ap (λ n. option_map (with_text (next ++ between (place + 2) (place + 2) line)) (piece_at in_line (drop n line))) two;
+          ∙ ap (λ t. option_map (with_text t) (piece_at in_line (drop (place + 1 + 1) line))) texts
+          ∙ ap (λ n. option_map (with_text (next ++ between (place + 2) (place + 2) line)) (piece_at in_line (drop n line))) two;
     }
 
 -- any other character that is taken begins a run
@@ -87,15 +87,15 @@ Reads-taken in_line line text next start run place so_far within backslash lette
     let single : place + 2 - (place + 1) ≡ 1 = omega arith in
     let two : place + 1 + 1 ≡ place + 2 = omega arith in
     let one : between (place + 1) (place + 2) line ≡ b ∷ [] =
-        ap (λ n. take n (drop (place + 1) line)) single ∙ ap (take 1) (drop_more line (place + 1) 0 within)
+    ap (λ n. take n (drop (place + 1) line)) single ∙ ap (take 1) (drop_more line (place + 1) 0 within)
     in
     let texts : front ++ taken_for b ∷ [] ≡ next ++ between (place + 1) (place + 2) line =
-        ap (λ c. front ++ c ∷ []) same ∙ ap (λ whole. whole ++ b ∷ []) (sym is) ∙ ap (λ more. next ++ more) (sym one)
+    ap (λ c. front ++ c ∷ []) same ∙ ap (λ whole. whole ++ b ∷ []) (sym is) ∙ ap (λ more. next ++ more) (sym one)
     in
     record {
       read = read-taken in_line line text start run place so_far within backslash
-        ∙ ap (λ t. option_map (with_text t) (piece_at in_line (drop (place + 1 + 1) line))) texts
-        ∙ ap (λ n. option_map (with_text (next ++ between (place + 1) (place + 2) line)) (piece_at in_line (drop n line))) two;
+          ∙ ap (λ t. option_map (with_text t) (piece_at in_line (drop (place + 1 + 1) line))) texts
+          ∙ ap (λ n. option_map (with_text (next ++ between (place + 1) (place + 2) line)) (piece_at in_line (drop n line))) two;
     }
 
 -- where the piece ends, it is read

@@ -2,3 +2,4 @@ pub mod Escapes
 pub mod Spelling
 pub mod Fields
 pub mod Reading
+pub mod WrittenFields

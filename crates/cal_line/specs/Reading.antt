@@ -1,4 +1,4 @@
-use Rattle.std.specs.Prelude.{ℕ, Bool, true, ◌==◌, List, [], ◌∷◌, Option, None, Some, if◌then◌else◌}
+use Rattle.std.specs.Prelude.{ℕ, Bool, true, ◌==◌, List, [], ◌∷◌, ◌++◌, Option, None, Some, if◌then◌else◌}
 use Rattle.std.specs.Option.{option_map, option_and_then}
 use Rattle.cal_line.specs.Spelling.{separates}
 use Rattle.cal_line.specs.declared.field.Field.{Field}
@@ -52,6 +52,10 @@ rest_of (b ∷ []) = if b == 92 then None else Some (put_byte b at_end)
 rest_of (b ∷ c ∷ bs) =
     if b == 92 then option_map (put_character (taken_for c)) (rest_of bs) else option_map (put_byte b) (rest_of (c ∷ bs))
 
+-- the rest of a line with this text for the piece at hand, and these pieces behind it
+abbrev pub set_field : List ℕ → List (List ℕ) → LineRest → LineRest
+set_field key values rest = record { piece = key; pieces = values ++ rest.pieces; fields = rest.fields }
+
 -- the field of these pieces: a key, which isn't empty, and one or more values
 abbrev pub field_of : List (List ℕ) → Option Field
 field_of [] = None
@@ -68,10 +72,17 @@ all_fields [] = Some []
 all_fields (pieces ∷ more) =
     option_and_then (λ field. option_map (with_field field) (all_fields more)) (field_of pieces)
 
+-- the fields that the rest of a line holds, and those behind the field at hand
+abbrev pub fields_in : LineRest → Option (List Field)
+fields_in rest = all_fields ((rest.piece ∷ rest.pieces) ∷ rest.fields)
+
+abbrev pub further_in : LineRest → Option (List Field)
+further_in rest = all_fields rest.fields
+
 -- the fields of a line, where it has them
 abbrev pub fields_of : List ℕ → Option (List Field)
-fields_of line = option_and_then (λ rest. all_fields ((rest.piece ∷ rest.pieces) ∷ rest.fields)) (rest_of line)
+fields_of line = option_and_then fields_in (rest_of line)
 
--- the fields behind the one that ends here
+-- the fields behind the one that ends before these bytes
 abbrev pub further_fields : List ℕ → Option (List Field)
-further_fields bytes = option_and_then (λ rest. all_fields rest.fields) (rest_of bytes)
+further_fields bytes = option_and_then further_in (rest_of bytes)

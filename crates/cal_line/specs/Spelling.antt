@@ -1,4 +1,4 @@
-use Rattle.std.specs.Prelude.{◌≡◌, ◌≢◌, ℕ, Bool, true, not, ◌==◌, ◌||◌, ◌&&◌, List, [], ◌∷◌}
+use Rattle.std.specs.Prelude.{◌≡◌, ◌≢◌, ℕ, Bool, true, false, not, ◌==◌, ◌||◌, ◌&&◌, List, [], ◌∷◌}
 
 -- A comma and an equals sign separate, where the bytes stand in a line (the `.cali` format).
 abbrev pub separates : Bool → ℕ → Bool
@@ -16,3 +16,7 @@ pub data SpellsIn (in_line : Bool) : List ℕ → List ℕ → Type 0 where
   itself : {b : ℕ} {bytes text : List ℕ} → is_plain in_line b ≡ true → SpellsIn in_line bytes text → SpellsIn in_line (b ∷ bytes) (b ∷ text)
   newline : {bytes text : List ℕ} → SpellsIn in_line bytes text → SpellsIn in_line (92 ∷ 110 ∷ bytes) (10 ∷ text)
   taken : {b : ℕ} {bytes text : List ℕ} → b ≢ 110 → SpellsIn in_line bytes text → SpellsIn in_line (92 ∷ b ∷ bytes) (b ∷ text)
+
+-- the bytes spell the text, by themselves
+abbrev pub Spells : List ℕ → List ℕ → Type 0
+Spells = SpellsIn false

@@ -7,8 +7,17 @@
 mod escaping;
 mod field;
 mod field_end;
+mod laws;
 mod piece;
+mod splitting;
+mod unescaping;
 
 pub use escaping::escape;
 pub use field::Field;
 pub use field_end::FieldEnd;
+pub use laws::{escaped_spells_the_text, one_list_of_fields, one_text, written_fields_are_read};
+pub use splitting::split_fields;
+pub use unescaping::unescape;
+
+#[cfg(test)]
+mod tests;

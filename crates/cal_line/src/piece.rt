@@ -9,7 +9,12 @@ use std::alloc::Global;
 
 /// Reads the piece that begins at `start`, and answers the text that it spells, and where it ends: at the end,
 /// or, in a line, at a separator that no backslash takes.
-pub(crate) fn read_piece(alloc: Global, line: &str, start: usize, in_line: bool) -> Result<(Text, usize), FieldEnd>
+pub(crate) fn read_piece(
+    alloc: Global,
+    line: &str,
+    start: usize,
+    in_line: bool,
+) -> Result<(Text, usize), FieldEnd>
     requires { IsCharBoundary line.now start }
     ensures found { IfOk result (λ piece. piece_at in_line (drop start line.now) ≡ Some (piece.0, drop piece.1 line.now)) }
     ensures place { IfOk result (λ piece. (start ≤ piece.1) × (piece.1 ≤ length line.now)) }

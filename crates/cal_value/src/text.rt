@@ -1,4 +1,4 @@
-ghost use Rattle.std.specs.Prelude.{◌≡◌, ◌==◌, ◌↔◌, [], ◌++◌, length, IfOk, IsTrue, OnOk, OnErr, string_bytes, encode_utf8, refl};
+ghost use Rattle.std.specs.Prelude.{◌≡◌, ◌==◌, ◌↔◌, [], ◌++◌, length, take, IfOk, IsTrue, IsUtf8, OnOk, OnErr, string_bytes, encode_utf8, refl};
 ghost use Rattle.std.specs.Hash as fed;
 ghost use Rattle.std.specs.Cmp.{partial_order_from_total};
 ghost use Rattle.std.specs.Ordering.{as_partial_cmp, eq_by_cmp};
@@ -98,6 +98,14 @@ impl Text {
     {
         self.string.push(character)?;
         Ok(())
+    }
+
+    /// Cuts all behind the first `place` bytes, where these are a text.
+    pub fn truncate(&mut self, place: usize)
+        requires { IsUtf8 (take place self.old) }
+        ensures { self.new ≡ take place self.old }
+    {
+        self.string.truncate(place);
     }
 }
 
