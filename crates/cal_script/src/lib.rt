@@ -22,3 +22,6 @@ pub use faults::first_fault_law;
 pub use kind::ScriptKind;
 pub use reading::read_script;
 pub use script::{Channel, Line, Script};
+
+#[cfg(test)]
+mod tests;

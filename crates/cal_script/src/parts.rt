@@ -29,10 +29,7 @@ pub(crate) fn attribute_of(alloc: Global, rest: Option<&str>) -> Result<Attribut
     if let Some(_) = rest {
         return Err(BAD);
     }
-    if !is_attribute_name(name) {
-        return Err(BAD);
-    }
-    if kind != "string" || props != "276" {
+    if !is_attribute_name(name) || kind != "string" || props != "276" {
         return Err(BAD);
     }
     Ok(Attribute {
@@ -102,6 +99,6 @@ pub(crate) fn closing_of(attributes: &[Attribute], rest: Option<&str>) -> Result
     if let Some(_) = rest {
         return Err(BAD);
     }
-    let attr = attribute_place(attributes, name).ok_or(BAD)?;
-    Ok(attr as u32)
+    let place = attribute_place(attributes, name).ok_or(BAD)?;
+    Ok(place as u32)
 }

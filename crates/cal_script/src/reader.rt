@@ -119,10 +119,7 @@ impl Reader {
         ensures kept { OnOk result (IsReading self.new) }
     {
         let channel = channel_of(alloc, rest)?;
-        if self.attributes.len() != 1 {
-            return Err(BAD);
-        }
-        if !self.channels.is_empty() {
+        if self.attributes.len() != 1 || !self.channels.is_empty() {
             return Err(BAD);
         }
         self.channels.push(channel)?;
@@ -138,10 +135,7 @@ impl Reader {
         if let Some(_) = rest {
             return Err(BAD);
         }
-        if self.channels.len() != 1 {
-            return Err(BAD);
-        }
-        if self.in_thread {
+        if self.channels.len() != 1 || self.in_thread {
             return Err(BAD);
         }
         self.in_thread = true;
@@ -160,10 +154,7 @@ impl Reader {
         ensures kept { OnOk result (IsReading self.new) }
     {
         let (attr, text) = opening_of(alloc, self.attributes.as_slice(), rest)?;
-        if !self.has_room() {
-            return Err(BAD);
-        }
-        if self.depth >= MOST_OPEN {
+        if !self.has_room() || self.depth >= MOST_OPEN {
             return Err(BAD);
         }
         let value = self.values.len() as u32;
@@ -179,10 +170,7 @@ impl Reader {
         ensures kept { OnOk result (IsReading self.new) }
     {
         let attr = closing_of(self.attributes.as_slice(), rest)?;
-        if !self.has_room() {
-            return Err(BAD);
-        }
-        if self.depth == 0 {
+        if !self.has_room() || self.depth == 0 {
             return Err(BAD);
         }
         self.lines.push(Line::End { attr })?;

@@ -18,7 +18,7 @@ pub fn read_script(alloc: Global, bytes: &[u8]) -> Result<Script, ScriptEnd>
 {
     let mut reader = Reader::new(alloc);
     let mut rest = bytes;
-    let mut line = 0;
+    let mut line: u64 = 0;
     while !rest.is_empty() {
         let (text, after) = next_line(rest);
         line += 1;

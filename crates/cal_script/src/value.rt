@@ -2,8 +2,7 @@ ghost use Rattle.std.specs.Prelude.{◌≡◌};
 ghost use Rattle.cal_script.specs.Values.{escaped_byte, spelled_text};
 ghost use Rattle.cal_script.specs.Steps.{Gives};
 
-use crate::ScriptKind;
-use crate::end::LineEnd;
+use crate::end::{BAD, LineEnd};
 use cal_value::Text;
 use memchr::memchr;
 use std::alloc::Global;
@@ -40,7 +39,7 @@ fn unescaped(alloc: Global, value: &str) -> Result<Text, LineEnd>
         }
     }
     if behind_backslash {
-        return Err(LineEnd::Bad(ScriptKind::NotYet));
+        return Err(BAD);
     }
     Ok(text)
 }
