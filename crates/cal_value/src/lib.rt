@@ -18,6 +18,8 @@ mod print;
 mod props;
 mod record;
 mod seq;
+#[cfg(test)]
+mod tests;
 mod text;
 mod variant;
 mod variant_order;
