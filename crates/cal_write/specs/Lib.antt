@@ -1,4 +1,3 @@
-pub mod Same
 pub mod Nodes
 pub mod CanonicalText
 pub mod Written
