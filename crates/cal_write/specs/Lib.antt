@@ -1,3 +1,7 @@
 pub mod Nodes
 pub mod CanonicalText
 pub mod Written
+pub mod Places
+pub mod Added
+pub mod Table
+pub mod Board

@@ -1,0 +1,129 @@
+ghost use Rattle.std.specs.Prelude.{◌≡◌, ◌∷◌, [], IfOk, IfSome, IfNone, OnOk, OnErr};
+ghost use Rattle.cal_write.specs.Places.{node_at, IsPlace, KnowsAttribute};
+ghost use Rattle.cal_write.specs.Added.{AddsNode};
+
+use cal_value::{Attribute, Entry, OutOfMemory, TryCopy};
+use indexmap::{IndexMap, IndexSet};
+use std::alloc::Global;
+use std::collections::HashMap;
+use std::marker::Model;
+
+/// A node by numbers: its parent's place, and the place of its entry.
+#[derive(Clone, Copy, Debug, PartialEq, Eq, Hash)]
+pub(crate) struct NodeKey {
+    parent: Option<usize>,
+    entry: usize,
+}
+
+/// Where a node is, whether it is new, and where its attribute's node is.
+#[derive(Clone, Copy, Debug)]
+pub(crate) struct Added {
+    pub(crate) place: usize,
+    pub(crate) fresh: bool,
+    pub(crate) attribute: usize,
+}
+
+/// Nodes in the order in which they were added, each once. Each entry is kept once, beside the place of its
+/// attribute's node.
+#[derive(Drop)]
+pub(crate) struct Nodes {
+    entries: IndexMap<Entry, usize>,
+    attributes: HashMap<Attribute, usize>,
+    keys: IndexSet<NodeKey>,
+}
+
+impl Model for Nodes {
+    ghost use Rattle.std.specs.Prelude.{List};
+    ghost use Rattle.cal_write.specs.Nodes.{Node};
+
+    ghost Value = { List Node };
+
+    ghost use Rattle.cal_write.specs.Board.{known_nodes, IsKept};
+
+    ghost view = { known_nodes };
+
+    ghost invariant = { IsKept };
+}
+
+impl Nodes {
+    /// No node yet.
+    pub(crate) fn new(alloc: Global) -> Nodes
+        ensures { result ≡ [] }
+    {
+        Nodes {
+            entries: IndexMap::new(alloc),
+            attributes: HashMap::new(alloc),
+            keys: IndexSet::new(alloc),
+        }
+    }
+
+    /// The place of an attribute's node, if the attribute is known.
+    pub(crate) fn attribute(&self, attribute: &Attribute) -> Option<usize>
+        ensures { IfSome result (λ place. KnowsAttribute self.now attribute.now place) }
+    {
+        let _ = &self.keys;
+        self.attributes.get(attribute).copied()
+    }
+
+    #[tactic(none)]
+    /// Notes the place of an attribute's node.
+    pub(crate) fn know(&mut self, attribute: Attribute, place: usize) -> Result<(), OutOfMemory>
+        requires { KnowsAttribute self.old attribute place }
+        ensures { self.new ≡ self.old }
+    {
+        self.attributes.insert(attribute, place)?;
+        Ok(())
+    }
+
+    #[tactic(none)]
+    /// Adds the node of an entry that is known. `None` where the entry isn't, and then nothing is added.
+    pub(crate) fn add_known(
+        &mut self,
+        parent: Option<usize>,
+        entry: &Entry,
+    ) -> Result<Option<Added>, OutOfMemory>
+        requires { IsPlace self.old parent }
+        ensures known { IfOk result (λ o. IfSome o (AddsNode self.old self.new entry.now.attr (entry.now ∷ node_at self.old parent))) }
+        ensures unknown { IfOk result (λ o. IfNone o (self.new ≡ self.old)) }
+    {
+        let Some((place, _, attribute)) = self.entries.get_full(entry) else {
+            return Ok(None);
+        };
+        let attribute = *attribute;
+        let key = NodeKey {
+            parent,
+            entry: place,
+        };
+        let (place, fresh) = self.keys.insert_full(key)?;
+        Ok(Some(Added {
+            place,
+            fresh,
+            attribute,
+        }))
+    }
+
+    #[tactic(none)]
+    /// Adds the node of an entry, whose attribute's node is at this place.
+    pub(crate) fn add(
+        &mut self,
+        parent: Option<usize>,
+        entry: Entry,
+        attribute: usize,
+    ) -> Result<Added, OutOfMemory>
+        requires parent { IsPlace self.old parent }
+        requires attribute { KnowsAttribute self.old entry.attr attribute }
+        ensures { IfOk result (AddsNode self.old self.new entry.attr (entry ∷ node_at self.old parent)) }
+    {
+        let (place, _) = self.entries.insert_full(entry, attribute)?;
+        let key = NodeKey {
+            parent,
+            entry: place,
+        };
+        let (place, fresh) = self.keys.insert_full(key)?;
+        Ok(Added {
+            place,
+            fresh,
+            attribute,
+        })
+    }
+}
