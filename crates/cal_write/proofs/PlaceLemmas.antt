@@ -65,6 +65,25 @@ module _ {X : Type 0} (p : X → Bool) where
       rest true e = absurd (true≢false e)
       rest false e = e
 
+module _ {X : Type 0} (p : X → Bool) where
+  -- where no element passes, the place is the length
+  pub position-none : (xs : List X) → list_any p xs ≡ false → position_or_len p xs ≡ length xs
+  position-none [] h = refl
+  position-none (x ∷ xs) h = by (p x) h (position-none xs)
+    where
+      by : (b : Bool) → (b || list_any p xs) ≡ false → (list_any p xs ≡ false → position_or_len p xs ≡ length xs) → cond (not b) (1 + position_or_len p xs) 0 ≡ length (x ∷ xs)
+      by true e more = absurd (true≢false e)
+      by false e more = omega (arith, more e)
+
+  -- and one that passes stands there, put last
+  pub position-push : (xs : List X) (y : X) → list_any p xs ≡ false → p y ≡ true → position_or_len p (xs ++ y ∷ []) ≡ length xs
+  position-push [] y h passes = rw passes refl
+  position-push (x ∷ xs) y h passes = by (p x) h (λ e. position-push xs y e passes)
+    where
+      by : (b : Bool) → (b || list_any p xs) ≡ false → (list_any p xs ≡ false → position_or_len p (xs ++ y ∷ []) ≡ length xs) → cond (not b) (1 + position_or_len p (xs ++ y ∷ [])) 0 ≡ length (x ∷ xs)
+      by true e more = absurd (true≢false e)
+      by false e more = omega (arith, more e)
+
 -- ---- nodes and their places, as more come
 
 -- the new nodes are the old ones, and more

@@ -2,6 +2,7 @@ use Rattle.std.specs.Prelude.{◌≡◌, ℕ, ◌<◌, List, [], ◌∷◌, ◌+
 use Rattle.std.specs.declared.hash.FoldHasher.{FoldHasher}
 use Rattle.std.specs.declared.hash.BuildHasherDefault.{BuildHasherDefault}
 use Rattle.std.specs.HashMap.{HashMap, get}
+use Rattle.std.specs.HashSet.{HashSet}
 use Rattle.std.specs.Ordering.{eq_by_cmp}
 use Rattle.cal_value.specs.Order.{attribute_cmp, entry_cmp}
 use Rattle.cal_value.specs.declared.attribute.Attribute.{Attribute}
@@ -56,3 +57,7 @@ KnowsAttributes m ns = (a : Attribute) (place : ℕ) → get (eq_by_cmp attribut
 -- the attribute of each entry of the map is known at its place
 abbrev pub KnowsEntries : EntryPlaces → List Node → Type 0
 KnowsEntries m ns = (e : Entry) (place : ℕ) → get (eq_by_cmp entry_cmp) m e ≡ Some place → KnowsAttribute ns e.attr place
+
+-- the keys of the nodes
+abbrev pub KeySet : Type 0
+KeySet = HashSet NodeKey (BuildHasherDefault FoldHasher)

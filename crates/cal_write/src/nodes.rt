@@ -65,7 +65,6 @@ impl Nodes {
         self.attributes.get(attribute).copied()
     }
 
-    #[tactic(none)]
     /// Notes the place of an attribute's node.
     pub(crate) fn know(&mut self, attribute: Attribute, place: usize) -> Result<(), OutOfMemory>
         requires { KnowsAttribute self.old attribute place }
@@ -75,7 +74,6 @@ impl Nodes {
         Ok(())
     }
 
-    #[tactic(none)]
     /// Adds the node of an entry that is known. `None` where the entry isn't, and then nothing is added.
     pub(crate) fn add_known(
         &mut self,
@@ -102,7 +100,6 @@ impl Nodes {
         }))
     }
 
-    #[tactic(none)]
     /// Adds the node of an entry, whose attribute's node is at this place.
     pub(crate) fn add(
         &mut self,
