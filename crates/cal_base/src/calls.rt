@@ -1,0 +1,49 @@
+ghost use Rattle.std.specs.Prelude.{◌≡◌, ◌<◌, ◌^◌, ◌↔◌, IsErr, Contains, is_ok, if◌then◌else◌};
+ghost use Rattle.cal_base.specs.Faults.{HasCause, counted_on};
+
+use crate::Failed;
+use cal_value::Seq;
+
+/// Counts calls and faults, and knows which calls are to fail.
+#[derive(Debug, Drop)]
+pub(crate) struct Calls {
+    pub(crate) failing: Seq<u64>,
+    pub(crate) made: u64,
+    pub(crate) faults: u64,
+}
+
+impl Calls {
+    /// No call was made yet.
+    pub(crate) fn new(failing: Seq<u64>) -> Self
+        ensures { result ≡ record { failing = failing; made = 0; faults = 0 } }
+    {
+        Calls {
+            failing,
+            made: 0,
+            faults: 0,
+        }
+    }
+
+    /// Counts a call. It fails where its number is listed, and then counts a fault.
+    pub(crate) fn begin(&mut self) -> Result<(), Failed>
+        ensures listed { IsErr result ↔ Contains self.old.failing (counted_on self.old.made) }
+        ensures failing { self.new.failing ≡ self.old.failing }
+        ensures made { self.new.made ≡ counted_on self.old.made }
+        ensures faults { self.new.faults ≡ (if is_ok result then self.old.faults else counted_on self.old.faults) }
+        ensures cause { HasCause self.old.faults self.new.faults result }
+    {
+        self.made = self.made.saturating_add(1);
+        let listed = self.failing.as_slice().contains(&self.made);
+        self.faults = self.faults.saturating_add(u64::from(listed));
+        if listed { Err(Failed) } else { Ok(()) }
+    }
+
+    /// Counts a fault.
+    pub(crate) fn fail(&mut self) -> Failed
+        ensures counted { self.new ≡ record self.old { faults = counted_on self.old.faults } }
+        ensures within { self.new.faults < 2 ^ 64 }
+    {
+        self.faults = self.faults.saturating_add(1);
+        Failed
+    }
+}

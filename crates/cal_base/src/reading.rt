@@ -1,0 +1,96 @@
+ghost use Rattle.std.specs.Prelude.{◌≡◌, ◌<◌, ◌≤◌, IfOk, IfSome, OnOk, IsErr, IsErrOf, length, vec_len};
+ghost use Rattle.std.specs.Io.KnownBytes.{IsAtEnd};
+ghost use Rattle.cal_base.specs.Faults.{Rose};
+ghost use Rattle.cal_base.specs.Told.{Takes, TakesUpTo, TakesOver};
+
+use crate::{Failed, Source};
+use std::alloc::{AllocError, Global};
+use thiserror::Error;
+
+/// Why a source wasn't read to its end.
+#[derive(Clone, Copy, Debug, PartialEq, Eq, Error)]
+pub enum ReadEnd {
+    #[error("a read failed")]
+    ReadFault,
+    #[error("the input is too long")]
+    TooLong,
+    #[error("out of memory")]
+    OutOfMemory,
+}
+
+impl From<Failed> for ReadEnd {
+    ghost use Rattle.std.specs.Prelude.{◌≡◌};
+    ghost use Rattle.cal_base.specs.declared.reading.ReadEnd.TheVariants.{ReadFault};
+
+    ghost from_gives = { λ _ e. e ≡ ReadFault };
+
+    fn from(_failed: Failed) -> ReadEnd {
+        ReadEnd::ReadFault
+    }
+}
+
+impl From<AllocError> for ReadEnd {
+    ghost use Rattle.std.specs.Prelude.{◌≡◌};
+    ghost use Rattle.cal_base.specs.declared.reading.ReadEnd.TheVariants.{OutOfMemory};
+
+    ghost from_gives = { λ _ e. e ≡ OutOfMemory };
+
+    fn from(_error: AllocError) -> ReadEnd {
+        ReadEnd::OutOfMemory
+    }
+}
+
+/// How many bytes are asked for at once.
+const PIECE: usize = 65_536;
+
+/// Gives all that is left, where that is at most `limit` bytes. Time and memory are in the bytes' number, and
+/// 64 KiB beside them.
+pub fn read_all<S: Source>(alloc: Global, input: &mut S, limit: u64) -> Result<Vec<u8>, ReadEnd>
+    // All that was left, to the end.
+    ensures ok { IfOk result (λ bytes. Takes (S.left input.old) (S.left input.new) bytes.items) }
+    ensures end { OnOk result (IsAtEnd (S.left input.new)) }
+    ensures within { IfOk result (λ bytes. vec_len bytes ≤ limit) }
+
+    // What a refusal says, and how much was taken then.
+    ensures fault { IsErrOf result ReadEnd.ReadFault → Rose (S.faults input.old) (S.faults input.new) }
+    ensures fault_taken { IsErrOf result ReadEnd.ReadFault → TakesUpTo limit (S.left input.old) (S.left input.new) }
+    ensures too_long { IsErrOf result ReadEnd.TooLong → TakesOver limit (S.left input.old) (S.left input.new) }
+    ensures memory_taken { IsErrOf result ReadEnd.OutOfMemory → TakesUpTo limit (S.left input.old) (S.left input.new) }
+
+    // More than the limit is never given.
+    ensures over { IfSome (S.left input.old) (λ left. limit < length left → IsErr result) }
+    ensures later { S.faults input.old ≤ S.faults input.new }
+{
+    let mut buffer = vec![in alloc; 0u8; PIECE]?;
+    take_all(alloc, input, limit, buffer.as_mut_slice())
+}
+
+/// The same, through a buffer.
+fn take_all<S: Source>(
+    alloc: Global,
+    input: &mut S,
+    limit: u64,
+    buffer: &mut [u8],
+) -> Result<Vec<u8>, ReadEnd>
+    requires { 0 < length buffer.old }
+    ensures ok { IfOk result (λ bytes. Takes (S.left input.old) (S.left input.new) bytes.items) }
+    ensures end { OnOk result (IsAtEnd (S.left input.new)) }
+    ensures within { IfOk result (λ bytes. vec_len bytes ≤ limit) }
+    ensures fault { IsErrOf result ReadEnd.ReadFault → Rose (S.faults input.old) (S.faults input.new) }
+    ensures fault_taken { IsErrOf result ReadEnd.ReadFault → TakesUpTo limit (S.left input.old) (S.left input.new) }
+    ensures too_long { IsErrOf result ReadEnd.TooLong → TakesOver limit (S.left input.old) (S.left input.new) }
+    ensures memory_taken { IsErrOf result ReadEnd.OutOfMemory → TakesUpTo limit (S.left input.old) (S.left input.new) }
+    ensures later { S.faults input.old ≤ S.faults input.new }
+{
+    let mut taken = Vec::new(alloc);
+    loop {
+        let count = input.read(buffer)?;
+        if count == 0 {
+            return Ok(taken);
+        }
+        if count as u64 > limit - taken.len() as u64 {
+            return Err(ReadEnd::TooLong);
+        }
+        taken.extend_from_slice(&buffer[..count])?;
+    }
+}

@@ -1,0 +1,68 @@
+ghost use Rattle.std.specs.Prelude.{◌≡◌, ℕ, ◌<◌, List, None, length, take};
+ghost use Rattle.std.specs.Io.{ReadsAtMost};
+ghost use Rattle.std.specs.Io.KnownBytes.{ReadConsumes};
+ghost use Rattle.cal_base.specs.Faults.{HasCause, counted_on};
+
+use crate::{Failed, Source};
+use std::io::{ErrorKind, Read};
+
+/// A source over a reader of std. It counts a fault at each `Err`, and tells nothing of the bytes left.
+#[derive(Drop)]
+pub struct StdSource<R> {
+    reader: R,
+    faults: u64,
+}
+
+impl<R: Read + Drop> StdSource<R> {
+    ghost use Rattle.cal_base.specs.Standard.{reader_of};
+
+    /// A source over this reader, without a fault.
+    pub fn new(reader: R) -> Self
+        ensures { reader_of result ≡ reader }
+    {
+        StdSource { reader, faults: 0 }
+    }
+}
+
+impl<R: Read + Drop> Source for StdSource<R> {
+    ghost use Rattle.std.specs.Prelude.{◌≡◌, ℕ, ◌<◌, List, None, length, take};
+    ghost use Rattle.std.specs.Io.{ReadsAtMost};
+    ghost use Rattle.std.specs.Io.KnownBytes.{ReadConsumes};
+    ghost use Rattle.cal_base.specs.Faults.{HasCause};
+    ghost use Rattle.cal_base.specs.Standard.{reader_of};
+
+    ghost left = { λ _. None };
+
+    ghost faults = { λ s. s.faults };
+
+    fn read(&mut self, buf: &mut [u8]) -> Result<usize, Failed>
+        requires { 0 < length buf.old }
+        ensures bound { ReadsAtMost result buf.new }
+        ensures cause { HasCause self.old.faults self.new.faults result }
+
+        // What the reader tells of its bytes holds here too.
+        ensures told { ReadConsumes (R.remaining (reader_of self.old)) (R.remaining (reader_of self.new)) result buf.new }
+    {
+        let result = read_retrying(&mut self.reader, buf);
+        self.faults = self.faults.saturating_add(u64::from(result.is_err()));
+        result
+    }
+}
+
+/// One read, tried again where a signal interrupts it, and at most 2^64 - 1 times.
+fn read_retrying<R: Read>(reader: &mut R, buf: &mut [u8]) -> Result<usize, Failed>
+    ensures bound { ReadsAtMost result buf.new }
+    ensures told { ReadConsumes (R.remaining reader.old) (R.remaining reader.new) result buf.new }
+{
+    for _ in 0..u64::MAX {
+        match reader.read(buf) {
+            Ok(count) => return Ok(count),
+            Err(error) => {
+                if error.kind() != ErrorKind::Interrupted {
+                    return Err(Failed);
+                }
+            }
+        }
+    }
+    Err(Failed)
+}
