@@ -1,3 +1,5 @@
 pub mod PlaceLemmas
 pub mod TableLemmas
 pub mod BoardLemmas
+pub mod EscapeLemmas
+pub mod LineLemmas

@@ -5,3 +5,4 @@ pub mod Places
 pub mod Added
 pub mod Table
 pub mod Board
+pub mod Lines
