@@ -1,5 +1,6 @@
 use Rattle.std.proofs.Common.{◌≡◌, ℕ, ◌<◌, Bool, not, List, ◌∷◌, length, get_or, Some, Option, subst, sym, ap, ◌∙◌, slice_index_or}
 use Rattle.std.specs.HashMap.{keys, Updates}
+use Rattle.std.specs.Option.{ForSome}
 use Rattle.std.specs.Map.{keys_of}
 use Rattle.std.specs.List.{list_any, position_or_len}
 use Rattle.std.specs.Ordering.{eq_by_cmp}
@@ -30,12 +31,12 @@ module _ (t : Inside) (kept : IsKept t) where
   }
 
   -- an entry that is put in, with the place of its attribute's node, leaves the nodes
-  pub kept-enter : (m : EntryPlaces) (e : Entry) (place : ℕ) → KnowsAttribute (known_nodes t) e.attr place → m.entries ≡ insert_entry (eq_by_cmp entry_cmp) t.entries.entries e place
+  pub kept-enter : (m : EntryPlaces) (e : Entry) (place : Option ℕ) → ForSome place (KnowsAttribute (known_nodes t) e.attr) → m.entries ≡ insert_entry (eq_by_cmp entry_cmp) t.entries.entries e place
       → Updates (eq_by_cmp entry_cmp) t.entries m e (Some place) → IsKept (record t { entries = m }) × (nodes_of (keys m) t.keys.keys ≡ known_nodes t)
   kept-enter m e place known put updates =
       let grown : keys m ≡ insert_key (eq_by_cmp entry_cmp) (keys t.entries) e = ap keys_of put ∙ keys-insert_entry entry_exact t.entries.entries e place in
       let entry = kept-entry kept.table e (keys m) grown in
-      let all = holds-updated entry_exact (λ d. KnowsAttribute (known_nodes t) d.attr) t.entries m e place kept.entries known updates in
+      let all = holds-updated entry_exact (λ d o. ForSome o (KnowsAttribute (known_nodes t) d.attr)) t.entries m e place kept.entries known updates in
       let P : List Node → Type 0 = λ ns. KnowsAttributes t.attributes ns × KnowsEntries m ns in
       let moved = subst P (sym entry.1) (kept.attributes, all) in
       (record { table = entry.0; attributes = moved.0; entries = moved.1 }, entry.1)
@@ -52,8 +53,8 @@ module _ (t : Inside) (kept : IsKept t) where
 
   -- and it is the node of its entry, below its parent
   pub adds-node : (s : KeySet) (k : NodeKey) (is : IsKey (keys t.entries) (known_nodes t) k) → s.keys ≡ insert_key key_eq t.keys.keys k → (e : Entry) → slice_index_or (keys t.entries) k.entry no_entry ≡ e
-      → (added : Added) → KnowsAttribute (known_nodes t) e.attr added.attribute → added.place ≡ position_or_len (key_eq k) t.keys.keys → added.fresh ≡ not (list_any (key_eq k) t.keys.keys)
-      → AddsNode (known_nodes t) (nodes_of (keys t.entries) s.keys) e.attr (e ∷ node_at (known_nodes t) k.parent) added
-  adds-node s k is put e at added known place fresh =
-      let P : Entry → Type 0 = λ x. AddsNode (known_nodes t) (nodes_of (keys t.entries) s.keys) e.attr (x ∷ node_at (known_nodes t) k.parent) added in
-      subst P at (added-key kept.table k is key_eq key_decides s.keys put e.attr added.attribute added.place added.fresh known place fresh)
+      → (added : Added) → added.place ≡ position_or_len (key_eq k) t.keys.keys → added.fresh ≡ not (list_any (key_eq k) t.keys.keys)
+      → AddsNode (known_nodes t) (nodes_of (keys t.entries) s.keys) (e ∷ node_at (known_nodes t) k.parent) added
+  adds-node s k is put e at added place fresh =
+      let P : Entry → Type 0 = λ x. AddsNode (known_nodes t) (nodes_of (keys t.entries) s.keys) (x ∷ node_at (known_nodes t) k.parent) added in
+      subst P at (added-key kept.table k is key_eq key_decides s.keys put added.place added.fresh place fresh)

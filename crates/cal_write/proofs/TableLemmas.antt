@@ -213,9 +213,9 @@ module _ {es : List Entry} {ks : List NodeKey} (t : IsTable es ks (nodes_of es k
 
 module _ {K : Type 0} {R : K → K → Ordering} (o : IsExactOrder R) where
   -- what holds of each key and place of a map, and of one more, holds after that one is put in
-  pub holds-updated : {S : Type 0} (P : K → ℕ → Type 0) (old new : HashMap K ℕ S) (k : K) (place : ℕ)
-      → ((q : K) (i : ℕ) → get (eq_by_cmp R) old q ≡ Some i → P q i) → P k place → Updates (eq_by_cmp R) old new k (Some place)
-      → (q : K) (i : ℕ) → get (eq_by_cmp R) new q ≡ Some i → P q i
+  pub holds-updated : {V S : Type 0} (P : K → V → Type 0) (old new : HashMap K V S) (k : K) (place : V)
+      → ((q : K) (i : V) → get (eq_by_cmp R) old q ≡ Some i → P q i) → P k place → Updates (eq_by_cmp R) old new k (Some place)
+      → (q : K) (i : V) → get (eq_by_cmp R) new q ≡ Some i → P q i
   holds-updated P old new k place all one u q i h = by (eq_by_cmp R k q) (exact_decides o k q).0 (sym (u.0 q) ∙ h)
     where
       by : (b : Bool) → (b ≡ true → k ≡ q) → cond b (Some place) (get (eq_by_cmp R) old q) ≡ Some i → P q i
@@ -223,7 +223,7 @@ module _ {K : Type 0} {R : K → K → Ordering} (o : IsExactOrder R) where
       by false same e = all q i e
 
   -- a map's keys after one is put in: they stay, or it goes last
-  pub keys-insert_entry : (es : List (K × ℕ)) (k : K) (place : ℕ) → keys_of (insert_entry (eq_by_cmp R) es k place) ≡ insert_key (eq_by_cmp R) (keys_of es) k
+  pub keys-insert_entry : {V : Type 0} (es : List (K × V)) (k : K) (place : V) → keys_of (insert_entry (eq_by_cmp R) es k place) ≡ insert_key (eq_by_cmp R) (keys_of es) k
   keys-insert_entry [] k place = refl
   keys-insert_entry (e ∷ es) k place = by (eq_by_cmp R k e.0) (keys-insert_entry es k place)
     where
@@ -273,7 +273,7 @@ pub KnowsAttributes-grown : (m : AttributePlaces) {old new : List Node} → Grow
 KnowsAttributes-grown m g h a place e = KnowsAttribute-grown g (h a place e)
 
 pub KnowsEntries-grown : (m : EntryPlaces) {old new : List Node} → Grows old new → KnowsEntries m old → KnowsEntries m new
-KnowsEntries-grown m g h e place is = KnowsAttribute-grown g (h e place is)
+KnowsEntries-grown m g h e o is place at = KnowsAttribute-grown g (h e o is place at)
 
 -- an entry that is inserted leaves a table, of the same nodes
 pub kept-entry : {es : List Entry} {ks : List NodeKey} → IsTable es ks (nodes_of es ks) → (e : Entry) (es' : List Entry) → es' ≡ insert_key (eq_by_cmp entry_cmp) es e
@@ -309,13 +309,12 @@ module _ {es : List Entry} {ks : List NodeKey} (t : IsTable es ks (nodes_of es k
   grown-key = subst (Grows (nodes_of es ks)) (sym kept-key.1) (with_node-grows (nodes_of es ks) (node_of_key es (nodes_of es ks) k))
 
   -- and its node is added
-  pub added-key : (a : Attribute) (attribute place : ℕ) (fresh : Bool) → KnowsAttribute (nodes_of es ks) a attribute → place ≡ position_or_len (eq k) ks → fresh ≡ not (list_any (eq k) ks)
-      → AddsNode (nodes_of es ks) (nodes_of es ks') a (node_of_key es (nodes_of es ks) k) (record { place = place; fresh = fresh; attribute = attribute })
-  added-key a attribute place fresh known at new = record {
+  pub added-key : (place : ℕ) (fresh : Bool) → place ≡ position_or_len (eq k) ks → fresh ≡ not (list_any (eq k) ks)
+      → AddsNode (nodes_of es ks) (nodes_of es ks') (node_of_key es (nodes_of es ks) k) (record { place = place; fresh = fresh })
+  added-key place fresh at new = record {
     nodes = kept-key.1;
     at = subst (λ l. IsAt l n place) (sym kept-key.1) (subst (IsAt (with_node (nodes_of es ks) n) n) (sym (at ∙ key_place t eq decides k is)) (IsAt-with_node (nodes_of es ks) n));
     fresh = new ∙ ap not (key_known t eq decides k is);
-    attribute = known;
   }
     where
       n : Node

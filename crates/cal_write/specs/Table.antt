@@ -1,4 +1,5 @@
 use Rattle.std.specs.Prelude.{◌≡◌, ℕ, ◌<◌, List, [], ◌∷◌, ◌++◌, Option, Some, None, false, fold, length, slice_index_or}
+use Rattle.std.specs.Option.{ForSome}
 use Rattle.std.specs.declared.hash.FoldHasher.{FoldHasher}
 use Rattle.std.specs.declared.hash.BuildHasherDefault.{BuildHasherDefault}
 use Rattle.std.specs.HashMap.{HashMap, get}
@@ -46,17 +47,17 @@ pub record IsTable (es : List Entry) (ks : List NodeKey) (ns : List Node) : Type
 abbrev pub AttributePlaces : Type 0
 AttributePlaces = HashMap Attribute ℕ (BuildHasherDefault FoldHasher)
 
--- the places of the nodes of entries' attributes
+-- the places of the nodes of entries' attributes, as far as they are known
 abbrev pub EntryPlaces : Type 0
-EntryPlaces = HashMap Entry ℕ (BuildHasherDefault FoldHasher)
+EntryPlaces = HashMap Entry (Option ℕ) (BuildHasherDefault FoldHasher)
 
 -- each attribute of the map is known at its place
 abbrev pub KnowsAttributes : AttributePlaces → List Node → Type 0
 KnowsAttributes m ns = (a : Attribute) (place : ℕ) → get (eq_by_cmp attribute_cmp) m a ≡ Some place → KnowsAttribute ns a place
 
--- the attribute of each entry of the map is known at its place
+-- the attribute of each entry of the map is known at its place, if it has one
 abbrev pub KnowsEntries : EntryPlaces → List Node → Type 0
-KnowsEntries m ns = (e : Entry) (place : ℕ) → get (eq_by_cmp entry_cmp) m e ≡ Some place → KnowsAttribute ns e.attr place
+KnowsEntries m ns = (e : Entry) (o : Option ℕ) → get (eq_by_cmp entry_cmp) m e ≡ Some o → ForSome o (KnowsAttribute ns e.attr)
 
 -- the keys of the nodes
 abbrev pub KeySet : Type 0

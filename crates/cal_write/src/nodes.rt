@@ -1,8 +1,9 @@
-ghost use Rattle.std.specs.Prelude.{◌≡◌, ◌∷◌, [], IfOk, IfSome, IfNone, OnOk, OnErr};
+ghost use Rattle.std.specs.Prelude.{◌≡◌, ◌∷◌, [], IfOk, IfSome, IfNone, OnErr};
+ghost use Rattle.std.specs.Option.{ForSome};
 ghost use Rattle.cal_write.specs.Places.{node_at, IsPlace, KnowsAttribute};
-ghost use Rattle.cal_write.specs.Added.{AddsNode};
+ghost use Rattle.cal_write.specs.Added.{AddsNode, FindsNode};
 
-use cal_value::{Attribute, Entry, OutOfMemory, TryCopy};
+use cal_value::{Attribute, Entry, OutOfMemory};
 use indexmap::{IndexMap, IndexSet};
 use std::alloc::Global;
 use std::collections::HashMap;
@@ -15,19 +16,25 @@ pub(crate) struct NodeKey {
     entry: usize,
 }
 
-/// Where a node is, whether it is new, and where its attribute's node is.
+/// Where a node is, and whether it is new.
 #[derive(Clone, Copy, Debug)]
 pub(crate) struct Added {
     pub(crate) place: usize,
     pub(crate) fresh: bool,
+}
+
+/// A node of a known entry, and where the entry's attribute has its node.
+#[derive(Clone, Copy, Debug)]
+pub(crate) struct Found {
+    pub(crate) added: Added,
     pub(crate) attribute: usize,
 }
 
 /// Nodes in the order in which they were added, each once. Each entry is kept once, beside the place of its
-/// attribute's node.
+/// attribute's node as soon as that is known.
 #[derive(Drop)]
 pub(crate) struct Nodes {
-    entries: IndexMap<Entry, usize>,
+    entries: IndexMap<Entry, Option<usize>>,
     attributes: HashMap<Attribute, usize>,
     keys: IndexSet<NodeKey>,
 }
@@ -74,42 +81,46 @@ impl Nodes {
         Ok(())
     }
 
-    /// Adds the node of an entry that is known. `None` where the entry isn't, and then nothing is added.
+    /// Adds the node of an entry whose attribute's node is known. `None` where it isn't, and then nothing is
+    /// added.
     pub(crate) fn add_known(
         &mut self,
         parent: Option<usize>,
         entry: &Entry,
-    ) -> Result<Option<Added>, OutOfMemory>
+    ) -> Result<Option<Found>, OutOfMemory>
         requires { IsPlace self.old parent }
-        ensures known { IfOk result (λ o. IfSome o (AddsNode self.old self.new entry.now.attr (entry.now ∷ node_at self.old parent))) }
+        ensures known { IfOk result (λ o. IfSome o (FindsNode self.old self.new entry.now (node_at self.old parent))) }
         ensures unknown { IfOk result (λ o. IfNone o (self.new ≡ self.old)) }
+        ensures err { OnErr result (self.new ≡ self.old) }
     {
-        let Some((place, _, attribute)) = self.entries.get_full(entry) else {
+        let Some((place, _, known)) = self.entries.get_full(entry) else {
             return Ok(None);
         };
-        let attribute = *attribute;
+        let Some(attribute) = *known else {
+            return Ok(None);
+        };
         let key = NodeKey {
             parent,
             entry: place,
         };
         let (place, fresh) = self.keys.insert_full(key)?;
-        Ok(Some(Added {
-            place,
-            fresh,
+        Ok(Some(Found {
+            added: Added { place, fresh },
             attribute,
         }))
     }
 
-    /// Adds the node of an entry, whose attribute's node is at this place.
+    /// Adds the node of an entry, whose attribute's node is at this place, if it is known.
     pub(crate) fn add(
         &mut self,
         parent: Option<usize>,
         entry: Entry,
-        attribute: usize,
+        attribute: Option<usize>,
     ) -> Result<Added, OutOfMemory>
         requires parent { IsPlace self.old parent }
-        requires attribute { KnowsAttribute self.old entry.attr attribute }
-        ensures { IfOk result (AddsNode self.old self.new entry.attr (entry ∷ node_at self.old parent)) }
+        requires attribute { ForSome attribute (KnowsAttribute self.old entry.attr) }
+        ensures added { IfOk result (AddsNode self.old self.new (entry ∷ node_at self.old parent)) }
+        ensures err { OnErr result (self.new ≡ self.old) }
     {
         let (place, _) = self.entries.insert_full(entry, attribute)?;
         let key = NodeKey {
@@ -117,10 +128,6 @@ impl Nodes {
             entry: place,
         };
         let (place, fresh) = self.keys.insert_full(key)?;
-        Ok(Added {
-            place,
-            fresh,
-            attribute,
-        })
+        Ok(Added { place, fresh })
     }
 }
