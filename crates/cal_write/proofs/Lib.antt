@@ -3,3 +3,4 @@ pub mod TableLemmas
 pub mod BoardLemmas
 pub mod EscapeLemmas
 pub mod LineLemmas
+pub mod BuiltInLemmas

@@ -6,3 +6,4 @@ pub mod Added
 pub mod Table
 pub mod Board
 pub mod Lines
+pub mod Steps

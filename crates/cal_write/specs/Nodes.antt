@@ -43,10 +43,14 @@ node_of_props p k =
 abbrev pub node_of_attribute : Attribute → Node
 node_of_attribute a = record { attr = name_attribute; value = value.Text a.name } ∷ node_of_props a.props a.kind
 
+-- the kinds whose nodes come first (this project's profile)
+abbrev pub first_kinds : List kinds.Kind
+first_kinds = kind.Usr ∷ kind.Int ∷ kind.Uint ∷ kind.Str ∷ kind.Addr ∷ kind.Double ∷ kind.Bool ∷ kind.TypeName ∷ []
+
 -- The nodes that every stream has, in the order of their ids (this project's profile).
-abbrev pub built_in : List Node
+unfoldable pub built_in : List Node
 built_in =
-    map node_of_kind (kind.Usr ∷ kind.Int ∷ kind.Uint ∷ kind.Str ∷ kind.Addr ∷ kind.Double ∷ kind.Bool ∷ kind.TypeName ∷ [])
+    map node_of_kind first_kinds
     ++ map node_of_attribute (name_attribute ∷ type_attribute ∷ prop_attribute ∷ [])
     ++ map node_of_kind (kind.Ptr ∷ [])
 
