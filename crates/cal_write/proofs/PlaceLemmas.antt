@@ -8,7 +8,7 @@ use Rattle.cal_value.specs.ExactOrder.{exact_decides}
 use Rattle.cal_value.specs.OrderLaws.{path_exact}
 use Rattle.cal_value.specs.declared.attribute.Attribute.{Attribute}
 use Rattle.cal_write.specs.Nodes.{Node, same_node, with_node, node_of_attribute, needed_by_attribute}
-use Rattle.cal_write.specs.Places.{IsAt, HasAll, KnowsAttribute, node_at, IsPlace}
+use Rattle.cal_write.specs.Places.{IsAt, HasAll, KnowsAttribute, node_at, IsPlace, Grows}
 
 pub same_decides : (m n : Node) → Decides (same_node m n) (m ≡ n)
 same_decides m n = exact_decides path_exact m n
@@ -85,11 +85,6 @@ module _ {X : Type 0} (p : X → Bool) where
       by false e more = omega (arith, more e)
 
 -- ---- nodes and their places, as more come
-
--- the new nodes are the old ones, and more
-pub record Grows (old new : List Node) : Type 0 where
-  pub more : List Node
-  pub is : new ≡ old ++ more
 
 pub Grows-refl : (ns : List Node) → Grows ns ns
 Grows-refl ns = record { more = []; is = sym (append-nil ns) }

@@ -20,9 +20,9 @@ use Rattle.cal_value.specs.declared.attribute.Entry.{Entry}
 use Rattle.cal_write.specs.declared.nodes.NodeKey.{NodeKey}
 use Rattle.cal_write.specs.Nodes.{Node, same_node, with_node}
 use Rattle.cal_write.specs.Added.{AddsNode}
-use Rattle.cal_write.specs.Places.{IsAt, KnowsAttribute, node_at, IsPlace}
+use Rattle.cal_write.specs.Places.{IsAt, KnowsAttribute, node_at, IsPlace, Grows}
 use Rattle.cal_write.specs.Table.{no_entry, node_of_key, nodes_of, IsBefore, Apart, IsTable, AttributePlaces, EntryPlaces, KnowsAttributes, KnowsEntries}
-use Rattle.cal_write.proofs.PlaceLemmas.{same_decides, position_passes, position-any, position-none, position-push, none-any, Grows, with_node-grows, KnowsAttribute-grown}
+use Rattle.cal_write.proofs.PlaceLemmas.{same_decides, position_passes, position-any, position-none, position-push, none-any, with_node-grows, KnowsAttribute-grown}
 
 -- ---- lists
 

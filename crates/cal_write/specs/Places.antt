@@ -1,4 +1,4 @@
-use Rattle.std.specs.Prelude.{◌≡◌, ℕ, ◌<◌, Bool, true, not, List, [], ◌∷◌, Option, Some, None, length, slice_index_or}
+use Rattle.std.specs.Prelude.{◌≡◌, ℕ, ◌<◌, Bool, true, not, List, [], ◌∷◌, ◌++◌, Option, Some, None, length, slice_index_or}
 use Rattle.std.specs.List.{list_any, position_or_len}
 use Rattle.cal_value.specs.declared.attribute.Attribute.{Attribute}
 use Rattle.cal_write.specs.Nodes.{Node, same_node, node_of_attribute, needed_by_attribute, with_node}
@@ -27,3 +27,8 @@ node_at ns (Some p) = slice_index_or ns p []
 abbrev pub IsPlace : List Node → Option ℕ → Type 0
 IsPlace ns None = Unit {0}
 IsPlace ns (Some p) = IsAt ns (node_at ns (Some p)) p × (0 < length (node_at ns (Some p)))
+
+-- the new nodes are the old ones, and more
+pub record Grows (old new : List Node) : Type 0 where
+  pub more : List Node
+  pub is : new ≡ old ++ more

@@ -1,15 +1,32 @@
-ghost use Rattle.std.specs.Prelude.{◌≡◌, ◌++◌, OnOk, codes, decimal, map, option_to_list};
+ghost use Rattle.std.specs.Prelude.{◌≡◌, ◌++◌, [], if◌then◌else◌, OnOk, codes, decimal, map, option_to_list};
 ghost use Rattle.cal_value.specs.Values.{value_text};
 ghost use Rattle.cal_line.specs.Escapes.{escaped};
 ghost use Rattle.cal_write.specs.CanonicalText.{field, written_value};
 ghost use Rattle.cal_write.specs.Lines.{node_line_of, record_line_of};
 
+use crate::nodes::Added;
 use cal_line::escape;
 use cal_value::{Entry, OutOfMemory, Text, Variant, print_value};
 use itoa::Buffer;
 
+/// Appends the line of a node, where it is new.
+pub(crate) fn write_added(
+    out: &mut Text,
+    added: Added,
+    attribute: usize,
+    value: &Variant,
+    parent: Option<usize>,
+) -> Result<(), OutOfMemory>
+    ensures { OnOk result (out.new ≡ out.old ++ (if added.fresh then node_line_of added.place attribute value.now parent else [])) }
+{
+    if added.fresh {
+        write_node(out, added.place, attribute, value, parent)?;
+    }
+    Ok(())
+}
+
 /// Appends the line of a node.
-pub(crate) fn write_node(
+fn write_node(
     out: &mut Text,
     id: usize,
     attribute: usize,
