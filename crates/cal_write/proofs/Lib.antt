@@ -4,3 +4,5 @@ pub mod BoardLemmas
 pub mod EscapeLemmas
 pub mod LineLemmas
 pub mod BuiltInLemmas
+pub mod StepLemmas
+pub mod NeedLemmas

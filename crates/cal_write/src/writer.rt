@@ -147,12 +147,14 @@ impl Writer {
     fn need_props(&mut self, kind: Kind, props: Props) -> Result<usize, OutOfMemory>
         ensures { IfOk result (WritesTo self.old self.new (way_down (node_of_props props kind)) (node_of_props props kind)) }
     {
-        let place = kind.node() as usize;
+        let alloc = self.alloc;
+        let parent = kind.node() as usize;
         if props.0 == 0 {
-            return Ok(place);
+            return Ok(parent);
         }
-        let entry = props_entry(self.alloc, props)?;
-        self.add(Some(place), &entry, PROP)
+        let entry = props_entry(alloc, props)?;
+        let place = self.add(Some(parent), &entry, PROP)?;
+        Ok(place)
     }
 
     /// Writes the node of an entry whose attribute's node is at this place, and gives its place.
