@@ -118,3 +118,19 @@ path-end ns (d ∷ path) (Some p) h e = (subst (λ n. IsAt ns n p) e h.0, tt)
 
 pub flat_map-take : {X A : Type 0} (f : X → List A) (xs : List X) (i : ℕ) (d : X) → i < length xs → flat_map f (take (i + 1) xs) ≡ flat_map f (take i xs) ++ f (get_or xs i d)
 flat_map-take f xs i d h = ap (flat_map f) (take_more xs i d h) ∙ flat_map-append f (take i xs) (get_or xs i d ∷ []) ∙ ap (λ l. flat_map f (take i xs) ++ l) (append-nil (f (get_or xs i d)))
+
+-- ---- an entry below a node
+
+-- an entry whose attribute is known needs its node alone
+pub writes-found : (old new : Written) (a : Attribute) (n : Node) (place attribute : ℕ) → KnowsAttribute old.nodes a attribute → WritesTo old new (n ∷ []) n place → WritesTo old new (needed_by_attribute a ++ n ∷ []) n place
+writes-found old new a n place attribute known w =
+    record { writes = Writes-then (needed_by_attribute a) (n ∷ []) (Writes-known old (needed_by_attribute a) known.needed) w.writes; at = w.at }
+
+-- and else first what its attribute needs
+pub writes-entry : {old w mid new : Written} (parent : Option ℕ) (e : Entry) (place : ℕ) → IsPlace old.nodes parent → w ≡ old → Writes w mid (needed_by_attribute e.attr)
+    → WritesTo mid new ((e ∷ node_at mid.nodes parent) ∷ []) (e ∷ node_at mid.nodes parent) place → WritesTo old new (needed_by_attribute e.attr ++ (e ∷ node_at old.nodes parent) ∷ []) (e ∷ node_at old.nodes parent) place
+writes-entry {old} {w} {mid} {new} parent e place h same first one =
+    let begun = subst (λ v. Writes v mid (needed_by_attribute e.attr)) same first in
+    let stays = node_at-grown parent (Writes-grows (needed_by_attribute e.attr) begun) h in
+    let moved = subst (λ u. WritesTo mid new ((e ∷ u) ∷ []) (e ∷ u) place) stays one in
+    record { writes = Writes-then (needed_by_attribute e.attr) ((e ∷ node_at old.nodes parent) ∷ []) begun moved.writes; at = moved.at }

@@ -96,7 +96,8 @@ impl Writer {
     {
         let mut places = Vec::with_capacity(self.alloc, imms.len())?;
         for entry in imms {
-            places.push(self.need_attribute(&entry.attr)?)?;
+            let place = self.need_attribute(&entry.attr)?;
+            places.push(place)?;
         }
         Ok(places)
     }
@@ -108,7 +109,8 @@ impl Writer {
     {
         let mut parent = None;
         for entry in path {
-            parent = Some(self.need_entry(parent, entry)?);
+            let place = self.need_entry(parent, entry)?;
+            parent = Some(place);
         }
         Ok(parent)
     }
@@ -125,7 +127,8 @@ impl Writer {
             return Ok(found.added.place);
         }
         let attribute = self.need_attribute(&entry.attr)?;
-        self.add(parent, entry, attribute)
+        let place = self.add(parent, entry, attribute)?;
+        Ok(place)
     }
 
     /// Writes what an attribute needs, and gives the place of its node.
