@@ -1,7 +1,7 @@
 use Rattle.std.proofs.Common.{◌≡◌, ◌≢◌, ℕ, ◌+◌, ◌<◌, Bool, true, false, List, [], ◌∷◌, ◌++◌, length, get_or, take, map, reverse, cond, pos, Option, Some, None, option_to_list, refl, sym, ap, ◌∙◌, subst, arith, fold, eqb, append_assoc}
 use Rattle.std.specs.List.{list_any, flat_map}
 use Rattle.std.proofs.lemmas.Bool.Decides.{nat_tests}
-use Rattle.std.proofs.lemmas.List.{append-nil, take_more, reverse-append, length-append}
+use Rattle.std.proofs.lemmas.List.{append-nil, take_more, map_more, reverse-append, length-append}
 use Rattle.std.proofs.lemmas.List.Concat.{flat_map-append}
 use Rattle.cal_value.specs.Kinds.{kind_node}
 use Rattle.cal_value.specs.declared.attribute.Attribute.{Attribute}
@@ -17,7 +17,7 @@ use Rattle.cal_write.specs.Written.{Written}
 use Rattle.cal_write.proofs.BuiltInLemmas.{knows_kind, knows_name, knows_prop}
 use Rattle.cal_write.proofs.PlaceLemmas.{same_decides, fold-grows, has-grown, HasAll-grown, IsAt-grown, IsAt-has, IsAt-node, node_at-grown, KnowsAttribute-grown}
 use Rattle.cal_write.proofs.TableLemmas.{IsAt-with_node}
-use Rattle.cal_write.proofs.StepLemmas.{Writes-then, Writes-known, Writes-grows}
+use Rattle.cal_write.proofs.StepLemmas.{Writes-then, Writes-known, Writes-grows, AreAt-grown, AreAt-append}
 
 -- what is needed is there afterwards
 pub HasAll-fold : (ns needed : List Node) → HasAll (fold with_node ns needed) needed
@@ -134,3 +134,17 @@ writes-entry {old} {w} {mid} {new} parent e place h same first one =
     let stays = node_at-grown parent (Writes-grows (needed_by_attribute e.attr) begun) h in
     let moved = subst (λ u. WritesTo mid new ((e ∷ u) ∷ []) (e ∷ u) place) stays one in
     record { writes = Writes-then (needed_by_attribute e.attr) ((e ∷ node_at old.nodes parent) ∷ []) begun moved.writes; at = moved.at }
+
+module _ {X : Type 0} (xs : List X) (i : ℕ) (x : X) (within : i < length xs) (is : x ≡ get_or xs i x) where
+  -- what one more element needs, behind what those before it need
+  pub writes-more : {old mid new : Written} (f : X → List Node) → Writes old mid (flat_map f (take i xs)) → Writes mid new (f x) → Writes old new (flat_map f (take (i + 1) xs))
+  writes-more f g h = rw (flat_map-take f xs i x within, ← is) (Writes-then (flat_map f (take i xs)) (f x) g h)
+
+  -- and the places of its nodes, behind theirs
+  pub places-more : {mid new : List Node} (f : X → List Node) (places more : List ℕ) → Grows mid new → AreAt mid (flat_map f (take i xs)) places → AreAt new (f x) more → AreAt new (flat_map f (take (i + 1) xs)) (places ++ more)
+  places-more {mid} {new} f places more g h one =
+      rw (flat_map-take f xs i x within, ← is) (AreAt-append new (flat_map f (take i xs)) (f x) places more (AreAt-grown g (flat_map f (take i xs)) places h) one)
+
+  pub place-more : {mid new : List Node} (f : X → Node) (places : List ℕ) (place : ℕ) → Grows mid new → AreAt mid (map f (take i xs)) places → IsAt new (f x) place → AreAt new (map f (take (i + 1) xs)) (places ++ place ∷ [])
+  place-more {mid} {new} f places place g h one =
+      rw (map_more f xs i x within, ← is) (AreAt-append new (map f (take i xs)) (f x ∷ []) places (place ∷ []) (AreAt-grown g (map f (take i xs)) places h) (one, tt))
