@@ -6,3 +6,4 @@ pub mod LineLemmas
 pub mod BuiltInLemmas
 pub mod StepLemmas
 pub mod NeedLemmas
+pub mod CanonicalLemmas

@@ -58,7 +58,8 @@ impl Writer {
             refs.as_slice(),
             attributes.as_slice(),
             rec.imms.as_slice(),
-        )
+        )?;
+        Ok(())
     }
 
     /// The text so far. It takes no memory.
