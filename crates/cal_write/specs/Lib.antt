@@ -1,4 +1,9 @@
-pub mod Same
 pub mod Nodes
 pub mod CanonicalText
 pub mod Written
+pub mod Places
+pub mod Added
+pub mod Table
+pub mod Board
+pub mod Lines
+pub mod Steps

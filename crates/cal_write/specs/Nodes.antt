@@ -1,6 +1,7 @@
 use Rattle.std.specs.Prelude.{ℕ, Bool, ◌==◌, List, [], ◌∷◌, ◌++◌, pos, codes, map, reverse, fold, if◌then◌else◌}
 use Rattle.std.specs.List.{flat_map, list_any}
-use Rattle.std.specs.Cmp.Lexicographic.{pointwise}
+use Rattle.std.specs.Ordering.{eq_by_cmp}
+use Rattle.cal_value.specs.Order.{path_cmp}
 use Rattle.cal_value.specs.declared.attribute.Attribute.{Attribute}
 use Rattle.cal_value.specs.declared.attribute.Entry.{Entry}
 use Rattle.cal_value.specs.declared.kind.Kind as kinds
@@ -8,15 +9,14 @@ use Rattle.cal_value.specs.declared.kind.Kind.TheVariants as kind
 use Rattle.cal_value.specs.declared.props.Props.{Props}
 use Rattle.cal_value.specs.declared.record.Rec.{Rec}
 use Rattle.cal_value.specs.declared.variant.Variant.TheVariants as value
-use Rattle.cal_write.specs.Same.{same_entry}
 
 -- A node is meant as the entries on the way from it up to the root, its own first (Caliper's context tree).
 abbrev pub Node : Type 0
 Node = List Entry
 
--- the same node: it has the same parent, and the same entry
+-- the same node: the order of entries, one after another, tells no difference
 abbrev pub same_node : Node → Node → Bool
-same_node = pointwise same_entry
+same_node = eq_by_cmp path_cmp
 
 -- The attributes that say what an attribute is: its name, its kind and its properties (the `.cali` format).
 abbrev pub name_attribute : Attribute
@@ -43,10 +43,14 @@ node_of_props p k =
 abbrev pub node_of_attribute : Attribute → Node
 node_of_attribute a = record { attr = name_attribute; value = value.Text a.name } ∷ node_of_props a.props a.kind
 
+-- the kinds whose nodes come first (this project's profile)
+abbrev pub first_kinds : List kinds.Kind
+first_kinds = kind.Usr ∷ kind.Int ∷ kind.Uint ∷ kind.Str ∷ kind.Addr ∷ kind.Double ∷ kind.Bool ∷ kind.TypeName ∷ []
+
 -- The nodes that every stream has, in the order of their ids (this project's profile).
-abbrev pub built_in : List Node
+unfoldable pub built_in : List Node
 built_in =
-    map node_of_kind (kind.Usr ∷ kind.Int ∷ kind.Uint ∷ kind.Str ∷ kind.Addr ∷ kind.Double ∷ kind.Bool ∷ kind.TypeName ∷ [])
+    map node_of_kind first_kinds
     ++ map node_of_attribute (name_attribute ∷ type_attribute ∷ prop_attribute ∷ [])
     ++ map node_of_kind (kind.Ptr ∷ [])
 

@@ -4,6 +4,9 @@
 //! those records. Nothing is said of a writer that was refused memory.
 #![tactic(auto)]
 
+mod built_in;
+mod lines;
+mod nodes;
 mod whole;
 mod writer;
 
