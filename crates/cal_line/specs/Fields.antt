@@ -2,7 +2,8 @@ use Rattle.std.specs.Prelude.{◌≡◌, ◌≢◌, ℕ, true, List, [], ◌∷�
 use Rattle.cal_line.specs.Spelling.{SpellsIn}
 use Rattle.cal_line.specs.declared.field.Field.{Field}
 
--- The bytes spell the text, and no comma and no equals sign stands there that isn't taken by a backslash.
+-- The bytes spell the text, and no comma and no equals sign stands there that isn't taken by a
+-- backslash.
 abbrev pub IsPiece : List ℕ → List ℕ → Type 0
 IsPiece = SpellsIn true
 
@@ -11,9 +12,11 @@ abbrev pub Separated : {X : Type 0} → ℕ → (List ℕ → X → Type 0) → 
 Separated separator IsPart bytes [] = ⊥
 Separated separator IsPart bytes (x ∷ []) = IsPart bytes x
 Separated separator IsPart bytes (x ∷ y ∷ xs) =
-    (front rest : List ℕ) × (bytes ≡ front ++ separator ∷ rest) × IsPart front x × Separated separator IsPart rest (y ∷ xs)
+    (front rest : List ℕ) × (bytes ≡ front ++ separator ∷ rest) × IsPart front x
+    × Separated separator IsPart rest (y ∷ xs)
 
--- A field is a key, which isn't empty, and one or more values, separated by equals signs (the `.cali` format).
+-- A field is a key, which isn't empty, and one or more values, separated by equals signs (the `.cali`
+-- format).
 pub record IsField (bytes : List ℕ) (field : Field) : Type 0 where
   pub pieces : Separated 61 IsPiece bytes (field.key ∷ field.values)
   pub key : field.key ≢ []

@@ -11,23 +11,25 @@ taken_for b = if b == 110 then 10 else b
 abbrev pub put_front : ℕ → List ℕ × List ℕ → List ℕ × List ℕ
 put_front b piece = (b ∷ piece.0, piece.1)
 
--- The text that the bytes spell up to a separator that no backslash takes, and the bytes from there on; none
--- where a backslash stands last.
+-- The text that the bytes spell up to a separator that no backslash takes, and the bytes from there
+-- on; none where a backslash stands last.
 abbrev pub piece_at : Bool → List ℕ → Option (List ℕ × List ℕ)
 piece_at in_line [] = Some ([], [])
 piece_at in_line (b ∷ []) =
     if b == 92 then None else (if separates in_line b then Some ([], b ∷ []) else Some (b ∷ [], []))
 piece_at in_line (b ∷ c ∷ bs) =
     if b == 92 then option_map (put_front (taken_for c)) (piece_at in_line bs)
-    else (if separates in_line b then Some ([], b ∷ c ∷ bs) else option_map (put_front b) (piece_at in_line (c ∷ bs)))
+    else (if separates in_line b then Some ([], b ∷ c ∷ bs)
+    else option_map (put_front b) (piece_at in_line (c ∷ bs)))
 
--- What bytes of a line hold from the middle of a piece on: the rest of that piece, the further pieces of its
--- field, and the pieces of each further field.
+-- What bytes of a line hold from the middle of a piece on: the rest of that piece, the further pieces
+-- of its field, and the pieces of each further field.
 pub record LineRest : Type 0 where
   pub piece : List ℕ
   pub pieces : List (List ℕ)
   pub fields : List (List (List ℕ))
 
+-- nothing more
 abbrev pub at_end : LineRest
 at_end = record { piece = []; pieces = []; fields = [] }
 
@@ -39,7 +41,8 @@ abbrev pub put_equals : LineRest → LineRest
 put_equals rest = record { piece = []; pieces = rest.piece ∷ rest.pieces; fields = rest.fields }
 
 abbrev pub put_comma : LineRest → LineRest
-put_comma rest = record { piece = []; pieces = []; fields = (rest.piece ∷ rest.pieces) ∷ rest.fields }
+put_comma rest =
+    record { piece = []; pieces = []; fields = (rest.piece ∷ rest.pieces) ∷ rest.fields }
 
 abbrev pub put_byte : ℕ → LineRest → LineRest
 put_byte b rest =
@@ -50,11 +53,13 @@ abbrev pub rest_of : List ℕ → Option LineRest
 rest_of [] = Some at_end
 rest_of (b ∷ []) = if b == 92 then None else Some (put_byte b at_end)
 rest_of (b ∷ c ∷ bs) =
-    if b == 92 then option_map (put_character (taken_for c)) (rest_of bs) else option_map (put_byte b) (rest_of (c ∷ bs))
+    if b == 92 then option_map (put_character (taken_for c)) (rest_of bs)
+    else option_map (put_byte b) (rest_of (c ∷ bs))
 
 -- the rest of a line with this text for the piece at hand, and these pieces behind it
 abbrev pub set_field : List ℕ → List (List ℕ) → LineRest → LineRest
-set_field key values rest = record { piece = key; pieces = values ++ rest.pieces; fields = rest.fields }
+set_field key values rest =
+    record { piece = key; pieces = values ++ rest.pieces; fields = rest.fields }
 
 -- the field of these pieces: a key, which isn't empty, and one or more values
 abbrev pub field_of : List (List ℕ) → Option Field

@@ -15,4 +15,5 @@ written_pieces piece (next ∷ pieces) = escaped piece ++ 61 ∷ written_pieces 
 -- fields as they are written, with commas between them
 abbrev pub written_fields : Field → List Field → List ℕ
 written_fields field [] = written_pieces field.key field.values
-written_fields field (next ∷ fields) = written_pieces field.key field.values ++ 44 ∷ written_fields next fields
+written_fields field (next ∷ fields) =
+    written_pieces field.key field.values ++ 44 ∷ written_fields next fields

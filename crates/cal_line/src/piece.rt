@@ -7,8 +7,8 @@ use crate::FieldEnd;
 use cal_value::Text;
 use std::alloc::Global;
 
-/// Reads the piece that begins at `start`, and answers the text that it spells, and where it ends: at the end,
-/// or, in a line, at a separator that no backslash takes.
+/// Reads the piece that begins at `start`, and answers the text that it spells, and where it ends: at
+/// the end, or, in a line, at a separator that no backslash takes.
 pub(crate) fn read_piece(
     alloc: Global,
     line: &str,
@@ -16,9 +16,11 @@ pub(crate) fn read_piece(
     in_line: bool,
 ) -> Result<(Text, usize), FieldEnd>
     requires { IsCharBoundary line.now start }
-    ensures found { IfOk result (λ piece. piece_at in_line (drop start line.now) ≡ Some (piece.0, drop piece.1 line.now)) }
+    ensures found { IfOk result (λ piece. piece_at in_line (drop start line.now)
+        ≡ Some (piece.0, drop piece.1 line.now)) }
     ensures place { IfOk result (λ piece. (start ≤ piece.1) × (piece.1 ≤ length line.now)) }
-    ensures stop { IfOk result (λ piece. piece.1 < length line.now → separates in_line (slice_index line.now piece.1) ≡ true) }
+    ensures stop { IfOk result (λ piece. piece.1 < length line.now
+        → separates in_line (slice_index line.now piece.1) ≡ true) }
     ensures bad { IsErrOf result FieldEnd.BadField → piece_at in_line (drop start line.now) ≡ None }
 {
     let bytes = line.as_bytes();

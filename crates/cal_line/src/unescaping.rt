@@ -10,7 +10,8 @@ use std::alloc::Global;
 pub fn unescape(alloc: Global, text: &str) -> Result<Text, FieldEnd>
     // It is the one text that is spelled.
     ensures found { IfOk result (λ spelled. Spells text.now spelled) }
-    ensures only { IfOk result (λ spelled. (other : List ℕ) → Spells text.now other → other ≡ spelled) }
+    ensures only { IfOk result (λ spelled. (other : List ℕ)
+        → Spells text.now other → other ≡ spelled) }
     // Nothing is spelled exactly where a backslash takes nothing, which only the last one can.
     ensures none { IsErrOf result FieldEnd.BadField → (other : List ℕ) → ¬ Spells text.now other }
 {
