@@ -14,9 +14,9 @@ use Rattle.cal_script.specs.Faults.{IsFirstFault}
 use Rattle.cal_script.specs.Reader.{script_of, IsReading}
 
 -- a line that says something is read by its words
-pub line_after-words : (script : Script) (line : List ℕ) → IsUtf8 line → is_skipped line ≡ false → line_after script line ≡ words_after script (words_of line)
+pub line_after_words : (script : Script) (line : List ℕ) → IsUtf8 line → is_skipped line ≡ false → line_after script line ≡ words_after script (words_of line)
 unfolding line_after
-line_after-words script line text says = rw (is_utf8-from_IsUtf8 line text, says) refl
+line_after_words script line text says = rw (is_utf8-from_IsUtf8 line text, says) refl
 
 -- lines behind lines
 lines_after-append : (script : Script) (front back : List (List ℕ)) → lines_after script (front ++ back) ≡ (lines_after script front >>= (λ next. lines_after next back))

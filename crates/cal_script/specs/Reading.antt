@@ -34,20 +34,20 @@ has_room script = nat_lt 0 (length script.threads) && nat_lt (sum_by length scri
 abbrev pub open_now : Script → ℕ
 open_now script = open_count (last_thread script.threads)
 
--- `attribute ..` is the first line
+-- `attribute ..` stands first
 abbrev pub attribute_after : Script → List (List ℕ) → Option Script
 attribute_after script words = do
   attribute ← attribute_of words
   if length script.attributes == 0 then Some (record script { attributes = script.attributes ++ attribute ∷ [] }) else None
 
--- `channel ..` is the line behind it
+-- `channel ..` stands behind the attribute
 abbrev pub channel_after : Script → List (List ℕ) → Option Script
 channel_after script words = do
   channel ← channel_of words
   if length script.attributes == 1 && length script.channels == 0
       then Some (record script { channels = script.channels ++ channel ∷ [] }) else None
 
--- `thread` is the line behind that
+-- `thread` stands behind the channel
 abbrev pub thread_after : Script → List (List ℕ) → Option Script
 thread_after script [] =
     if length script.channels == 1 && length script.threads == 0
@@ -72,13 +72,13 @@ end_after script words = do
   if has_room script && nat_lt 0 (open_now script)
       then Some (record script { threads = add_line (End attr) script.threads }) else None
 
--- `snapshot`
+-- `snapshot` looks at the values that are open
 abbrev pub snapshot_after : Script → List (List ℕ) → Option Script
 snapshot_after script [] =
     if has_room script then Some (record script { threads = add_line Snapshot script.threads }) else None
 snapshot_after script (word ∷ words) = None
 
--- a line by its first word
+-- a line goes by its first word
 abbrev pub words_after : Script → List (List ℕ) → Option Script
 words_after script [] = None
 words_after script (word ∷ words) =

@@ -18,7 +18,7 @@ const NESTED_WITH_THREAD_SCOPE: Props = Props(276);
 const LONGEST_TEXT: usize = 4_096;
 
 /// The attribute that the words behind `attribute` declare.
-#[tactic(auto, using(crate::proofs::Cuts::attribute_lists))]
+#[tactic(auto, using(crate::proofs::Cuts::attribute_of_more))]
 pub(crate) fn attribute_of(alloc: Global, rest: Option<&str>) -> Result<Attribute, LineEnd>
     ensures said { Gives (λ attribute. attribute) result (attribute_of (words_behind (option_copied rest.entry))) }
     ensures shape { IfOk result (λ attribute. IsNestedText attribute) }
@@ -40,7 +40,7 @@ pub(crate) fn attribute_of(alloc: Global, rest: Option<&str>) -> Result<Attribut
 }
 
 /// The channel that the words behind `channel` declare.
-#[tactic(auto, using(crate::proofs::Cuts::channel_lists))]
+#[tactic(auto, using(crate::proofs::Cuts::channel_of_more))]
 pub(crate) fn channel_of(alloc: Global, rest: Option<&str>) -> Result<Channel, LineEnd>
     ensures said { Gives (λ channel. channel) result (channel_of (words_behind (option_copied rest.entry))) }
     ensures shape { IfOk result (λ channel. IsTrue (is_name channel.name)) }
@@ -68,7 +68,7 @@ fn attribute_place(attributes: &[Attribute], name: &str) -> Option<usize>
 }
 
 /// The attribute and the text that the words behind `begin` name.
-#[tactic(auto, using(crate::proofs::Cuts::opening_lists))]
+#[tactic(auto, using(crate::proofs::Cuts::opening_of_value))]
 pub(crate) fn opening_of(
     alloc: Global,
     attributes: &[Attribute],
@@ -89,7 +89,7 @@ pub(crate) fn opening_of(
 }
 
 /// The attribute that the words behind `end` name.
-#[tactic(auto, using(crate::proofs::Cuts::closing_lists))]
+#[tactic(auto, using(crate::proofs::Cuts::closing_of_more))]
 pub(crate) fn closing_of(attributes: &[Attribute], rest: Option<&str>) -> Result<u32, LineEnd>
     requires { length attributes.now < 2 ^ 32 }
     ensures said { Gives (λ attr. attr) result (closing_of attributes.now (words_behind (option_copied rest.entry))) }

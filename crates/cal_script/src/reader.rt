@@ -126,7 +126,7 @@ impl Reader {
         Ok(())
     }
 
-    #[tactic(auto, using(crate::proofs::Cuts::thread_lists))]
+    #[tactic(auto, using(crate::proofs::Cuts::thread_after_more))]
     fn read_thread(&mut self, rest: Option<&str>) -> Result<(), LineEnd>
         requires { IsReading self.old }
         ensures said { Gives (λ _. script_of self.new) result (thread_after (script_of self.old) (words_behind (option_copied rest.entry))) }
@@ -178,7 +178,7 @@ impl Reader {
         Ok(())
     }
 
-    #[tactic(auto, using(crate::proofs::Cuts::snapshot_lists))]
+    #[tactic(auto, using(crate::proofs::Cuts::snapshot_after_more))]
     fn read_snapshot(&mut self, rest: Option<&str>) -> Result<(), LineEnd>
         requires { IsReading self.old }
         ensures said { Gives (λ _. script_of self.new) result (snapshot_after (script_of self.old) (words_behind (option_copied rest.entry))) }

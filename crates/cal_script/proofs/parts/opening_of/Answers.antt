@@ -1,9 +1,9 @@
 use Rattle.std.proofs.Common.{arith}
 use Rattle.std.proofs.lemmas.Bool.{lt-leb}
 use Rattle.std.proofs.lemmas.Grind.{common_steps}
-use Rattle.cal_script.proofs.Cuts.{opening_of-value}
+use Rattle.cal_script.proofs.Cuts.{opening_of_value}
 use Rattle.cal_script.proofs.parts.opening_of.Goals as goal
 
 pub returns-then-len-gt-LONGEST_TEXT-clause-said :
     goal.returns-then-len-gt-LONGEST_TEXT-clause-said
-returns-then-len-gt-LONGEST_TEXT-clause-said c = grind (arith, common_steps, opening_of-value, lt-leb)
+returns-then-len-gt-LONGEST_TEXT-clause-said c = grind (arith, common_steps, opening_of_value, lt-leb)
