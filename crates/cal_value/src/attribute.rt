@@ -34,15 +34,6 @@ impl TryCopy for Attribute {
     }
 }
 
-impl TryCopy for Entry {
-    fn copy(&self, alloc: Global) -> Result<Self, OutOfMemory> {
-        Ok(Entry {
-            attr: self.attr.copy(alloc)?,
-            value: self.value.copy(alloc)?,
-        })
-    }
-}
-
 impl PartialEq for Attribute {
     ghost eq = { eq_by_cmp attribute_cmp };
 
@@ -60,31 +51,9 @@ impl Eq for Attribute {
     ghost laws = { exact_equiv attribute_exact };
 }
 
-impl PartialEq for Entry {
-    ghost eq = { eq_by_cmp entry_cmp };
-
-    ghost laws = { exact_per entry_exact };
-
-    fn eq(&self, other: &Entry) -> bool
-        ensures value { result ≡ eq_by_cmp entry_cmp self.now other.now }
-        ensures same { IsTrue result ↔ (self.now ≡ other.now) }
-    {
-        self.attr == other.attr && self.value == other.value
-    }
-}
-
-impl Eq for Entry {
-    ghost laws = { exact_equiv entry_exact };
-}
-
 #[derived]
 impl Hash for Attribute {
     ghost respects_eq = { exact_alike attribute_exact _ };
-}
-
-#[derived]
-impl Hash for Entry {
-    ghost respects_eq = { exact_alike entry_exact _ };
 }
 
 impl PartialOrd for Attribute {
@@ -113,6 +82,37 @@ impl Ord for Attribute {
                 .then_with(|| self.props.cmp(&other.props))
         })
     }
+}
+
+impl TryCopy for Entry {
+    fn copy(&self, alloc: Global) -> Result<Self, OutOfMemory> {
+        Ok(Entry {
+            attr: self.attr.copy(alloc)?,
+            value: self.value.copy(alloc)?,
+        })
+    }
+}
+
+impl PartialEq for Entry {
+    ghost eq = { eq_by_cmp entry_cmp };
+
+    ghost laws = { exact_per entry_exact };
+
+    fn eq(&self, other: &Entry) -> bool
+        ensures value { result ≡ eq_by_cmp entry_cmp self.now other.now }
+        ensures same { IsTrue result ↔ (self.now ≡ other.now) }
+    {
+        self.attr == other.attr && self.value == other.value
+    }
+}
+
+impl Eq for Entry {
+    ghost laws = { exact_equiv entry_exact };
+}
+
+#[derived]
+impl Hash for Entry {
+    ghost respects_eq = { exact_alike entry_exact _ };
 }
 
 impl PartialOrd for Entry {

@@ -5,7 +5,7 @@ ghost use Rattle.cal_value.specs.Kinds.{kind_name, kind_named, kind_node};
 ghost use Rattle.cal_value.specs.declared.kind.Kind.{Kind};
 ghost use Rattle.cal_value.specs.Order.{kind_cmp};
 ghost use Rattle.cal_value.specs.OrderLaws.{kind_exact};
-ghost use Rattle.cal_value.specs.ExactOrder.{exact_per, exact_equiv, exact_alike};
+ghost use Rattle.cal_value.specs.ExactOrder.{exact_equiv, exact_per};
 
 use crate::{OutOfMemory, TryCopy};
 use std::alloc::Global;
@@ -81,6 +81,12 @@ impl Kind {
     }
 }
 
+impl TryCopy for Kind {
+    fn copy(&self, _alloc: Global) -> Result<Self, OutOfMemory> {
+        Ok(*self)
+    }
+}
+
 impl PartialEq for Kind {
     ghost eq = { eq_by_cmp kind_cmp };
 
@@ -96,12 +102,6 @@ impl PartialEq for Kind {
 
 impl Eq for Kind {
     ghost laws = { exact_equiv kind_exact };
-}
-
-impl TryCopy for Kind {
-    fn copy(&self, _alloc: Global) -> Result<Self, OutOfMemory> {
-        Ok(*self)
-    }
 }
 
 impl PartialOrd for Kind {

@@ -8,7 +8,7 @@ ghost use Rattle.cal_value.specs.Values.{kind_of, value_text};
 use crate::Variant;
 
 /// Each order is total, and answers Equal exactly where the values are the same.
-#[tactic(auto, using(crate::specs::ExactOrder::text_exact, crate::specs::OrderLaws::kind_exact, crate::specs::OrderLaws::props_exact, crate::specs::OrderLaws::value_exact, crate::specs::OrderLaws::attribute_exact, crate::specs::OrderLaws::entry_exact, crate::specs::OrderLaws::path_exact, crate::specs::OrderLaws::group_exact))]
+#[tactic(auto, using(crate::specs::OrderLaws::exact_orders))]
 pub fn order_is_exact()
     ensures texts { IsExactOrder text_cmp }
     ensures kinds { IsExactOrder kind_cmp }
@@ -26,6 +26,7 @@ pub fn printed_reads_back(value: &Variant)
     ensures range { IsInRange value.now }
     ensures same { IsReadable value.now → value_of (kind_of value.now) (value_text value.now) ≡ Some value.now }
 {
+    // reading a number shows that it fits its type
     let _ = match value {
         Variant::Uint(number) => *number,
         Variant::Addr(address) => *address,

@@ -34,7 +34,7 @@ pub fn parse_value(alloc: Global, kind: Kind, text: &str) -> Result<Variant, Val
     ensures memory { IsErrOf result ValueFault.OutOfMemory → IsTrue (is_textual kind) }
 {
     let bytes = text.as_bytes();
-    let number = match kind {
+    let value = match kind {
         Kind::Usr => Some(Variant::Usr(Text::from_str(alloc, text)?)),
         Kind::Int => read_int(bytes).map(Variant::Int),
         Kind::Uint => read_uint(bytes).map(Variant::Uint),
@@ -45,9 +45,10 @@ pub fn parse_value(alloc: Global, kind: Kind, text: &str) -> Result<Variant, Val
         Kind::TypeName => Kind::from_name(text).map(Variant::Kind),
         Kind::Ptr => Some(Variant::Ptr(Text::from_str(alloc, text)?)),
     };
-    number.ok_or(ValueFault::BadValue)
+    value.ok_or(ValueFault::BadValue)
 }
 
+// 2^86
 const MOST_INT: u128 = 77371252455336267181195264;
 
 fn read_int(text: &[u8]) -> Option<i128>

@@ -32,6 +32,7 @@ fn print_number<I: Integer>(number: I, out: &mut Text) -> Result<(), OutOfMemory
     out.push_str(digits.format(number))
 }
 
+// `out` is to stay as it was on an error, so the text is made beside it.
 fn print_address(address: u64, out: &mut Text) -> Result<(), OutOfMemory>
     ensures ok { OnOk result (out.new ≡ out.old ++ address_text address) }
     ensures err { OnErr result (out.new ≡ out.old) }

@@ -4,7 +4,7 @@ ghost use Rattle.std.specs.Ordering.{as_partial_cmp, eq_by_cmp};
 ghost use Rattle.cal_value.specs.Order.{props_cmp};
 ghost use Rattle.cal_value.specs.OrderLaws.{props_exact};
 ghost use Rattle.cal_value.specs.Props.{has_process_scope, is_as_value, is_global, is_nested, is_reference, named_props, skips_events};
-ghost use Rattle.cal_value.specs.ExactOrder.{exact_per, exact_equiv, exact_alike};
+ghost use Rattle.cal_value.specs.ExactOrder.{exact_equiv, exact_per};
 
 use bitflags::{Flag, Flags};
 use std::cmp::Ordering;
@@ -13,8 +13,10 @@ use std::cmp::Ordering;
 #[derive(Clone, Copy, Debug, Hash)]
 pub struct Props(pub u32);
 
+// the bits that name a scope
 const SCOPE: u32 = 60;
 
+// the names of Caliper's library, with this project's numbers
 const NAMED: [Flag<Props>; 9] = [
     Flag {
         name: "AS_VALUE",
@@ -55,22 +57,31 @@ const NAMED: [Flag<Props>; 9] = [
 ];
 
 impl Props {
+    /// Values stand in snapshots themselves, and not by a node.
     pub const AS_VALUE: Props = Props(1);
 
+    /// Kept for streams; nothing here asks it.
     pub const NOMERGE: Props = Props(2);
 
+    /// The values belong to the process.
     pub const SCOPE_PROCESS: Props = Props(12);
 
+    /// The values belong to a thread.
     pub const SCOPE_THREAD: Props = Props(20);
 
+    /// The values belong to a task, which is read as thread scope.
     pub const SCOPE_TASK: Props = Props(24);
 
+    /// Begin, set and end are no events of channels.
     pub const SKIP_EVENTS: Props = Props(64);
 
+    /// Kept for streams; nothing here asks it.
     pub const HIDDEN: Props = Props(128);
 
+    /// Values share the slot of the hierarchy, where they go by nodes.
     pub const NESTED: Props = Props(256);
 
+    /// The attribute of a global of the stream.
     pub const GLOBAL: Props = Props(512);
 
     /// Whether values stand in snapshots themselves.
