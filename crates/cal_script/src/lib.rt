@@ -7,8 +7,8 @@
 #![tactic(auto)]
 
 mod end;
-mod faults;
 mod kind;
+mod laws;
 mod names;
 mod parts;
 mod reader;
@@ -18,8 +18,8 @@ mod value;
 mod words;
 
 pub use end::ScriptEnd;
-pub use faults::first_fault_law;
 pub use kind::ScriptKind;
+pub use laws::{first_fault_law, spelling_law};
 pub use reading::read_script;
 pub use script::{Channel, Line, Script};
 
