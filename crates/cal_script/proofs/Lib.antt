@@ -3,3 +3,4 @@ pub mod Spelling
 pub mod Threads
 pub mod Inputs
 pub mod Runs
+pub mod Forms

@@ -25,6 +25,10 @@ closed thread = count_by is_end thread
 abbrev pub open_count : List lines.Line → ℕ
 open_count thread = opened thread - closed thread
 
--- After each of its lines a thread has closed no more values than it opened, and at most 128 are open (the limit is ours).
+-- no more values are closed than were opened, and at most 128 are open (the limit is ours)
+abbrev pub HasDepth : List lines.Line → Type 0
+HasDepth thread = (closed thread ≤ opened thread) × (opened thread ≤ closed thread + 128)
+
+-- so it is after each line of a thread
 abbrev pub KeepsDepth : List lines.Line → Type 0
-KeepsDepth thread = (n : ℕ) → (closed (take n thread) ≤ opened (take n thread)) × (opened (take n thread) ≤ closed (take n thread) + 128)
+KeepsDepth thread = (n : ℕ) → HasDepth (take n thread)

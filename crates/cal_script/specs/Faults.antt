@@ -6,7 +6,8 @@ use Rattle.cal_script.specs.declared.kind.ScriptKind.TheVariants.{NotYet}
 use Rattle.cal_script.specs.Lines.{lines_of}
 use Rattle.cal_script.specs.Reading.{reading}
 
--- The first fault of lines is the one, counted from 1, before which they say a script and with which they say none. (Ours.)
+-- The first fault of lines is the line, counted from 1, before which they say a script and with which they say none.
+-- (Ours.)
 pub record IsFirstFault (lines : List (List ℕ)) (line : ℕ) : Type 0 where
   pub stands : IsSome (reading (take (line - 1) lines))
   pub falls : IsNone (reading (take line lines))

@@ -5,6 +5,7 @@ pub mod Depth
 pub mod Parts
 pub mod Reading
 pub mod Kinds
+pub mod Spelled
 pub mod Faults
 pub mod Shape
 pub mod Steps

@@ -17,7 +17,8 @@ abbrev pub reserved_names : List (List ℕ)
 reserved_names = codes "path" ∷ codes "count" ∷ codes "time.duration.ns" ∷ codes "time.inclusive.duration.ns"
     ∷ codes "region.depth" ∷ codes "region.count" ∷ []
 
--- a name that no script may declare for an attribute: one of those, or one of Caliper's own, which begin with `cali.` (ours)
+-- A name that no script may declare for an attribute is one of those, or one of Caliper's own, which begin with `cali.`
+-- (ours).
 abbrev pub is_reserved : List ℕ → Bool
 is_reserved name = list_any (bytes_eq name) reserved_names || starts_with nat_eq name (codes "cali.")
 

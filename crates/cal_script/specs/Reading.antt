@@ -38,7 +38,8 @@ open_now script = open_count (last_thread script.threads)
 abbrev pub attribute_after : Script → List (List ℕ) → Option Script
 attribute_after script words = do
   attribute ← attribute_of words
-  if length script.attributes == 0 then Some (record script { attributes = script.attributes ++ attribute ∷ [] }) else None
+  if length script.attributes == 0
+      then Some (record script { attributes = script.attributes ++ attribute ∷ [] }) else None
 
 -- `channel ..` stands behind the attribute
 abbrev pub channel_after : Script → List (List ℕ) → Option Script
@@ -90,7 +91,7 @@ words_after script (word ∷ words) =
     else (if bytes_eq word (codes "snapshot") then snapshot_after script words
     else None)))))
 
--- What a line makes of the script that stands before it, or nothing where the line may not stand there. It must be UTF-8.
+-- What a line makes of the script that stands before it, or nothing where the line may not stand there. A line is UTF-8.
 unfoldable pub line_after : Script → List ℕ → Option Script
 line_after script line =
     if not (is_utf8 line) then None

@@ -1,5 +1,6 @@
 -- What the steps of the reader answer (private).
 use Rattle.std.specs.Prelude.{◌≡◌, ℕ, List, [], Option, Some, None, Result, Ok, Err}
+use Rattle.std.specs.Borrow.{Bor}
 use Rattle.cal_script.specs.declared.end.LineEnd as ends
 use Rattle.cal_script.specs.declared.end.LineEnd.TheVariants as end
 use Rattle.cal_script.specs.declared.kind.ScriptKind.TheVariants.{NotYet}
@@ -12,6 +13,6 @@ Gives view (Err (end.Bad kind)) found = (found ≡ None) × (kind ≡ NotYet)
 Gives view (Err end.OutOfMemory) found = Unit {0}
 
 -- the words behind a line's first space, where it has one
-abbrev pub words_behind : Option (List ℕ) → List (List ℕ)
+abbrev pub words_behind : Option (Bor (List ℕ)) → List (List ℕ)
 words_behind None = []
-words_behind (Some rest) = words_of rest
+words_behind (Some rest) = words_of rest.now

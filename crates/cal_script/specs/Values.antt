@@ -15,4 +15,5 @@ abbrev pub spelled_text : List ℕ → Option (List ℕ)
 spelled_text [] = Some []
 spelled_text (byte ∷ []) = if byte == 92 then None else Some (byte ∷ [])
 spelled_text (byte ∷ next ∷ bytes) =
-    if byte == 92 then onto_text (escaped_byte next) (spelled_text bytes) else onto_text byte (spelled_text (next ∷ bytes))
+    if byte == 92 then onto_text (escaped_byte next) (spelled_text bytes)
+    else onto_text byte (spelled_text (next ∷ bytes))

@@ -1,5 +1,4 @@
 ghost use Rattle.std.specs.Prelude.{◌≡◌, ◌<◌, ◌^◌, ◌≤◌, length, IsTrue, IfOk, IfSome};
-ghost use Rattle.std.specs.Option.{option_copied};
 ghost use Rattle.cal_script.specs.Parts.{attribute_of, channel_of, attribute_place, opening_of, closing_of};
 ghost use Rattle.cal_script.specs.Shape.{IsNestedText};
 ghost use Rattle.cal_script.specs.Names.{is_name};
@@ -20,7 +19,7 @@ const LONGEST_TEXT: usize = 4_096;
 /// The attribute that the words behind `attribute` declare.
 #[tactic(auto, using(crate::proofs::Cuts::attribute_of_more))]
 pub(crate) fn attribute_of(alloc: Global, rest: Option<&str>) -> Result<Attribute, LineEnd>
-    ensures said { Gives (λ attribute. attribute) result (attribute_of (words_behind (option_copied rest.entry))) }
+    ensures said { Gives (λ attribute. attribute) result (attribute_of (words_behind rest.entry)) }
     ensures shape { IfOk result (λ attribute. IsNestedText attribute) }
 {
     let (name, rest) = first_word(rest.ok_or(BAD)?);
@@ -42,7 +41,7 @@ pub(crate) fn attribute_of(alloc: Global, rest: Option<&str>) -> Result<Attribut
 /// The channel that the words behind `channel` declare.
 #[tactic(auto, using(crate::proofs::Cuts::channel_of_more))]
 pub(crate) fn channel_of(alloc: Global, rest: Option<&str>) -> Result<Channel, LineEnd>
-    ensures said { Gives (λ channel. channel) result (channel_of (words_behind (option_copied rest.entry))) }
+    ensures said { Gives (λ channel. channel) result (channel_of (words_behind rest.entry)) }
     ensures shape { IfOk result (λ channel. IsTrue (is_name channel.name)) }
 {
     let (name, rest) = first_word(rest.ok_or(BAD)?);
@@ -75,7 +74,8 @@ pub(crate) fn opening_of(
     rest: Option<&str>,
 ) -> Result<(u32, Text), LineEnd>
     requires { length attributes.now < 2 ^ 32 }
-    ensures said { Gives (λ opening. opening) result (opening_of attributes.now (words_behind (option_copied rest.entry))) }
+    ensures said { Gives (λ opening. opening) result
+        (opening_of attributes.now (words_behind rest.entry)) }
     ensures place { IfOk result (λ opening. opening.0 < length attributes.now) }
     ensures short { IfOk result (λ opening. length opening.1 ≤ 4096) }
 {
@@ -92,7 +92,8 @@ pub(crate) fn opening_of(
 #[tactic(auto, using(crate::proofs::Cuts::closing_of_more))]
 pub(crate) fn closing_of(attributes: &[Attribute], rest: Option<&str>) -> Result<u32, LineEnd>
     requires { length attributes.now < 2 ^ 32 }
-    ensures said { Gives (λ attr. attr) result (closing_of attributes.now (words_behind (option_copied rest.entry))) }
+    ensures said { Gives (λ attr. attr) result
+        (closing_of attributes.now (words_behind rest.entry)) }
     ensures place { IfOk result (λ attr. attr < length attributes.now) }
 {
     let (name, rest) = first_word(rest.ok_or(BAD)?);

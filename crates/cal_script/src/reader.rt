@@ -1,5 +1,4 @@
 ghost use Rattle.std.specs.Prelude.{◌≡◌, length, IfOk, OnOk};
-ghost use Rattle.std.specs.Option.{option_copied};
 ghost use Rattle.cal_script.specs.Lines.{words_of};
 ghost use Rattle.cal_script.specs.Reading.{no_lines, has_room, open_now, attribute_after, channel_after, thread_after, begin_after, end_after, snapshot_after, words_after, line_after};
 ghost use Rattle.cal_script.specs.Reader.{IsReading, script_of, threads_of};
@@ -16,7 +15,8 @@ const MOST_LINES: usize = 1_048_576;
 
 const MOST_OPEN: usize = 128;
 
-/// What the lines of a script say so far. Beside the lines of the thread stands how many values they leave open.
+/// What the lines of a script say so far. Beside the lines of the thread stands how many values they
+/// leave open.
 #[derive(Drop)]
 pub(crate) struct Reader {
     attributes: Seq<Attribute>,
@@ -47,7 +47,8 @@ impl Reader {
     #[tactic(auto, unfolding(crate::specs::Reading::line_after), using(crate::proofs::Cuts::texts))]
     pub(crate) fn read_line(&mut self, alloc: Global, line: &[u8]) -> Result<(), LineEnd>
         requires { IsReading self.old }
-        ensures said { Gives (λ _. script_of self.new) result (line_after (script_of self.old) line.now) }
+        ensures said { Gives (λ _. script_of self.new) result
+            (line_after (script_of self.old) line.now) }
         ensures kept { OnOk result (IsReading self.new) }
     {
         let Ok(text) = std::str::from_utf8(line) else {
@@ -85,7 +86,8 @@ impl Reader {
 
     fn read_words(&mut self, alloc: Global, line: &str) -> Result<(), LineEnd>
         requires { IsReading self.old }
-        ensures said { Gives (λ _. script_of self.new) result (words_after (script_of self.old) (words_of line.now)) }
+        ensures said { Gives (λ _. script_of self.new) result
+            (words_after (script_of self.old) (words_of line.now)) }
         ensures kept { OnOk result (IsReading self.new) }
     {
         let (word, rest) = first_word(line);
@@ -102,7 +104,8 @@ impl Reader {
 
     fn read_attribute(&mut self, alloc: Global, rest: Option<&str>) -> Result<(), LineEnd>
         requires { IsReading self.old }
-        ensures said { Gives (λ _. script_of self.new) result (attribute_after (script_of self.old) (words_behind (option_copied rest.entry))) }
+        ensures said { Gives (λ _. script_of self.new) result
+            (attribute_after (script_of self.old) (words_behind rest.entry)) }
         ensures kept { OnOk result (IsReading self.new) }
     {
         let attribute = attribute_of(alloc, rest)?;
@@ -115,7 +118,8 @@ impl Reader {
 
     fn read_channel(&mut self, alloc: Global, rest: Option<&str>) -> Result<(), LineEnd>
         requires { IsReading self.old }
-        ensures said { Gives (λ _. script_of self.new) result (channel_after (script_of self.old) (words_behind (option_copied rest.entry))) }
+        ensures said { Gives (λ _. script_of self.new) result
+            (channel_after (script_of self.old) (words_behind rest.entry)) }
         ensures kept { OnOk result (IsReading self.new) }
     {
         let channel = channel_of(alloc, rest)?;
@@ -129,7 +133,8 @@ impl Reader {
     #[tactic(auto, using(crate::proofs::Cuts::thread_after_more))]
     fn read_thread(&mut self, rest: Option<&str>) -> Result<(), LineEnd>
         requires { IsReading self.old }
-        ensures said { Gives (λ _. script_of self.new) result (thread_after (script_of self.old) (words_behind (option_copied rest.entry))) }
+        ensures said { Gives (λ _. script_of self.new) result
+            (thread_after (script_of self.old) (words_behind rest.entry)) }
         ensures kept { OnOk result (IsReading self.new) }
     {
         if let Some(_) = rest {
@@ -150,7 +155,8 @@ impl Reader {
 
     fn read_begin(&mut self, alloc: Global, rest: Option<&str>) -> Result<(), LineEnd>
         requires { IsReading self.old }
-        ensures said { Gives (λ _. script_of self.new) result (begin_after (script_of self.old) (words_behind (option_copied rest.entry))) }
+        ensures said { Gives (λ _. script_of self.new) result
+            (begin_after (script_of self.old) (words_behind rest.entry)) }
         ensures kept { OnOk result (IsReading self.new) }
     {
         let (attr, text) = opening_of(alloc, self.attributes.as_slice(), rest)?;
@@ -166,7 +172,8 @@ impl Reader {
 
     fn read_end(&mut self, rest: Option<&str>) -> Result<(), LineEnd>
         requires { IsReading self.old }
-        ensures said { Gives (λ _. script_of self.new) result (end_after (script_of self.old) (words_behind (option_copied rest.entry))) }
+        ensures said { Gives (λ _. script_of self.new) result
+            (end_after (script_of self.old) (words_behind rest.entry)) }
         ensures kept { OnOk result (IsReading self.new) }
     {
         let attr = closing_of(self.attributes.as_slice(), rest)?;
@@ -181,7 +188,8 @@ impl Reader {
     #[tactic(auto, using(crate::proofs::Cuts::snapshot_after_more))]
     fn read_snapshot(&mut self, rest: Option<&str>) -> Result<(), LineEnd>
         requires { IsReading self.old }
-        ensures said { Gives (λ _. script_of self.new) result (snapshot_after (script_of self.old) (words_behind (option_copied rest.entry))) }
+        ensures said { Gives (λ _. script_of self.new) result
+            (snapshot_after (script_of self.old) (words_behind rest.entry)) }
         ensures kept { OnOk result (IsReading self.new) }
     {
         if let Some(_) = rest {

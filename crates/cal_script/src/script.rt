@@ -16,7 +16,8 @@ pub struct Channel {
     pub name: Text,
 }
 
-/// A line of a thread. `attr` is a place in the script's attributes and `value` one in its values, from 0.
+/// A line of a thread. `attr` is a place in the script's attributes and `value` one in its values,
+/// from 0.
 #[derive(Clone, Copy, Debug, PartialEq, Eq)]
 pub enum Line {
     Begin { attr: u32, value: u32 },

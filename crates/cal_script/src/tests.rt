@@ -152,6 +152,7 @@ fn a_thread_has_limits(rt: HostRuntime) -> Result<(), Fail> {
 #[test]
 fn faults_have_their_names(rt: HostRuntime) -> Result<(), Fail> {
     first_fault_law();
+    spelling_law();
     assert_eq!(rt; ScriptKind::NotYet as u8, 100);
     assert_eq!(rt; ScriptKind::NotYet.name(), "NotYet");
     let end = read_script(rt.alloc(), b"channel t trace")

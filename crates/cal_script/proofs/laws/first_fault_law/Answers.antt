@@ -1,6 +1,6 @@
 use Rattle.cal_script.specs.Reading.{reading}
 use Rattle.cal_script.proofs.Runs.{not_both, none_is, first_fault_one, fault_from_none, none_from_fault, some_from_no_fault}
-use Rattle.cal_script.proofs.faults.first_fault_law.Goals as goal
+use Rattle.cal_script.proofs.laws.first_fault_law.Goals as goal
 
 pub returns : goal.returns
 returns c = record {
