@@ -1,4 +1,4 @@
-use Rattle.std.specs.Prelude.{ℕ, ◌+◌, ◌-◌, ◌*◌, ◌^◌, ◌<◌, ◌≤◌, min, OnErr, Result}
+use Rattle.std.specs.Prelude.{ℕ, ◌+◌, ◌-◌, ◌^◌, ◌<◌, ◌≤◌, min, OnErr, Result}
 
 -- the number after this one in a counter of 64 bits, which stays at its last value (ours)
 abbrev pub counted_on : ℕ → ℕ
@@ -8,8 +8,8 @@ counted_on count = min (count + 1) (2 ^ 64 - 1)
 abbrev pub Rose : ℕ → ℕ → Type 0
 Rose before now = counted_on before ≤ now
 
--- What each call does to the count of faults: it never falls, it stays within 64 bits, and where the call
--- fails it rose (ours).
+-- What each call does to the count of faults: it never falls, it stays within 64 bits, and where
+-- the call fails it rose (ours).
 pub record HasCause {T E : Type 0} (before now : ℕ) (result : Result T E) : Type 0 where
   pub later : before ≤ now
   pub within : now < 2 ^ 64

@@ -2,3 +2,4 @@ pub mod Faults
 pub mod Told
 pub mod InMemory
 pub mod Standard
+pub mod ReadEnds

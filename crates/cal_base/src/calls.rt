@@ -1,5 +1,6 @@
-ghost use Rattle.std.specs.Prelude.{◌≡◌, ◌<◌, ◌^◌, ◌↔◌, IsErr, Contains, is_ok, if◌then◌else◌};
+ghost use Rattle.std.specs.Prelude.{◌≡◌, ◌<◌, ◌^◌, ◌↔◌, IsErr, is_ok};
 ghost use Rattle.cal_base.specs.Faults.{HasCause, counted_on};
+ghost use Rattle.cal_base.specs.InMemory.{NextFails, faults_after};
 
 use crate::Failed;
 use cal_value::Seq;
@@ -26,10 +27,10 @@ impl Calls {
 
     /// Counts a call. It fails where its number is listed, and then counts a fault.
     pub(crate) fn begin(&mut self) -> Result<(), Failed>
-        ensures listed { IsErr result ↔ Contains self.old.failing (counted_on self.old.made) }
+        ensures listed { IsErr result ↔ NextFails self.old.failing self.old.made }
         ensures failing { self.new.failing ≡ self.old.failing }
         ensures made { self.new.made ≡ counted_on self.old.made }
-        ensures faults { self.new.faults ≡ (if is_ok result then self.old.faults else counted_on self.old.faults) }
+        ensures faults { self.new.faults ≡ faults_after (is_ok result) self.old.faults }
         ensures cause { HasCause self.old.faults self.new.faults result }
     {
         self.made = self.made.saturating_add(1);

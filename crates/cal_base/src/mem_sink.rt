@@ -1,5 +1,6 @@
-ghost use Rattle.std.specs.Prelude.{◌≡◌, ◌+◌, ◌-◌, ◌<◌, ◌≤◌, ◌⊎◌, ◌↔◌, [], ◌++◌, Some, length, take, IsTrue, IfOk, OnOk, OnErr, IsErr, Contains, if◌then◌else◌, is_ok};
+ghost use Rattle.std.specs.Prelude.{◌≡◌, ◌+◌, ◌-◌, ◌<◌, ◌≤◌, ◌⊎◌, ◌↔◌, [], ◌++◌, Some, length, take, IsTrue, IfOk, OnOk, OnErr, IsErr, is_ok};
 ghost use Rattle.cal_base.specs.Faults.{HasCause, counted_on};
+ghost use Rattle.cal_base.specs.InMemory.{NextFails, Overflows, faults_after, fitting};
 ghost use Rattle.cal_base.specs.Told.{Appends, AppendsFront};
 
 use crate::calls::Calls;
@@ -22,16 +23,23 @@ impl Model for MemSink {
 
     ghost Value = { Storing };
 
-    ghost view = { λ s. record { written = s.written.items; room = s.room; failing = s.calls.failing; calls = s.calls.made; faults = s.calls.faults } };
+    ghost view = { λ s. record {
+      written = s.written.items;
+      room = s.room;
+      failing = s.calls.failing;
+      calls = s.calls.made;
+      faults = s.calls.faults;
+    } };
 
     ghost invariant = { λ s. (vec_len s.written ≤ s.room) × (s.room ≤ vec_capacity s.written) };
 }
 
 impl MemSink {
-    /// A sink for at most so many bytes, for which it takes the room now. The calls whose numbers are listed
-    /// fail, counted from 1.
+    /// A sink for at most so many bytes, for which it takes the room now. The calls whose numbers are
+    /// listed fail, counted from 1.
     pub fn new(alloc: Global, room: u64, failing: Seq<u64>) -> Result<Self, OutOfMemory>
-        ensures { IfOk result (λ sink. sink ≡ record { written = []; room = room; failing = failing; calls = 0; faults = 0 }) }
+        ensures { IfOk result (λ sink. sink
+            ≡ record { written = []; room = room; failing = failing; calls = 0; faults = 0 }) }
     {
         let room = room as usize;
         Ok(MemSink {
@@ -50,8 +58,9 @@ impl MemSink {
 
     /// Appends what fits of these bytes, and answers whether that is all of them.
     fn store(&mut self, bytes: &[u8]) -> bool
-        ensures whole { IsTrue result ↔ (length self.old.written + length bytes.now ≤ self.old.room) }
-        ensures after { self.new ≡ record self.old { written = self.old.written ++ take (self.old.room - length self.old.written) bytes.now } }
+        ensures whole { IsTrue result ↔ ¬ Overflows self.old bytes.now }
+        ensures after { self.new
+            ≡ record self.old { written = self.old.written ++ fitting self.old bytes.now } }
     {
         let count = bytes.len().min(self.room - self.written.len());
         self.written.extend_from_slice(&bytes[..count]).unwrap();
@@ -66,19 +75,29 @@ impl Sink for MemSink {
 
     fn put(&mut self, bytes: &[u8]) -> Result<(), Failed>
         // As at every sink.
-        ensures ok { OnOk result (Appends (Some self.old.written) (Some self.new.written) bytes.now) }
-        ensures front { OnErr result (AppendsFront (Some self.old.written) (Some self.new.written) bytes.now) }
+        ensures ok { OnOk result (Appends (Some self.old.written)
+            (Some self.new.written) bytes.now) }
+        ensures front { OnErr result (AppendsFront (Some self.old.written)
+            (Some self.new.written) bytes.now) }
         ensures cause { HasCause self.old.faults self.new.faults result }
 
-        // On a listed call it appends nothing, and else what fits. It fails exactly where that isn't all.
-        ensures listed { Contains self.old.failing (counted_on self.old.calls) → IsErr result × (self.new.written ≡ self.old.written) }
-        ensures full { self.old.room < length self.old.written + length bytes.now → IsErr result }
-        ensures err { IsErr result → Contains self.old.failing (counted_on self.old.calls) ⊎ (self.old.room < length self.old.written + length bytes.now) }
-        ensures fits { ¬ Contains self.old.failing (counted_on self.old.calls) → self.new.written ≡ self.old.written ++ take (self.old.room - length self.old.written) bytes.now }
+        // It fails exactly on a listed call, and where the piece doesn't fit.
+        ensures listed { NextFails self.old.failing self.old.calls → IsErr result }
+        ensures full { Overflows self.old bytes.now → IsErr result }
+        ensures only { IsErr result
+            → NextFails self.old.failing self.old.calls ⊎ Overflows self.old bytes.now }
+
+        // On a listed call it appends nothing, and else what fits.
+        ensures nothing { NextFails self.old.failing self.old.calls
+            → self.new.written ≡ self.old.written }
+        ensures fits { ¬ NextFails self.old.failing self.old.calls
+            → self.new.written ≡ self.old.written ++ fitting self.old bytes.now }
+
+        // It counts the call, and its fault.
         ensures calls { self.new.calls ≡ counted_on self.old.calls }
         ensures room { self.new.room ≡ self.old.room }
         ensures failing { self.new.failing ≡ self.old.failing }
-        ensures faults { self.new.faults ≡ (if is_ok result then self.old.faults else counted_on self.old.faults) }
+        ensures faults { self.new.faults ≡ faults_after (is_ok result) self.old.faults }
     {
         self.calls.begin()?;
         if self.store(bytes) {

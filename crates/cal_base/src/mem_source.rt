@@ -1,7 +1,8 @@
-ghost use Rattle.std.specs.Prelude.{◌≡◌, ℕ, ◌<◌, ◌↔◌, [], Option, Some, length, take, drop, min, IfOk, OnErr, IsErr, Contains, if◌then◌else◌, is_ok};
+ghost use Rattle.std.specs.Prelude.{◌≡◌, ℕ, ◌<◌, ◌↔◌, [], Option, Some, length, take, drop, min, IfOk, OnErr, IsErr, is_ok};
 ghost use Rattle.std.specs.Io.{ReadsAtMost};
 ghost use Rattle.std.specs.Io.KnownBytes.{IsAtEnd};
 ghost use Rattle.cal_base.specs.Faults.{HasCause, counted_on};
+ghost use Rattle.cal_base.specs.InMemory.{NextFails, faults_after};
 ghost use Rattle.cal_base.specs.Told.{Takes};
 
 use crate::calls::Calls;
@@ -23,13 +24,19 @@ impl Model for MemSource {
 
     ghost Value = { Stored };
 
-    ghost view = { λ s. record { left = drop s.place s.bytes; failing = s.calls.failing; calls = s.calls.made; faults = s.calls.faults } };
+    ghost view = { λ s. record {
+      left = drop s.place s.bytes;
+      failing = s.calls.failing;
+      calls = s.calls.made;
+      faults = s.calls.faults;
+    } };
 
     ghost invariant = { λ s. s.place ≤ length s.bytes };
 }
 
 impl MemSource {
-    /// A source of these bytes. The calls whose numbers are listed fail, counted from 1. It takes no memory.
+    /// A source of these bytes. The calls whose numbers are listed fail, counted from 1. It takes no
+    /// memory.
     pub fn new(bytes: Seq<u8>, failing: Seq<u64>) -> Self
         ensures { result ≡ record { left = bytes; failing = failing; calls = 0; faults = 0 } }
     {
@@ -64,17 +71,20 @@ impl Source for MemSource {
 
         // As at every source.
         ensures bound { ReadsAtMost result buf.new }
-        ensures taken { IfOk result (λ n. Takes (Some self.old.left) (Some self.new.left) (take n buf.new)) }
+        ensures taken { IfOk result (λ n. Takes (Some self.old.left)
+            (Some self.new.left) (take n buf.new)) }
         ensures end { IfOk result (λ n. n ≡ 0 → self.old.left ≡ []) }
         ensures unchanged { OnErr result (self.new.left ≡ self.old.left) }
         ensures cause { HasCause self.old.faults self.new.faults result }
 
-        // It fails exactly where the call's number is listed, and else gives as much as the buffer takes.
-        ensures listed { IsErr result ↔ Contains self.old.failing (counted_on self.old.calls) }
+        // It fails exactly on a listed call, and else gives as much as the buffer takes.
+        ensures listed { IsErr result ↔ NextFails self.old.failing self.old.calls }
         ensures count { IfOk result (λ n. n ≡ min (length buf.old) (length self.old.left)) }
+
+        // It counts the call, and its fault.
         ensures calls { self.new.calls ≡ counted_on self.old.calls }
         ensures failing { self.new.failing ≡ self.old.failing }
-        ensures faults { self.new.faults ≡ (if is_ok result then self.old.faults else counted_on self.old.faults) }
+        ensures faults { self.new.faults ≡ faults_after (is_ok result) self.old.faults }
     {
         self.calls.begin()?;
         Ok(self.serve(buf))

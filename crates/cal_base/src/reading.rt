@@ -1,7 +1,8 @@
-ghost use Rattle.std.specs.Prelude.{◌≡◌, ◌<◌, ◌≤◌, IfOk, IfSome, OnOk, IsErr, IsErrOf, length, vec_len};
+ghost use Rattle.std.specs.Prelude.{◌≡◌, ◌<◌, ◌≤◌, IfOk, IfErr, IfSome, OnOk, IsErr, IsErrOf, length, vec_len};
 ghost use Rattle.std.specs.Io.KnownBytes.{IsAtEnd};
 ghost use Rattle.cal_base.specs.Faults.{Rose};
-ghost use Rattle.cal_base.specs.Told.{Takes, TakesUpTo, TakesOver};
+ghost use Rattle.cal_base.specs.Told.{Takes};
+ghost use Rattle.cal_base.specs.ReadEnds.{TakesBefore};
 
 use crate::{Failed, Source};
 use std::alloc::{AllocError, Global};
@@ -43,8 +44,8 @@ impl From<AllocError> for ReadEnd {
 /// How many bytes are asked for at once.
 const PIECE: usize = 65_536;
 
-/// Gives all that is left, where that is at most `limit` bytes. Time and memory are in the bytes' number, and
-/// 64 KiB beside them.
+/// Gives all that is left, where that is at most `limit` bytes. Time and memory are in the bytes'
+/// number, and 64 KiB beside them.
 pub fn read_all<S: Source>(alloc: Global, input: &mut S, limit: u64) -> Result<Vec<u8>, ReadEnd>
     // All that was left, to the end.
     ensures ok { IfOk result (λ bytes. Takes (S.left input.old) (S.left input.new) bytes.items) }
@@ -52,10 +53,10 @@ pub fn read_all<S: Source>(alloc: Global, input: &mut S, limit: u64) -> Result<V
     ensures within { IfOk result (λ bytes. vec_len bytes ≤ limit) }
 
     // What a refusal says, and how much was taken then.
-    ensures fault { IsErrOf result ReadEnd.ReadFault → Rose (S.faults input.old) (S.faults input.new) }
-    ensures fault_taken { IsErrOf result ReadEnd.ReadFault → TakesUpTo limit (S.left input.old) (S.left input.new) }
-    ensures too_long { IsErrOf result ReadEnd.TooLong → TakesOver limit (S.left input.old) (S.left input.new) }
-    ensures memory_taken { IsErrOf result ReadEnd.OutOfMemory → TakesUpTo limit (S.left input.old) (S.left input.new) }
+    ensures fault { IsErrOf result ReadEnd.ReadFault
+        → Rose (S.faults input.old) (S.faults input.new) }
+    ensures taken { IfErr result (λ end.
+        TakesBefore end limit (S.left input.old) (S.left input.new)) }
 
     // More than the limit is never given.
     ensures over { IfSome (S.left input.old) (λ left. limit < length left → IsErr result) }
@@ -76,10 +77,10 @@ fn take_all<S: Source>(
     ensures ok { IfOk result (λ bytes. Takes (S.left input.old) (S.left input.new) bytes.items) }
     ensures end { OnOk result (IsAtEnd (S.left input.new)) }
     ensures within { IfOk result (λ bytes. vec_len bytes ≤ limit) }
-    ensures fault { IsErrOf result ReadEnd.ReadFault → Rose (S.faults input.old) (S.faults input.new) }
-    ensures fault_taken { IsErrOf result ReadEnd.ReadFault → TakesUpTo limit (S.left input.old) (S.left input.new) }
-    ensures too_long { IsErrOf result ReadEnd.TooLong → TakesOver limit (S.left input.old) (S.left input.new) }
-    ensures memory_taken { IsErrOf result ReadEnd.OutOfMemory → TakesUpTo limit (S.left input.old) (S.left input.new) }
+    ensures fault { IsErrOf result ReadEnd.ReadFault
+        → Rose (S.faults input.old) (S.faults input.new) }
+    ensures taken { IfErr result (λ end.
+        TakesBefore end limit (S.left input.old) (S.left input.new)) }
     ensures later { S.faults input.old ≤ S.faults input.new }
 {
     let mut taken = Vec::new(alloc);

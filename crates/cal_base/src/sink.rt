@@ -15,6 +15,7 @@ pub trait Sink {
     /// Appends all these bytes, or fails and has appended some front of them.
     fn put(&mut self, bytes: &[u8]) -> Result<(), Failed>
         ensures ok { OnOk result (Appends (written self.old) (written self.new) bytes.now) }
-        ensures front { OnErr result (AppendsFront (written self.old) (written self.new) bytes.now) }
+        ensures front { OnErr result (AppendsFront (written self.old)
+            (written self.new) bytes.now) }
         ensures cause { HasCause (faults self.old) (faults self.new) result };
 }

@@ -4,8 +4,8 @@ ghost use Rattle.std.specs.Io.KnownBytes.{Appends};
 use crate::{Failed, Sink};
 use std::io::Write;
 
-/// A sink over a writer of std. It counts a fault at each `Err`, and where a write takes nothing of a piece. It
-/// tells nothing of the bytes written.
+/// A sink over a writer of std. It counts a fault at each `Err`, and where a write takes nothing of a
+/// piece. It tells nothing of the bytes written.
 #[derive(Drop)]
 pub struct StdSink<W> {
     writer: W,
@@ -38,7 +38,8 @@ impl<W: Write + Drop> Sink for StdSink<W> {
         ensures cause { HasCause self.old.faults self.new.faults result }
 
         // What the writer tells of its bytes holds here too.
-        ensures told { OnOk result (Appends (W.contents (writer_of self.old)) (W.contents (writer_of self.new)) bytes.now) }
+        ensures told { OnOk result (Appends (W.contents (writer_of self.old))
+            (W.contents (writer_of self.new)) bytes.now) }
     {
         let result = write_whole(&mut self.writer, bytes);
         self.faults = self.faults.saturating_add(u64::from(result.is_err()));

@@ -6,7 +6,8 @@ ghost use Rattle.cal_base.specs.Faults.{HasCause, counted_on};
 use crate::{Failed, Source};
 use std::io::{ErrorKind, Read};
 
-/// A source over a reader of std. It counts a fault at each `Err`, and tells nothing of the bytes left.
+/// A source over a reader of std. It counts a fault at each `Err`, save where a signal interrupts it,
+/// and tells nothing of the bytes left.
 #[derive(Drop)]
 pub struct StdSource<R> {
     reader: R,
@@ -41,7 +42,8 @@ impl<R: Read + Drop> Source for StdSource<R> {
         ensures cause { HasCause self.old.faults self.new.faults result }
 
         // What the reader tells of its bytes holds here too.
-        ensures told { ReadConsumes (R.remaining (reader_of self.old)) (R.remaining (reader_of self.new)) result buf.new }
+        ensures told { ReadConsumes (R.remaining (reader_of self.old))
+            (R.remaining (reader_of self.new)) result buf.new }
     {
         let result = read_retrying(&mut self.reader, buf);
         self.faults = self.faults.saturating_add(u64::from(result.is_err()));

@@ -1,7 +1,7 @@
 use Rattle.std.specs.Prelude.{ℕ, ◌==◌, ◌||◌, List, [], ◌∷◌, ◌++◌, if◌then◌else◌}
 
--- A byte as it is written: a backslash before backslash, comma and equals sign, a newline as backslash and `n`
--- (the `.cali` format).
+-- A byte as it is written: a backslash before backslash, comma and equals sign, a newline as
+-- backslash and `n` (the `.cali` format).
 abbrev pub escaped_byte : ℕ → List ℕ
 escaped_byte b =
     if b == 10 then 92 ∷ 110 ∷ []

@@ -1,1 +1,5 @@
 pub mod Escapes
+pub mod Spelling
+pub mod Fields
+pub mod Reading
+pub mod WrittenFields

@@ -1,4 +1,4 @@
-ghost use Rattle.std.specs.Prelude.{◌≡◌, ◌==◌, ◌↔◌, [], ◌++◌, length, IfOk, IsTrue, OnOk, OnErr, string_bytes, encode_utf8};
+ghost use Rattle.std.specs.Prelude.{◌≡◌, ◌==◌, ◌↔◌, [], ◌++◌, length, IfOk, IsTrue, OnOk, OnErr, string_bytes, encode_utf8, take, IsUtf8};
 ghost use Rattle.std.specs.Hash as fed;
 ghost use Rattle.std.specs.Ordering.{eq_by_cmp};
 ghost use Rattle.cal_value.specs.Texts.{text_cmp};
@@ -96,6 +96,14 @@ impl Text {
     {
         self.string.push(character)?;
         Ok(())
+    }
+
+    /// Cuts all behind the first `place` bytes, where these are a text.
+    pub fn truncate(&mut self, place: usize)
+        requires { IsUtf8 (take place self.old) }
+        ensures { self.new ≡ take place self.old }
+    {
+        self.string.truncate(place);
     }
 }
 

@@ -1,25 +1,18 @@
-use Rattle.std.proofs.Common.{◌++◌, take, length-append, length-take, arith}
-use Rattle.cal_base.proofs.Taking.{Takes-append}
+use Rattle.std.proofs.Common.{take, length-take, arith}
+use Rattle.std.proofs.lemmas.Result.{err_from_is_err_and}
+use Rattle.cal_base.proofs.Taking.{TakesUpTo-read, TakesOver-read}
 use Rattle.cal_base.proofs.reading.take_all.Goals as goal
 
 -- what was taken before this read, and what this one took
-pub returns-then-count-limit-clause-too_long : goal.returns-then-count-limit-clause-too_long
-returns-then-count-limit-clause-too_long g c =
-    let now = take c.in_ok-count.count c.read.new.buf in (
-    λ _. (
-      c.loop-taken.taken.items ++ now,
-      omega (arith, length-append c.loop-taken.taken.items now, length-take c.in_ok-count.count c.read.new.buf, c.loop-taken.taken.ok.0, c.in_ok-count.ensures.bound),
-      Takes-append _ _ _ _ _ c.loop-taken.invariant.taken c.in_ok-count.ensures.taken,
-    )
-    )
+pub returns-then-count-limit-clause-taken : goal.returns-then-count-limit-clause-taken
+returns-then-count-limit-clause-taken g c =
+    let now = length-take c.in_ok-count.count c.read.new.buf in
+    TakesOver-read _ _ _ _ _ _ c.loop-taken.invariant.taken c.in_ok-count.ensures.taken
+    (omega (arith, now, c.loop-taken.taken.ok.0, c.in_ok-count.ensures.bound))
 
-pub returns-in_err-extend_from_slice-clause-memory_taken :
-    goal.returns-in_err-extend_from_slice-clause-memory_taken
-returns-in_err-extend_from_slice-clause-memory_taken g c =
-    let now = take c.in_ok-count.count c.read.new.buf in (
-    λ _. (
-      c.loop-taken.taken.items ++ now,
-      omega (arith, length-append c.loop-taken.taken.items now, length-take c.in_ok-count.count c.read.new.buf, c.loop-taken.taken.ok.0, c.in_ok-count.ensures.bound),
-      Takes-append _ _ _ _ _ c.loop-taken.invariant.taken c.in_ok-count.ensures.taken,
-    )
-    )
+pub returns-in_err-extend_from_slice-clause-taken : goal.returns-in_err-extend_from_slice-clause-taken
+returns-in_err-extend_from_slice-clause-taken g c =
+    let p = err_from_is_err_and c.from_residual-in_err-extend_from_slice.result c.from_residual-in_err-extend_from_slice.ensures.1 in
+    let now = length-take c.in_ok-count.count c.read.new.buf in
+    rw (p.1, p.2) (TakesUpTo-read _ _ _ _ _ _ c.loop-taken.invariant.taken c.in_ok-count.ensures.taken
+    (omega (arith, now, c.loop-taken.taken.ok.0, c.in_ok-count.ensures.bound)))

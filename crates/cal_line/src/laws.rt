@@ -1,0 +1,33 @@
+ghost use Rattle.std.specs.Prelude.{◌≡◌, ◌↔◌, ℕ, List, ◌∷◌, Some};
+ghost use Rattle.std.specs.List.{AllByRecursion};
+ghost use Rattle.cal_line.specs.Escapes.{escaped};
+ghost use Rattle.cal_line.specs.Fields.{IsFields, IsPiece};
+ghost use Rattle.cal_line.specs.Reading.{fields_of};
+ghost use Rattle.cal_line.specs.Spelling.{Spells};
+ghost use Rattle.cal_line.specs.WrittenFields.{IsWritable, written_fields};
+ghost use Rattle.cal_line.specs.declared.field.Field.{Field};
+
+/// A line has at most one list of fields, which is a function of it.
+pub fn one_list_of_fields()
+    ensures one { (line : List ℕ) (fields others : List Field)
+        → IsFields line fields → IsFields line others → fields ≡ others }
+    ensures computed { (line : List ℕ) (fields : List Field)
+        → (IsFields line fields ↔ (fields_of line ≡ Some fields)) }
+{}
+
+/// Bytes spell at most one text.
+pub fn one_text()
+    ensures { (bytes text other : List ℕ) → Spells bytes text → Spells bytes other → text ≡ other }
+{}
+
+/// What is written of a text spells it, by itself and in a line.
+pub fn escaped_spells_the_text()
+    ensures alone { (text : List ℕ) → Spells (escaped text) text }
+    ensures in_line { (text : List ℕ) → IsPiece (escaped text) text }
+{}
+
+/// A line that is written of fields has these fields.
+pub fn written_fields_are_read()
+    ensures { (field : Field) (fields : List Field) → AllByRecursion IsWritable (field ∷ fields)
+        → IsFields (written_fields field fields) (field ∷ fields) }
+{}
