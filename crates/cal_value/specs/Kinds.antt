@@ -1,4 +1,5 @@
-use Rattle.std.specs.Prelude.{ℕ, List, codes}
+use Rattle.std.specs.Prelude.{ℕ, List, [], ◌∷◌, Option, codes, find, nat_eq}
+use Rattle.std.specs.Cmp.Lexicographic.{pointwise}
 use Rattle.cal_value.specs.declared.kind.Kind.{Kind}
 use Rattle.cal_value.specs.declared.kind.Kind.TheVariants.{Usr, Int, Uint, Str, Addr, Double, Bool, TypeName, Ptr}
 
@@ -25,3 +26,11 @@ kind_name Double = codes "double"
 kind_name Bool = codes "bool"
 kind_name TypeName = codes "type"
 kind_name Ptr = codes "ptr"
+
+-- the kinds, in the order of their nodes
+abbrev pub every_kind : List Kind
+every_kind = Usr ∷ Int ∷ Uint ∷ Str ∷ Addr ∷ Double ∷ Bool ∷ TypeName ∷ Ptr ∷ []
+
+-- the kind of this name, if there is one
+abbrev pub kind_named : List ℕ → Option Kind
+kind_named name = find (λ k. pointwise nat_eq name (kind_name k)) every_kind

@@ -5,3 +5,5 @@ pub mod ExactOrder
 pub mod Order
 pub mod OrderLaws
 pub mod Flat
+pub mod Reading
+pub mod Props

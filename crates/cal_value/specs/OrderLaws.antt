@@ -119,3 +119,6 @@ group_exact = record {
   total = then_total (on_total (λ (r : Rec). r.paths) (lists_exact path_exact).total) (on_total (λ (r : Rec). r.imms) path_exact.total);
   exact = group_tied;
 }
+
+-- the orders of this crate, for a proof that needs any of them
+pub ruleset exact_orders = (text_exact, kind_exact, props_exact, value_exact, attribute_exact, entry_exact, path_exact, group_exact)

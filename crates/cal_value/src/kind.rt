@@ -1,12 +1,15 @@
-ghost use Rattle.std.specs.Prelude.{◌≡◌, ◌↔◌, IsTrue};
-ghost use Rattle.std.specs.Ordering.{eq_by_cmp};
-ghost use Rattle.cal_value.specs.Kinds.{kind_name, kind_node};
+ghost use Rattle.std.specs.Prelude.{◌≡◌, ◌≢◌, ◌↔◌, IfNone, IfSome, IsTrue, refl};
+ghost use Rattle.std.specs.Cmp.{partial_order_from_total};
+ghost use Rattle.std.specs.Ordering.{as_partial_cmp, eq_by_cmp};
+ghost use Rattle.cal_value.specs.Kinds.{kind_name, kind_named, kind_node};
+ghost use Rattle.cal_value.specs.declared.kind.Kind.{Kind};
 ghost use Rattle.cal_value.specs.Order.{kind_cmp};
 ghost use Rattle.cal_value.specs.OrderLaws.{kind_exact};
-ghost use Rattle.cal_value.specs.ExactOrder.{exact_per, exact_equiv, exact_alike};
+ghost use Rattle.cal_value.specs.ExactOrder.{exact_equiv, exact_per};
 
 use crate::{OutOfMemory, TryCopy};
 use std::alloc::Global;
+use std::cmp::Ordering;
 
 /// What the values of an attribute are (Caliper's data model; the numbers of the nodes are this project's).
 #[derive(Clone, Copy, Debug, Hash)]
@@ -56,6 +59,32 @@ impl Kind {
             Kind::Ptr => "ptr",
         }
     }
+
+    /// The kind of this name, in the very letters.
+    pub fn from_name(name: &str) -> Option<Kind>
+        ensures value { result ≡ kind_named name.now }
+        ensures named { IfSome result (λ kind. kind_name kind ≡ name.now) }
+        ensures none { IfNone result ((kind : Kind) → kind_name kind ≢ name.now) }
+    {
+        match name {
+            "usr" => Some(Kind::Usr),
+            "int" => Some(Kind::Int),
+            "uint" => Some(Kind::Uint),
+            "string" => Some(Kind::Str),
+            "addr" => Some(Kind::Addr),
+            "double" => Some(Kind::Double),
+            "bool" => Some(Kind::Bool),
+            "type" => Some(Kind::TypeName),
+            "ptr" => Some(Kind::Ptr),
+            _ => None,
+        }
+    }
+}
+
+impl TryCopy for Kind {
+    fn copy(&self, _alloc: Global) -> Result<Self, OutOfMemory> {
+        Ok(*self)
+    }
 }
 
 impl PartialEq for Kind {
@@ -75,8 +104,26 @@ impl Eq for Kind {
     ghost laws = { exact_equiv kind_exact };
 }
 
-impl TryCopy for Kind {
-    fn copy(&self, _alloc: Global) -> Result<Self, OutOfMemory> {
-        Ok(*self)
+impl PartialOrd for Kind {
+    ghost partial_cmp = { as_partial_cmp kind_cmp };
+
+    ghost laws = { partial_order_from_total kind_exact.total };
+
+    fn partial_cmp(&self, other: &Kind) -> Option<Ordering> {
+        Some(self.cmp(other))
+    }
+}
+
+impl Ord for Kind {
+    ghost cmp = { kind_cmp };
+
+    ghost total = { kind_exact.total };
+
+    ghost matches_partial_cmp = { λ _ _. refl };
+
+    ghost matches_eq = { λ _ _. refl };
+
+    fn cmp(&self, other: &Kind) -> Ordering {
+        self.node().cmp(&other.node())
     }
 }

@@ -1,4 +1,5 @@
 ghost use Rattle.std.specs.Prelude.{◌≡◌, ◌++◌, OnOk, OnErr};
+ghost use Rattle.cal_value.specs.Reading.{IsInRange};
 ghost use Rattle.cal_value.specs.Values.{address_text, value_text};
 
 use crate::{OutOfMemory, Text, Variant};
@@ -8,6 +9,7 @@ use itoa::{Buffer, Integer};
 pub fn print_value(value: &Variant, out: &mut Text) -> Result<(), OutOfMemory>
     ensures ok { OnOk result (out.new ≡ out.old ++ value_text value.now) }
     ensures err { OnErr result (out.new ≡ out.old) }
+    ensures range { IsInRange value.now }
 {
     match value {
         Variant::Int(number) => print_number(*number, out),
@@ -30,6 +32,7 @@ fn print_number<I: Integer>(number: I, out: &mut Text) -> Result<(), OutOfMemory
     out.push_str(digits.format(number))
 }
 
+// `out` is to stay as it was on an error, so the text is made beside it.
 fn print_address(address: u64, out: &mut Text) -> Result<(), OutOfMemory>
     ensures ok { OnOk result (out.new ≡ out.old ++ address_text address) }
     ensures err { OnErr result (out.new ≡ out.old) }

@@ -1,11 +1,13 @@
-ghost use Rattle.std.specs.Prelude.{◌≡◌, ◌↔◌, IsTrue};
-ghost use Rattle.std.specs.Ordering.{eq_by_cmp};
+ghost use Rattle.std.specs.Prelude.{◌≡◌, ◌↔◌, IsTrue, refl};
+ghost use Rattle.std.specs.Cmp.{partial_order_from_total};
+ghost use Rattle.std.specs.Ordering.{as_partial_cmp, eq_by_cmp};
 ghost use Rattle.cal_value.specs.Order.{group_cmp};
 ghost use Rattle.cal_value.specs.OrderLaws.{group_exact};
 ghost use Rattle.cal_value.specs.ExactOrder.{exact_per, exact_equiv, exact_alike};
 
 use crate::{Entry, OutOfMemory, Seq, TryCopy, same};
 use std::alloc::Global;
+use std::cmp::Ordering;
 
 /// A snapshot or a group: the paths of its nodes, each from the root, and its immediates. No path is empty.
 #[derive(Debug, Drop, Hash)]
@@ -57,4 +59,30 @@ impl Eq for Rec {
 #[derived]
 impl Hash for Rec {
     ghost respects_eq = { exact_alike group_exact _ };
+}
+
+impl PartialOrd for Rec {
+    ghost partial_cmp = { as_partial_cmp group_cmp };
+
+    ghost laws = { partial_order_from_total group_exact.total };
+
+    fn partial_cmp(&self, other: &Rec) -> Option<Ordering> {
+        Some(self.cmp(other))
+    }
+}
+
+impl Ord for Rec {
+    ghost cmp = { group_cmp };
+
+    ghost total = { group_exact.total };
+
+    ghost matches_partial_cmp = { λ _ _. refl };
+
+    ghost matches_eq = { λ _ _. refl };
+
+    fn cmp(&self, other: &Rec) -> Ordering {
+        self.paths
+            .cmp(&other.paths)
+            .then_with(|| self.imms.cmp(&other.imms))
+    }
 }

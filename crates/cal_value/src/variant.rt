@@ -1,8 +1,5 @@
-ghost use Rattle.std.specs.Prelude.{◌≡◌, ◌↔◌, IsTrue};
-ghost use Rattle.std.specs.Ordering.{eq_by_cmp};
-ghost use Rattle.cal_value.specs.Order.{value_cmp};
+ghost use Rattle.cal_value.specs.ExactOrder.{exact_alike};
 ghost use Rattle.cal_value.specs.OrderLaws.{value_exact};
-ghost use Rattle.cal_value.specs.ExactOrder.{exact_per, exact_equiv, exact_alike};
 
 use crate::{Kind, OutOfMemory, Text, TryCopy};
 use std::alloc::Global;
@@ -35,60 +32,6 @@ impl TryCopy for Variant {
             Variant::Ptr(text) => Variant::Ptr(text.copy(alloc)?),
         })
     }
-}
-
-impl PartialEq for Variant {
-    ghost eq = { eq_by_cmp value_cmp };
-
-    ghost laws = { exact_per value_exact };
-
-    fn eq(&self, other: &Variant) -> bool
-        ensures value { result ≡ eq_by_cmp value_cmp self.now other.now }
-        ensures same { IsTrue result ↔ (self.now ≡ other.now) }
-    {
-        match self {
-            Variant::Int(a) => match other {
-                Variant::Int(b) => a == b,
-                _ => false,
-            },
-            Variant::Uint(a) => match other {
-                Variant::Uint(b) => a == b,
-                _ => false,
-            },
-            Variant::Text(a) => match other {
-                Variant::Text(b) => *a == *b,
-                _ => false,
-            },
-            Variant::Bool(a) => match other {
-                Variant::Bool(b) => a == b,
-                _ => false,
-            },
-            Variant::Addr(a) => match other {
-                Variant::Addr(b) => a == b,
-                _ => false,
-            },
-            Variant::Kind(a) => match other {
-                Variant::Kind(b) => a == b,
-                _ => false,
-            },
-            Variant::Real(a) => match other {
-                Variant::Real(b) => *a == *b,
-                _ => false,
-            },
-            Variant::Usr(a) => match other {
-                Variant::Usr(b) => *a == *b,
-                _ => false,
-            },
-            Variant::Ptr(a) => match other {
-                Variant::Ptr(b) => *a == *b,
-                _ => false,
-            },
-        }
-    }
-}
-
-impl Eq for Variant {
-    ghost laws = { exact_equiv value_exact };
 }
 
 #[derived]
