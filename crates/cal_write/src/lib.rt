@@ -12,3 +12,6 @@ mod writer;
 
 pub use whole::{WriteEnd, cali_text, write_records};
 pub use writer::Writer;
+
+#[cfg(test)]
+mod tests;
