@@ -5,17 +5,17 @@ use std::alloc::Global;
 use std::test::Fail;
 
 #[derive(Clone, Copy)]
-enum Shown<'a> {
-    Text(&'a str),
+enum Shown {
+    Text(&'static str),
     Int(i128),
     Uint(u64),
 }
 
 /// An entry: the attribute's name, kind and properties, and the value.
 #[derive(Clone, Copy)]
-struct Said<'a>(&'a str, Kind, u32, Shown<'a>);
+struct Said(&'static str, Kind, u32, Shown);
 
-fn entry(alloc: Global, said: Said<'_>) -> Result<Entry, OutOfMemory> {
+fn entry(alloc: Global, said: Said) -> Result<Entry, OutOfMemory> {
     Ok(Entry {
         attr: Attribute {
             name: Text::from_str(alloc, said.0)?,
@@ -30,7 +30,7 @@ fn entry(alloc: Global, said: Said<'_>) -> Result<Entry, OutOfMemory> {
     })
 }
 
-fn entries(alloc: Global, said: &[Said<'_>]) -> Result<Seq<Entry>, OutOfMemory> {
+fn entries(alloc: Global, said: &[Said]) -> Result<Seq<Entry>, OutOfMemory> {
     let mut all = Seq::new(alloc);
     for one in said {
         all.push(entry(alloc, *one)?)?;
@@ -38,39 +38,48 @@ fn entries(alloc: Global, said: &[Said<'_>]) -> Result<Seq<Entry>, OutOfMemory> 
     Ok(all)
 }
 
-/// A record of one path, where that has an entry, and of immediates.
-fn record(alloc: Global, path: &[Said<'_>], imms: &[Said<'_>]) -> Result<Rec, OutOfMemory> {
+/// Adds a record of one path, where that has an entry, and of immediates.
+fn add(
+    alloc: Global,
+    rows: &mut Seq<Rec>,
+    path: &[Said],
+    imms: &[Said],
+) -> Result<(), OutOfMemory> {
     let mut paths = Seq::new(alloc);
     if !path.is_empty() {
         paths.push(entries(alloc, path)?)?;
     }
-    Ok(Rec {
-        paths,
-        imms: entries(alloc, imms)?,
-    })
+    let imms = entries(alloc, imms)?;
+    rows.push(Rec { paths, imms })
 }
 
-fn function(name: &str) -> Said<'_> {
+fn function(name: &'static str) -> Said {
     Said("function", Kind::Str, 276, Shown::Text(name))
 }
 
-fn phase(name: &str) -> Said<'_> {
+fn phase(name: &'static str) -> Said {
     Said("phase", Kind::Str, 276, Shown::Text(name))
 }
 
-fn result(name: &str, number: i128) -> Said<'_> {
+fn result(name: &'static str, number: i128) -> Said {
     Said(name, Kind::Int, 65, Shown::Int(number))
 }
 
-fn nanoseconds(name: &str, number: u64) -> Said<'_> {
+fn nanoseconds(name: &'static str, number: u64) -> Said {
     Said(name, Kind::Uint, 65, Shown::Uint(number))
 }
 
-fn event<'a>(name: &'a str, value: &'a str) -> Said<'a> {
+fn event(name: &'static str, value: &'static str) -> Said {
     Said(name, Kind::Str, 65, Shown::Text(value))
 }
 
-fn times(count: i128, sum: i128, least: i128, greatest: i128) -> [Said<'static>; 4] {
+fn one_node(alloc: Global) -> Result<Records, OutOfMemory> {
+    let mut rows = Seq::new(alloc);
+    add(alloc, &mut rows, &[function("main")], &[])?;
+    Ok(Records { rows })
+}
+
+fn times(count: i128, sum: i128, least: i128, greatest: i128) -> [Said; 4] {
     [
         result("count", count),
         result("sum#time.duration.ns", sum),
@@ -79,12 +88,66 @@ fn times(count: i128, sum: i128, least: i128, greatest: i128) -> [Said<'static>;
     ]
 }
 
-/// The records, as a path and immediates each, and their text.
-fn rows(alloc: Global, records: &[(&[Said<'_>], &[Said<'_>])]) -> Result<Records, OutOfMemory> {
+fn profile(alloc: Global) -> Result<Records, OutOfMemory> {
+    let main = function("main");
+    let steps = Said("loop", Kind::Str, 276, Shown::Text("steps"));
+    let solve = function("solve");
     let mut rows = Seq::new(alloc);
-    for (path, imms) in records {
-        rows.push(record(alloc, path, imms)?)?;
-    }
+    add(alloc, &mut rows, &[], &times(4, 0, 0, 0))?;
+    add(alloc, &mut rows, &[main], &times(8, 48, 2, 10))?;
+    add(alloc, &mut rows, &[main, steps], &times(20, 40, 0, 5))?;
+    add(alloc, &mut rows, &[main, steps, solve], &times(8, 200, 20, 30))?;
+    Ok(Records { rows })
+}
+
+fn phases(alloc: Global) -> Result<Records, OutOfMemory> {
+    let mut rows = Seq::new(alloc);
+    add(alloc, &mut rows, &[phase("a")], &[])?;
+    add(alloc, &mut rows, &[phase("b")], &[])?;
+    add(alloc, &mut rows, &[phase("b"), function("f")], &[])?;
+    Ok(Records { rows })
+}
+
+fn limits(alloc: Global) -> Result<Records, OutOfMemory> {
+    let imms = [
+        result("count", 2),
+        result("sum#lo", -18446744073709551616),
+        result("min#lo", -9223372036854775808),
+        result("sum#hi", 36893488147419103230),
+    ];
+    let mut rows = Seq::new(alloc);
+    add(alloc, &mut rows, &[], &imms)?;
+    Ok(Records { rows })
+}
+
+fn events(alloc: Global) -> Result<Records, OutOfMemory> {
+    let begin = [
+        event("event.begin#function", "main"),
+        nanoseconds("time.duration.ns", 0),
+    ];
+    let end = [
+        event("event.end#function", "main"),
+        nanoseconds("time.duration.ns", 5),
+        nanoseconds("time.inclusive.duration.ns", 5),
+    ];
+    let mut rows = Seq::new(alloc);
+    add(alloc, &mut rows, &[], &begin)?;
+    add(alloc, &mut rows, &[function("main")], &end)?;
+    Ok(Records { rows })
+}
+
+/// An attribute without properties, one of the same name with some, a path twice, an escape, and nothing.
+fn mixed(alloc: Global) -> Result<Records, OutOfMemory> {
+    let plain = Said("x", Kind::Str, 0, Shown::Text("a,b=c\\d\ne"));
+    let imms = [
+        Said("x", Kind::Str, 1, Shown::Text("v")),
+        Said("x", Kind::Str, 0, Shown::Text("w")),
+    ];
+    let mut rows = Seq::new(alloc);
+    add(alloc, &mut rows, &[plain], &[])?;
+    add(alloc, &mut rows, &[plain], &[])?;
+    add(alloc, &mut rows, &[], &imms)?;
+    add(alloc, &mut rows, &[], &[])?;
     Ok(Records { rows })
 }
 
@@ -148,7 +211,6 @@ __rec=node,id=20,attr=8,data=time.inclusive.duration.ns,parent=14
 __rec=ctx,ref=18,attr=19=15=20,data=main=5=5
 ";
 
-// An attribute without properties, one of the same name with some, a path twice, an escape, and nothing.
 const MIXED: &str = "\
 __rec=node,id=12,attr=8,data=x,parent=3
 __rec=node,id=13,attr=12,data=a\\,b\\=c\\\\d\\ne
@@ -163,102 +225,16 @@ __rec=ctx
 #[test]
 fn canonical_texts(rt: HostRuntime) -> Result<(), Fail> {
     let alloc = rt.alloc();
-    let steps = Said("loop", Kind::Str, 276, Shown::Text("steps"));
-    let plain = Said("x", Kind::Str, 0, Shown::Text("a,b=c\\d\ne"));
     let table = [
-        ("one node", rows(alloc, &[(&[function("main")], &[])])?, MAIN),
-        (
-            "a profile",
-            rows(
-                alloc,
-                &[
-                    (&[], &times(4, 0, 0, 0)),
-                    (&[function("main")], &times(8, 48, 2, 10)),
-                    (&[function("main"), steps], &times(20, 40, 0, 5)),
-                    (
-                        &[function("main"), steps, function("solve")],
-                        &times(8, 200, 20, 30),
-                    ),
-                ],
-            )?,
-            PROFILE,
-        ),
-        (
-            "phases",
-            rows(
-                alloc,
-                &[
-                    (&[phase("a")], &[]),
-                    (&[phase("b")], &[]),
-                    (&[phase("b"), function("f")], &[]),
-                ],
-            )?,
-            PHASES,
-        ),
-        (
-            "limits",
-            rows(
-                alloc,
-                &[(
-                    &[],
-                    &[
-                        result("count", 2),
-                        result("sum#lo", -18446744073709551616),
-                        result("min#lo", -9223372036854775808),
-                        result("sum#hi", 36893488147419103230),
-                    ],
-                )],
-            )?,
-            LIMITS,
-        ),
-        (
-            "events",
-            rows(
-                alloc,
-                &[
-                    (
-                        &[],
-                        &[
-                            event("event.begin#function", "main"),
-                            nanoseconds("time.duration.ns", 0),
-                        ],
-                    ),
-                    (
-                        &[function("main")],
-                        &[
-                            event("event.end#function", "main"),
-                            nanoseconds("time.duration.ns", 5),
-                            nanoseconds("time.inclusive.duration.ns", 5),
-                        ],
-                    ),
-                ],
-            )?,
-            EVENTS,
-        ),
-        (
-            "mixed",
-            rows(
-                alloc,
-                &[
-                    (&[plain], &[]),
-                    (&[plain], &[]),
-                    (
-                        &[],
-                        &[
-                            Said("x", Kind::Str, 1, Shown::Text("v")),
-                            Said("x", Kind::Str, 0, Shown::Text("w")),
-                        ],
-                    ),
-                    (&[], &[]),
-                ],
-            )?,
-            MIXED,
-        ),
-        ("no record", rows(alloc, &[])?, ""),
+        (one_node(alloc)?, MAIN),
+        (profile(alloc)?, PROFILE),
+        (phases(alloc)?, PHASES),
+        (limits(alloc)?, LIMITS),
+        (events(alloc)?, EVENTS),
+        (mixed(alloc)?, MIXED),
     ];
-    for (name, records, expected) in table {
-        let text = cali_text(alloc, &records)?;
-        assert_eq!(rt; text.as_str(), expected, "{name}");
+    for (records, expected) in table {
+        assert_eq!(rt; cali_text(alloc, &records)?.as_str(), expected);
     }
     Ok(())
 }
@@ -266,7 +242,7 @@ fn canonical_texts(rt: HostRuntime) -> Result<(), Fail> {
 #[test]
 fn written_to_a_sink(rt: HostRuntime) -> Result<(), Fail> {
     let alloc = rt.alloc();
-    let records = rows(alloc, &[(&[function("main")], &[])])?;
+    let records = one_node(alloc)?;
     let mut sink = MemSink::new(alloc, 1000, Seq::new(alloc))?;
     write_records(alloc, &mut sink, &records)?;
     assert_eq!(rt; sink.bytes(), MAIN.as_bytes());
