@@ -10,5 +10,8 @@ mod nodes;
 mod whole;
 mod writer;
 
-pub use whole::cali_text;
+pub use whole::{WriteEnd, cali_text, write_records};
 pub use writer::Writer;
+
+#[cfg(test)]
+mod tests;

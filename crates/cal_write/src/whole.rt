@@ -1,9 +1,44 @@
-ghost use Rattle.std.specs.Prelude.{◌≡◌, IfOk};
+ghost use Rattle.std.specs.Prelude.{◌≡◌, ◌≤◌, IfOk, OnOk, IsErrOf};
+ghost use Rattle.cal_base.specs.Faults.{Rose};
+ghost use Rattle.cal_base.specs.Told.{Appends, AppendsFront};
 ghost use Rattle.cal_write.specs.CanonicalText.{canonical_text};
 
 use crate::Writer;
+use cal_base::{Failed, Sink};
 use cal_value::{OutOfMemory, Records, Text};
 use std::alloc::Global;
+use thiserror::Error;
+
+/// Why records weren't written.
+#[derive(Clone, Copy, Debug, PartialEq, Eq, Error)]
+pub enum WriteEnd {
+    #[error("a write failed")]
+    WriteFault,
+    #[error("out of memory")]
+    OutOfMemory,
+}
+
+impl From<Failed> for WriteEnd {
+    ghost use Rattle.std.specs.Prelude.{◌≡◌};
+    ghost use Rattle.cal_write.specs.declared.whole.WriteEnd.TheVariants.{WriteFault};
+
+    ghost from_gives = { λ _ e. e ≡ WriteFault };
+
+    fn from(_failed: Failed) -> WriteEnd {
+        WriteEnd::WriteFault
+    }
+}
+
+impl From<OutOfMemory> for WriteEnd {
+    ghost use Rattle.std.specs.Prelude.{◌≡◌};
+    ghost use Rattle.cal_write.specs.declared.whole.WriteEnd.TheVariants.{OutOfMemory};
+
+    ghost from_gives = { λ _ e. e ≡ OutOfMemory };
+
+    fn from(_error: OutOfMemory) -> WriteEnd {
+        WriteEnd::OutOfMemory
+    }
+}
 
 /// The canonical text of all records.
 pub fn cali_text(alloc: Global, records: &Records) -> Result<Text, OutOfMemory>
@@ -14,4 +49,23 @@ pub fn cali_text(alloc: Global, records: &Records) -> Result<Text, OutOfMemory>
         writer.put(rec)?;
     }
     Ok(writer.into_text())
+}
+
+/// Writes the canonical text of all records. The whole text is made before its first byte is written.
+pub fn write_records<W: Sink>(
+    alloc: Global,
+    output: &mut W,
+    records: &Records,
+) -> Result<(), WriteEnd>
+    ensures ok { OnOk result (Appends (W.written output.old) (W.written output.new) (canonical_text records.now.rows)) }
+    ensures later { W.faults output.old ≤ W.faults output.new }
+
+    // A fault may leave a front of the text behind what was written.
+    ensures fault { IsErrOf result WriteEnd.WriteFault → Rose (W.faults output.old) (W.faults output.new) }
+    ensures front { IsErrOf result WriteEnd.WriteFault → AppendsFront (W.written output.old) (W.written output.new) (canonical_text records.now.rows) }
+    ensures memory { IsErrOf result WriteEnd.OutOfMemory → output.new ≡ output.old }
+{
+    let text = cali_text(alloc, records)?;
+    output.put(text.as_str().as_bytes())?;
+    Ok(())
 }
