@@ -1,4 +1,4 @@
-use Rattle.std.proofs.Common.{◌≡◌, ℕ, ◌+◌, ◌<◌, ◌≤◌, List, [], ◌∷◌, ◌++◌, length, Option, None, Some, IfSome, Result, Ok, Err, IfOk, OnOk, IsErr, Vec, Global, vec_len, refl, sym, ap, ◌∙◌, append_assoc, length-append, arith}
+use Rattle.std.proofs.Common.{ℕ, ◌+◌, ◌<◌, ◌≤◌, List, [], ◌++◌, length, Option, None, Some, IfSome, Result, Ok, Err, IfOk, OnOk, IsErr, Vec, Global, vec_len, refl, sym, ap, ◌∙◌, append_assoc, length-append, arith}
 use Rattle.std.specs.Io.KnownBytes.{IsAtEnd}
 use Rattle.cal_base.specs.declared.reading.ReadEnd.{ReadEnd}
 use Rattle.cal_base.specs.Told.{Takes, TakesUpTo, TakesOver}

@@ -1,4 +1,3 @@
-use Rattle.std.specs.Prelude.{ℕ}
 use Rattle.cal_base.specs.declared.std_source.StdSource.{StdSource}
 use Rattle.cal_base.specs.declared.std_sink.StdSink.{StdSink}
 

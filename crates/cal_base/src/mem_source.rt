@@ -1,6 +1,5 @@
-ghost use Rattle.std.specs.Prelude.{◌≡◌, ℕ, ◌<◌, ◌↔◌, [], Option, Some, length, take, drop, min, IfOk, OnErr, IsErr, is_ok};
+ghost use Rattle.std.specs.Prelude.{◌≡◌, ◌<◌, ◌↔◌, [], Some, length, take, drop, min, IfOk, OnErr, IsErr, is_ok};
 ghost use Rattle.std.specs.Io.{ReadsAtMost};
-ghost use Rattle.std.specs.Io.KnownBytes.{IsAtEnd};
 ghost use Rattle.cal_base.specs.Faults.{HasCause, counted_on};
 ghost use Rattle.cal_base.specs.InMemory.{NextFails, faults_after};
 ghost use Rattle.cal_base.specs.Told.{Takes};

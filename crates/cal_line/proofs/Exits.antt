@@ -1,4 +1,4 @@
-use Rattle.std.proofs.Common.{◌≡◌, Result, Ok, Err, ap}
+use Rattle.std.proofs.Common.{◌≡◌, Err, ap}
 use Rattle.std.specs.Result.{IsErrOf}
 
 -- an error is the same at another type of answers

@@ -1,10 +1,10 @@
-use Rattle.std.proofs.Common.{◌≡◌, ◌≢◌, ℕ, ◌+◌, ◌<◌, ◌≤◌, Bool, true, false, not, ◌||◌, cond, eqb, List, [], ◌∷◌, ◌++◌, length, Option, None, Some, map, refl, sym, ap, subst, ◌∙◌, append_assoc, append-nil, arith, eqb-true, eq-eqb}
+use Rattle.std.proofs.Common.{◌≡◌, ◌≢◌, ℕ, Bool, true, false, not, ◌||◌, cond, eqb, List, [], ◌∷◌, ◌++◌, Option, None, Some, map, refl, sym, ap, subst, ◌∙◌, append_assoc, append-nil, eqb-true}
 use Rattle.std.specs.Option.{option_map, option_and_then}
 use Rattle.std.proofs.lemmas.Bool.{eqb-false}
 use Rattle.cal_line.specs.Spelling.{separates, is_plain, SpellsIn, nothing, itself, newline, taken}
 use Rattle.cal_line.specs.Fields.{IsPiece, Separated, IsField, IsFields}
 use Rattle.cal_line.specs.declared.field.Field.{Field}
-use Rattle.cal_line.specs.Reading.{taken_for, LineRest, at_end, put_character, put_equals, put_comma, put_byte, rest_of, field_of, with_field, all_fields, fields_in, fields_of}
+use Rattle.cal_line.specs.Reading.{taken_for, LineRest, put_character, put_equals, put_comma, put_byte, rest_of, field_of, with_field, all_fields, fields_in, fields_of}
 use Rattle.cal_line.proofs.PieceSteps.{eqb-apart}
 use Rattle.cal_line.proofs.LineSteps.{rest_of-byte, rest_of-taken, option_map-put_byte}
 

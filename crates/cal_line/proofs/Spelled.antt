@@ -1,10 +1,10 @@
-use Rattle.std.proofs.Common.{◌≡◌, ◌≢◌, ℕ, ◌+◌, Bool, true, false, not, ◌||◌, ◌&&◌, cond, eqb, List, [], ◌∷◌, ◌++◌, Option, None, Some, refl, sym, ap, subst, ◌∙◌, append_assoc, arith, eqb-true}
+use Rattle.std.proofs.Common.{◌≡◌, ◌≢◌, ℕ, Bool, true, false, not, ◌||◌, ◌&&◌, cond, eqb, List, [], ◌∷◌, ◌++◌, Option, None, Some, refl, sym, ap, subst, ◌∙◌, arith, eqb-true}
 use Rattle.std.specs.Option.{option_map}
 use Rattle.std.specs.List.{AllByRecursion}
 use Rattle.std.proofs.lemmas.Bool.{eqb-false}
 use Rattle.std.proofs.lemmas.Bool.Decides.{nat_tests}
 use Rattle.cal_line.specs.Escapes.{escaped, escaped_byte}
-use Rattle.cal_line.specs.Spelling.{separates, is_plain, SpellsIn, nothing, itself, newline, taken, Spells}
+use Rattle.cal_line.specs.Spelling.{is_plain, SpellsIn, nothing, itself, newline, taken, Spells}
 use Rattle.cal_line.specs.Fields.{IsPiece, Separated, IsField, IsFields}
 use Rattle.cal_line.specs.declared.field.Field.{Field}
 use Rattle.cal_line.specs.Reading.{taken_for, piece_at, put_front}

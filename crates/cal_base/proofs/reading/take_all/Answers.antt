@@ -1,4 +1,4 @@
-use Rattle.std.proofs.Common.{take, length-take, arith}
+use Rattle.std.proofs.Common.{length-take, arith}
 use Rattle.std.proofs.lemmas.Result.{err_from_is_err_and}
 use Rattle.cal_base.proofs.Taking.{TakesUpTo-read, TakesOver-read}
 use Rattle.cal_base.proofs.reading.take_all.Goals as goal

@@ -1,7 +1,6 @@
-use Rattle.std.proofs.Common.{◌≡◌, ◌<◌, ◌++◌, length, get_or, sym, ap, ◌∙◌, arith, rules}
+use Rattle.std.proofs.Common.{◌<◌, ◌++◌, length, ap, ◌∙◌, arith}
 use Rattle.std.specs.List.{between}
 use Rattle.std.proofs.lemmas.Result.{on_ok_weaker}
-use Rattle.cal_line.specs.Escapes.{escaped_byte}
 use Rattle.cal_line.proofs.EscapeSteps.{Writes-none, Writes-plain, Writes-special, Writes-all}
 use Rattle.cal_line.proofs.escaping.append_escaped.Goals as goal
 use Rattle.cal_line.proofs.escaping.append_escaped.Goals.{in-Some+in_ok-push_str+in_ok-push_str-2, in_default}

@@ -1,4 +1,4 @@
-use Rattle.std.proofs.Common.{◌≡◌, [], ◌∷◌, ◌++◌, ◌+◌, ◌<◌, ℕ, length, get_or, arith, rules, sym, ◌∙◌, ap, subst, eq-eqb}
+use Rattle.std.proofs.Common.{◌≡◌, [], ◌∷◌, ◌++◌, ◌+◌, ◌<◌, length, get_or, arith, rules, sym, ◌∙◌, ap, eq-eqb}
 use Rattle.std.proofs.lemmas.Str.{IsCharBoundary-after_ascii}
 use Rattle.cal_line.proofs.PieceSteps.{Reads-plain, Reads-newline, Reads-taken, read-end, eqb-apart, piece_at-end, piece_at-stop, boundary-behind_letter}
 use Rattle.cal_line.proofs.piece.read_piece.Goals as goal

@@ -1,4 +1,4 @@
-use Rattle.std.proofs.Common.{◌≡◌, [], length, drop, sym, subst, ap, ◌∙◌, arith, rules}
+use Rattle.std.proofs.Common.{[], drop, sym, ◌∙◌}
 use Rattle.std.proofs.lemmas.Result.{err_from_is_err_and}
 use Rattle.cal_line.proofs.Exits.{err-across}
 use Rattle.cal_line.proofs.LineSteps.{ReadsField, ReadsField-key, ReadsField-values, fields_of-bad_key, fields_of-no_key, fields_of-bad_values, fields_of-no_value, fields_of-field, empty-from_length, some-from_length, EndsField-from_stop}

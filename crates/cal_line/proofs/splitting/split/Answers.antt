@@ -1,8 +1,8 @@
-use Rattle.std.proofs.Common.{◌≡◌, ◌<◌, [], ◌∷◌, ◌++◌, length, drop, sym, subst, ap, ◌∙◌, arith, rules}
+use Rattle.std.proofs.Common.{◌<◌, length, arith}
 use Rattle.std.proofs.lemmas.Result.{err_from_is_err_and}
 use Rattle.std.proofs.lemmas.Str.{IsCharBoundary-after_ascii, IsCharBoundary-start}
 use Rattle.cal_line.proofs.Exits.{err-across}
-use Rattle.cal_line.proofs.LineSteps.{ReadsFields-first, ReadsFields-more, fields_of-bad_field, fields_of-all}
+use Rattle.cal_line.proofs.LineSteps.{ReadsFields-first, ReadsFields-more, fields_of-bad_field}
 use Rattle.cal_line.proofs.splitting.split.Goals as goal
 
 pub read_field-requires : goal.read_field-requires

@@ -1,6 +1,4 @@
-use Rattle.std.proofs.Common.{◌≡◌, ◌-◌, ◌<◌, ◌≤◌, ◌++◌, List, length, drop, slice_index}
-use Rattle.std.specs.Option.{option_map}
-use Rattle.cal_line.specs.Reading.{fields_of, further_fields}
+use Rattle.std.proofs.Common.{◌≡◌, ◌-◌, ◌<◌, ◌≤◌, length, slice_index}
 use Rattle.cal_line.proofs.LineSteps.{ReadsFields}
 use Rattle.cal_line.proofs.splitting.split.Given as goal
 
