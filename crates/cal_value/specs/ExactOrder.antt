@@ -5,7 +5,7 @@ use Rattle.std.specs.declared.cmp.Ordering.TheVariants.{Less, Equal, Greater}
 use Rattle.std.specs.Bool.{Decides, one_answer}
 use Rattle.std.specs.Ordering.{nat_cmp, int_cmp, eq_by_cmp, ordering_then}
 use Rattle.std.specs.Cmp.{IsTotalOrder, IsEquivalence, IsPartialEquivalence, partial_equiv_from_equiv, eq_by_cmp_equiv, nat_cmp_total, int_cmp_total, Equal-is, first_so, second_so}
-use Rattle.std.specs.Cmp.Lexicographic.{slice_cmp, lists_total, pointwise}
+use Rattle.std.specs.Cmp.Lexicographic.{slice_cmp, lists_total, pointwise, pointwise_decides}
 use Rattle.std.proofs.lemmas.Cmp.{ranked, int_ranked}
 use Rattle.cal_value.specs.Texts.{text_cmp}
 
@@ -15,6 +15,7 @@ pub record IsExactOrder {K : Type 0} (R : K → K → Ordering) : Type 0 where
   pub exact : (x y : K) → R x y ≡ Equal → x ≡ y
 
 module _ {K : Type 0} {R : K → K → Ordering} (o : IsExactOrder R) where
+  -- its equality is an equivalence
   pub exact_equiv : IsEquivalence (eq_by_cmp R)
   exact_equiv = eq_by_cmp_equiv o.total
 
@@ -29,6 +30,7 @@ module _ {K : Type 0} {R : K → K → Ordering} (o : IsExactOrder R) where
   pub exact_answer : (x y : K) (r : Bool) → Decides r (x ≡ y) → r ≡ eq_by_cmp R x y
   exact_answer x y r d = one_answer r (eq_by_cmp R x y) d (exact_decides x y)
 
+  -- where it answers Equal the values are the same
   pub exact_tells : (x y : K) → IsTrue (eq_by_cmp R x y) → x ≡ y
   exact_tells x y = (exact_decides x y).0
 
@@ -36,6 +38,7 @@ module _ {K : Type 0} {R : K → K → Ordering} (o : IsExactOrder R) where
   pub exact_alike : {H : Type 0} (f : K → H) (x y : K) → IsTrue (eq_by_cmp R x y) → f x ≡ f y
   exact_alike f x y t = ap f ((exact_decides x y).0 t)
 
+-- two answers in a row are Equal where both are
 ordering_then-Equal : (r s : Ordering) → ordering_then r s ≡ Equal → (r ≡ Equal) × (s ≡ Equal)
 ordering_then-Equal Less s e = cc
 ordering_then-Equal Equal s e = (refl, e)
@@ -45,6 +48,7 @@ ordering_then-Equal Greater s e = cc
 pub exact_first : {K : Type 0} {R : K → K → Ordering} (o : IsExactOrder R) (x y : K) (s : Ordering) → ordering_then (R x y) s ≡ Equal → (x ≡ y) × (s ≡ Equal)
 exact_first {K} {R} o x y s e = let h = ordering_then-Equal (R x y) s e in (o.exact x y h.0, h.1)
 
+-- numbers, and lists of what an exact order tells apart
 nat_tied : (x y : ℕ) (r : Ordering) → r ≡ nat_cmp x y → r ≡ Equal → x ≡ y
 nat_tied x y Less p e = cc
 nat_tied x y Equal p e = ranked x y Equal p
@@ -78,6 +82,10 @@ lists_tell {K} {E} tells (x ∷ xs) (y ∷ ys) h =
     let first = tells x y (first_so (E x y) (pointwise E xs ys) h) in
     let rest = lists_tell tells xs ys (second_so (E x y) (pointwise E xs ys) h) in
     λ i. first i ∷ rest i
+
+-- the test of lists that an exact order's equality makes is whether they are the same
+pub lists_decides : {K : Type 0} {R : K → K → Ordering} → IsExactOrder R → (xs ys : List K) → Decides (pointwise (eq_by_cmp R) xs ys) (xs ≡ ys)
+lists_decides o = pointwise_decides (exact_decides o)
 
 pub lists_exact : {K : Type 0} {R : K → K → Ordering} → IsExactOrder R → IsExactOrder (slice_cmp R)
 lists_exact o = record { total = lists_total o.total; exact = lists_tied o }

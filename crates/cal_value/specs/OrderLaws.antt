@@ -29,6 +29,7 @@ kind_node-one kind.TypeName kind.TypeName e = refl
 kind_node-one kind.Ptr kind.Ptr e = refl
 kind_node-one _ _ e = absurd (omega arith)
 
+-- each order of this crate tells any two values apart: kinds, properties, values and what they make up
 pub kind_exact : IsExactOrder kind_cmp
 kind_exact = record { total = on_total kind_node nat_exact.total; exact = λ j k e. kind_node-one j k (nat_exact.exact _ _ e) }
 
@@ -38,6 +39,7 @@ props_exact = record {
   exact = λ p q e. let h = nat_exact.exact p.0 q.0 e in λ i. record { 0 = h i };
 }
 
+-- a truth is known by its number
 truth_number : (a b : Bool) → (if a then pos 1 else pos 0) ≡ (if b then pos 1 else pos 0) → a ≡ b
 truth_number true true e = refl
 truth_number false false e = refl
