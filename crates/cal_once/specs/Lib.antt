@@ -1,0 +1,5 @@
+pub mod Layout
+pub mod Views
+pub mod Sound
+pub mod Rule
+pub mod Steps
