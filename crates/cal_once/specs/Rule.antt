@@ -23,6 +23,21 @@ pub record IsFixed {S : Type 0} (plan : Plan S) (words : List ℕ) (used : ℕ �
   pub here : slice_index words i ≡ x
   pub fixed : ((1 ≤ i) × (i ≤ plan.shape.slots) × (x ≢ 0)) ⊎ ((number : ℕ) × (arena_start plan.shape number ≤ i) × (i < arena_start plan.shape number + used number))
 
+-- a seat with its number: its list and its draft, and each word that it has seen is there
+pub record Sits {S : Type 0} (plan : Plan S) (words : List ℕ) (used : ℕ → ℕ) (published : ℕ → List ℕ) (number : ℕ) (v : View S) : Type 0 where
+  pub plan_is : v.plan ≡ Some plan
+  pub number_is : v.number ≡ number
+  pub used_is : v.used ≡ used number
+  pub published_is : v.published ≡ published number
+  pub room : v.used + length v.draft ≤ plan.shape.arena
+  pub draft : (k : ℕ) → k < length v.draft → slice_index words (arena_start plan.shape number + v.used + k) ≡ slice_index v.draft k
+  pub seen : (i x : ℕ) → Saw v.seen i x → IsFixed plan words used i x
+
+-- the first seat knows how many seats were made, and the list of each one that was joined
+pub record Leads {S : Type 0} (published : ℕ → List ℕ) (views : List (View S)) (others : List (Option (List ℕ))) : Type 0 where
+  pub made : length others + 1 ≡ length views
+  pub back : (k : ℕ) (places : List ℕ) → get_elem? others k ≡ some (Some places) → (places ≡ published (k + 1)) × ((w : View S) → get_elem? views (k + 1) ≡ some w → w.plan ≡ None)
+
 module _ {S : Type 0} (IsRecord : S → List ℕ → Type 0) (home_of : ℕ → List ℕ → ℕ) (MayPublish : S → ℕ → List ℕ → Type 0) where
   -- A filled slot. Its record lies in the used part of one arena, in whose number's list the place stands once. It is a
   -- record of the sort that this number may publish, at a distance from its home behind slots with other records.
@@ -48,21 +63,6 @@ module _ {S : Type 0} (IsRecord : S → List ℕ → Type 0) (home_of : ℕ → 
     pub apart : (p q : ℕ) → p < plan.shape.slots → q < plan.shape.slots → p ≢ q → slot_of words p ≢ 0 → slot_of words q ≢ 0 → AreApart (slot_of words p) (slot_of words q)
     pub listed : (n place : ℕ) → 0 < times place (published n) → (place < plan.shape.slots) × (slot_of words place ≢ 0) × IsWithin plan.shape n plan.shape.arena (slot_of words place)
 
-  -- a seat with its number: its list and its draft, and each word that it has seen is there
-  pub record Sits (plan : Plan S) (words : List ℕ) (used : ℕ → ℕ) (published : ℕ → List ℕ) (number : ℕ) (v : View S) : Type 0 where
-    pub plan_is : v.plan ≡ Some plan
-    pub number_is : v.number ≡ number
-    pub used_is : v.used ≡ used number
-    pub published_is : v.published ≡ published number
-    pub room : v.used + length v.draft ≤ plan.shape.arena
-    pub draft : (k : ℕ) → k < length v.draft → slice_index words (arena_start plan.shape number + v.used + k) ≡ slice_index v.draft k
-    pub seen : (i x : ℕ) → Saw v.seen i x → IsFixed plan words used i x
-
-  -- the first seat knows how many seats were made, and the list of each one that was joined
-  pub record Leads (published : ℕ → List ℕ) (views : List (View S)) (v : View S) : Type 0 where
-    pub made : length v.others + 1 ≡ length views
-    pub back : (k : ℕ) (places : List ℕ) → get_elem? v.others k ≡ some (Some places) → (places ≡ published (k + 1)) × ((w : View S) → get_elem? views (k + 1) ≡ some w → w.plan ≡ None)
-
   pub record Kept (plan : Plan S) (s : State ℕ (View S)) : Type 0 where
     pub used : ℕ → ℕ
     pub published : ℕ → List ℕ
@@ -70,4 +70,4 @@ module _ {S : Type 0} (IsRecord : S → List ℕ → Type 0) (home_of : ℕ → 
     pub few : length s.views ≤ plan.shape.arenas
     pub unmade : (n : ℕ) → length s.views ≤ n → (used n ≡ 0) × (published n ≡ [])
     pub seats : (number : ℕ) (v : View S) → get_elem? s.views number ≡ some v → (v.plan ≡ None) ⊎ Sits plan s.words used published number v
-    pub first : (v : View S) → get_elem? s.views 0 ≡ some v → Leads published s.views v
+    pub first : (v : View S) → get_elem? s.views 0 ≡ some v → Leads published s.views v.others

@@ -4,6 +4,11 @@ use Rattle.cal_once.specs.declared.view.Plan.{Plan}
 use Rattle.cal_once.specs.Layout.{IsWithin, AreApart, start_in, times}
 use Rattle.cal_once.specs.Views.{Saw, Knows, Holds, AllJoined, all_published, was_seen}
 
+-- a known record's parent is the root and its depth 1, or its parent's depth is one less
+abbrev pub IsBelow : {S : Type 0} → Plan S → View S → ℕ → ℕ → Type 0
+IsBelow plan v parent depth = ((parent ≡ 0) × (depth ≡ 1))
+    ⊎ ((place : ℕ) × (parent ≡ place + 1) × (place < plan.shape.slots) × ((slot above : ℕ) → Saw v.seen (place + 1) slot → Saw v.seen (start_in slot + 1) above → depth ≡ above + 1))
+
 module _ {S : Type 0} (IsRecord : S → List ℕ → Type 0) (MayPublish : S → ℕ → List ℕ → Type 0) where
   -- the record is one of the table's sort, and stands in the list of the one seat whose number published it
   pub record IsLawful (plan : Plan S) (v : View S) (place : ℕ) (words : List ℕ) : Type 0 where
@@ -11,11 +16,6 @@ module _ {S : Type 0} (IsRecord : S → List ℕ → Type 0) (MayPublish : S →
     pub number : ℕ
     pub may_publish : MayPublish plan.sort number words
     pub own : number ≡ v.number → times place v.published ≡ 1
-
-  -- a known record's parent is the root and its depth 1, or its parent's depth is one less
-  abbrev pub IsBelow : Plan S → View S → ℕ → ℕ → Type 0
-  IsBelow plan v parent depth = ((parent ≡ 0) × (depth ≡ 1))
-      ⊎ ((place : ℕ) × (parent ≡ place + 1) × (place < plan.shape.slots) × ((slot above : ℕ) → Saw v.seen (place + 1) slot → Saw v.seen (start_in slot + 1) above → depth ≡ above + 1))
 
   -- What each seat knows of the table, whatever the other seats do. Each word stands for good, each slot's record
   -- lies whole in one arena and apart from the others, and each record is at one place.

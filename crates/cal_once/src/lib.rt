@@ -6,3 +6,11 @@ mod view;
 
 pub use shape::Shape;
 pub use view::{Plan, View};
+
+ghost use Rattle.std.specs.Prelude.{◌≡◌};
+
+pub fn scratch(n: u64) -> u64
+    ensures { result ≡ n }
+{
+    n
+}

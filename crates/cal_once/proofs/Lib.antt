@@ -1,0 +1,4 @@
+pub mod Seen
+pub mod Regions
+pub mod Sounds
+pub mod Moves

@@ -1,0 +1,9 @@
+use Rattle.cal_once.proofs.Moves.{seen_looked}
+use Rattle.cal_once.proofs.Sounds.{seen_slot}
+use Rattle.cal_once.proofs.Regions.{part_is}
+use Rattle.cal_once.proofs.Seen.{Saw_left}
+use Rattle.std.proofs.Common.{refl}
+use Rattle.cal_once.proofs.scratch.Goals as goal
+
+pub returns : goal.returns
+returns c = refl
