@@ -2,3 +2,5 @@ pub mod Seen
 pub mod Regions
 pub mod Sounds
 pub mod Moves
+pub mod Stores
+pub mod Offers

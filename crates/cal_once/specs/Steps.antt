@@ -4,8 +4,8 @@ use Rattle.std.specs.Prelude.{◌≡◌, ◌≢◌, ℕ, ◌+◌, ◌<◌, Bool,
 use Rattle.atomic_table.specs.Table.{Me, Step}
 use Rattle.cal_once.specs.declared.view.View.{View}
 use Rattle.cal_once.specs.declared.view.Plan.{Plan}
-use Rattle.cal_once.specs.Layout.{arena_start, times}
-use Rattle.cal_once.specs.Views.{Knows, IsParent, AllJoined, all_published, looked, read, drafted, offered}
+use Rattle.cal_once.specs.Layout.{arena_start, probe, times}
+use Rattle.cal_once.specs.Views.{Knows, HoldsOther, KnowsParent, IsParent, AllJoined, all_published, looked, read, drafted, offered}
 use Rattle.cal_once.specs.Sound.{IsSound}
 
 abbrev Mine : Type 0 → Type 0
@@ -16,6 +16,10 @@ pub record WasEmpty {S : Type 0} (plan : Plan S) (v : View S) (place : ℕ) : Ty
   pub unknown : ¬ Knows v place
   pub no_parent : ¬ IsParent v plan.shape.slots place
   pub unlisted : AllJoined v → times place (all_published v) ≡ 0
+
+-- a store of word k of the draft
+abbrev pub drafts : {S : Type 0} → Step ℕ → Mine S → ℕ → Mine S → Type 0
+drafts {S} step before stored after = (plan : Plan S) (k : ℕ) → before.0.plan ≡ Some plan → step.word ≡ arena_start plan.shape before.0.number + before.0.used + k → after ≡ (drafted k stored before.0, before.1)
 
 module _ {S : Type 0} (IsRecord : S → List ℕ → Type 0) (MayPublish : S → ℕ → List ℕ → Type 0) where
   -- a load of the slot of a place
@@ -35,9 +39,17 @@ module _ {S : Type 0} (IsRecord : S → List ℕ → Type 0) (MayPublish : S →
   abbrev pub reads : Step ℕ → Mine S → ℕ → Mine S → Type 0
   reads step before found after = Read step.word before found after
 
-  -- a store of word k of the draft
-  abbrev pub drafts : Step ℕ → Mine S → ℕ → Mine S → Type 0
-  drafts step before stored after = (plan : Plan S) (k : ℕ) → before.0.plan ≡ Some plan → step.word ≡ arena_start plan.shape before.0.number + before.0.used + k → after ≡ (drafted k stored before.0, before.1)
+  -- A seat may offer its draft at a distance from the record's home: its draft is a record that it may publish, whose parent
+  -- it knows, and it knows that the slots before hold other records.
+  pub record MayOffer (home_of : ℕ → List ℕ → ℕ) (plan : Plan S) (v : View S) (place distance : ℕ) : Type 0 where
+    pub is_place : place < plan.shape.slots
+    pub is_record : IsRecord plan.sort v.draft
+    pub may_publish : MayPublish plan.sort v.number v.draft
+    pub parent : KnowsParent v plan.shape.slots v.draft
+    pub near : distance < plan.shape.slots
+    pub at : place ≡ probe plan.shape (home_of plan.shape.homes v.draft) distance
+    pub probes : (e : ℕ) → probe plan.shape (home_of plan.shape.homes v.draft) e < plan.shape.slots
+    pub before : (e : ℕ) → e < distance → HoldsOther v (probe plan.shape (home_of plan.shape.homes v.draft) e) v.draft
 
   -- an exchange of the slot of a place against 0
   pub record Offered (place word : ℕ) (before : Mine S) (found : ℕ) (after : Mine S) : Type 0 where

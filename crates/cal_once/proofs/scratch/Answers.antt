@@ -1,3 +1,5 @@
+use Rattle.cal_once.proofs.Offers.{changed}
+use Rattle.cal_once.proofs.Stores.{record_at-set}
 use Rattle.cal_once.proofs.Moves.{seen_looked}
 use Rattle.cal_once.proofs.Sounds.{seen_slot}
 use Rattle.cal_once.proofs.Regions.{part_is}
