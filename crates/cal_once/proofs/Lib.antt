@@ -4,3 +4,4 @@ pub mod Sounds
 pub mod Moves
 pub mod Stores
 pub mod Offers
+pub mod Seats

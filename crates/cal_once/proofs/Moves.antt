@@ -90,6 +90,19 @@ module _ {S : Type 0} (IsRecord : S → List ℕ → Type 0) (home_of : ℕ → 
   pub of_plan : (F : Plan S → Type 0) (v : View S) → v.plan ≡ Some plan → F plan → (p : Plan S) → v.plan ≡ Some p → F p
   of_plan F v live f p is = let same : plan ≡ p = cc in subst F same f
 
+  -- a filled slot was met
+  pub met : (s : State ℕ (View S)) (k : Rule s) (id place found : ℕ) (v : View S) → Sits plan s.words k.used k.published id v → place < plan.shape.slots → slot_of s.words place ≡ found → found ≢ 0
+      → Sits plan s.words k.used k.published id (record v { seen = (place + 1, found) ∷ v.seen })
+  met s k id place found v sits h is ne = record {
+    plan_is = sits.plan_is;
+    number_is = sits.number_is;
+    used_is = sits.used_is;
+    published_is = sits.published_is;
+    room = sits.room;
+    draft = sits.draft;
+    seen = λ i x saw. ⊎_elim (λ t. record { here = ap (λ (j : ℕ). get_or s.words j 0) (sym t.0) ∙ is ∙ t.1; fixed = let e = t.0 in inl (omega arith, omega arith, λ z. ne (t.1 ∙ z)) }) (sits.seen i x) saw;
+  }
+
   pub allows_look : (noted : Bool) (slots id place : ℕ) (me : Me ℕ (View S)) → me.0.plan ≡ Some plan → place < plan.shape.slots → Allows Rule slots id me (place + 1) (λ x. x) (looks IsRecord MayPublish noted (step slots (place + 1) 0 0 none) me)
   allows_look noted slots id place me live h s k _ at _ =
       let v : View S = me.0 in

@@ -16,9 +16,9 @@ use Rattle.cal_once.specs.Sound.{IsSound}
 use Rattle.cal_once.specs.Rule.{HasParent, HoldsAnother, IsFixed, Stands, IsLaid, Sits, Leads, Kept}
 use Rattle.cal_once.specs.Steps.{MayOffer, Offered, offers}
 use Rattle.cal_once.proofs.Seen.{Saw_either, at_below, placed_at, times-append}
-use Rattle.cal_once.proofs.Regions.{part_is, get_or-part, arena_inside, arena_before, size-slot_for, start-slot_for}
+use Rattle.cal_once.proofs.Regions.{part_is, get_or-part, arena_inside, arena_before, size-slot_for, start-slot_for, probe_below}
 use Rattle.cal_once.proofs.Sounds.{inside, seen_slot, held_other, widened}
-use Rattle.cal_once.proofs.Moves.{Rule, sits_of, moved, unmoved, told, of_plan}
+use Rattle.cal_once.proofs.Moves.{Rule, sits_of, met, moved, unmoved, told, of_plan}
 use Rattle.cal_once.proofs.Stores.{KeepsRecords, record_at-set, stands_kept, unused_apart}
 
 -- one number's value is another
@@ -151,8 +151,8 @@ module _ {S : Type 0} (IsRecord : S → List ℕ → Type 0) (home_of : ℕ → 
           near = may.near;
           at = may.at ∙ ap (λ (l : List ℕ). probe plan.shape (home l) distance) back;
           before = subst (λ (l : List ℕ). (e : ℕ) → e < distance → HoldsAnother words (probe plan.shape (home l) e) l) back
-              (λ e less. let q : ℕ = probe plan.shape (home ws) e in let b = held_other IsRecord home_of MayPublish long_record plan s.words k.used k.published k.laid s.views id v sits q ws (may.probes e) (may.before e less) in
-              let r = records q (may.probes e) b.0 in ((λ none. b.0 (sym r.0 ∙ none)), (λ one. b.1 (sym r.1 ∙ one))));
+              (λ e less. let q : ℕ = probe plan.shape (home ws) e in let b = held_other IsRecord home_of MayPublish long_record plan s.words k.used k.published k.laid s.views id v sits q ws (probe_below plan.shape (home ws) e some_slot) (may.before e less) in
+              let r = records q (probe_below plan.shape (home ws) e some_slot) b.0 in ((λ none. b.0 (sym r.0 ∙ none)), (λ one. b.1 (sym r.1 ∙ one))));
           has_parent = subst (λ (l : List ℕ). HasParent plan.shape.slots words l) back
               (⊎_elim inl (λ t.
                   let f = seen_slot IsRecord home_of MayPublish long_record plan s.words k.used k.published k.laid t.0 t.1 t.3 (sits.seen (t.0 + 1) t.1 t.5) in
@@ -252,3 +252,45 @@ module _ {S : Type 0} (IsRecord : S → List ℕ → Type 0) (home_of : ℕ → 
     pub published_there : R record { words = words; homes = s.homes; views = set s.views id (offered place word 0 v) }
     published_there = moved IsRecord home_of MayPublish long_record plan s k id v (offered place word 0 v) words used published at live new_laid new_sits refl
         (λ n ne. (changed_else k.used id (v.used + length ws) n ne, changed_else k.published id (v.published ++ place ∷ []) n ne)) new_others
+
+  offered_miss : (place word found : ℕ) (v : View S) → found ≢ 0 → offered place word found v ≡ record v { seen = (place + 1, found) ∷ v.seen }
+  offered_miss place word found v ne = ap (λ (b : Bool). let w : View S = record v {
+        used = cond b (v.used + length v.draft) v.used;
+        draft = cond b [] v.draft;
+        published = cond b (v.published ++ place ∷ []) v.published;
+        seen = cond b ((place + 1, word) ∷ placed (start_in word) v.draft ++ v.seen) ((place + 1, found) ∷ v.seen)
+      } in w) (ne_eqb found 0 ne)
+
+  pub allows_offer : (slots id place distance word : ℕ) (me : Me ℕ (View S)) → me.0.plan ≡ Some plan → MayOffer IsRecord MayPublish home_of plan me.0 place distance → word ≡ slot_for (length me.0.draft) (arena_start plan.shape me.0.number + me.0.used)
+      → Allows R slots id me (place + 1) (λ n. either (eqb n 0) word n) (offers IsRecord MayPublish (step slots (place + 1) 0 word none) me)
+  allows_offer slots id place distance word me live may named s k _ at _ =
+      let v : View S = me.0 in
+      let found : ℕ = slot_of s.words place in
+      let sits = sits_of IsRecord home_of MayPublish long_record plan s k id v at live in
+      dite (ℕ_discrete found 0)
+          (λ empty.
+              let w : View S = offered place word 0 v in
+              let kept : R record { words = set s.words (place + 1) word; homes = s.homes; views = set s.views id w } = subst (λ (x : ℕ). R record { words = set s.words (place + 1) x; homes = s.homes; views = set s.views id (offered place x 0 v) }) (sym named) (published_there s k id place distance v at live may empty) in
+              (
+                w,
+                keeps,
+                tt,
+                subst (λ (b : Bool). R (stepped s (place + 1) (either b word found) id me.1 w keeps)) (sym (eq-eqb found 0 empty)) kept,
+                λ there is. let same : place ≡ there = omega arith in subst (λ (p : ℕ). Offered IsRecord MayPublish p word me found (w, me.1)) same record {
+                  view = ap (λ (x : ℕ). (offered place word x v, me.1)) (sym empty);
+                  sound = of_plan IsRecord home_of MayPublish long_record plan (λ (p : Plan S). IsSound IsRecord MayPublish p w) v live (told IsRecord home_of MayPublish long_record plan s (set s.words (place + 1) word) id v w kept at live);
+                },
+              ))
+          (λ ne.
+              let w : View S = record v { seen = (place + 1, found) ∷ v.seen } in
+              let kept = unmoved IsRecord home_of MayPublish long_record plan s k (place + 1) id me.1 v w at live (met IsRecord home_of MayPublish long_record plan s k id place found v sits may.is_place refl ne) refl in
+              (
+                w,
+                keeps,
+                tt,
+                subst (λ (b : Bool). R (stepped s (place + 1) (either b word found) id me.1 w keeps)) (sym (ne_eqb found 0 ne)) kept,
+                λ there is. let same : place ≡ there = omega arith in subst (λ (p : ℕ). Offered IsRecord MayPublish p word me found (w, me.1)) same record {
+                  view = ap (λ (x : View S). (x, me.1)) (sym (offered_miss place word found v ne));
+                  sound = of_plan IsRecord home_of MayPublish long_record plan (λ (p : Plan S). IsSound IsRecord MayPublish p w) v live (told IsRecord home_of MayPublish long_record plan s (set s.words (place + 1) found) id v w kept at live);
+                },
+              ))

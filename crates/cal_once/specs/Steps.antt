@@ -48,7 +48,6 @@ module _ {S : Type 0} (IsRecord : S → List ℕ → Type 0) (MayPublish : S →
     pub parent : KnowsParent v plan.shape.slots v.draft
     pub near : distance < plan.shape.slots
     pub at : place ≡ probe plan.shape (home_of plan.shape.homes v.draft) distance
-    pub probes : (e : ℕ) → probe plan.shape (home_of plan.shape.homes v.draft) e < plan.shape.slots
     pub before : (e : ℕ) → e < distance → HoldsOther v (probe plan.shape (home_of plan.shape.homes v.draft) e) v.draft
 
   -- an exchange of the slot of a place against 0

@@ -87,10 +87,10 @@ module _ {S : Type 0} where
   -- after an exchange of a slot: where it was empty, the draft is published there
   abbrev pub offered : ℕ → ℕ → ℕ → View S → View S
   offered place word found v = record v {
-    used = v.used + (if found == 0 then length v.draft else 0);
+    used = if found == 0 then v.used + length v.draft else v.used;
     draft = if found == 0 then [] else v.draft;
     published = if found == 0 then v.published ++ place ∷ [] else v.published;
-    seen = (place + 1, if found == 0 then word else found) ∷ (if found == 0 then placed (start_in word) v.draft ++ v.seen else v.seen)
+    seen = if found == 0 then (place + 1, word) ∷ placed (start_in word) v.draft ++ v.seen else (place + 1, found) ∷ v.seen
   }
 
   -- the first seat after a split, and the new seat
