@@ -5,3 +5,4 @@ pub mod Moves
 pub mod Stores
 pub mod Offers
 pub mod Seats
+pub mod Within

@@ -1,5 +1,6 @@
 use Rattle.std.specs.Prelude.{◌≡◌, ◌≢◌, ℕ, zero, suc, ◌+◌, ◌-◌, ◌<◌, ◌⊎◌, Bool, true, false, ◌||◌, ◌&&◌, ◌==◌, if◌then◌else◌, Option, Some, None, List, [], ◌∷◌, ◌++◌, length, take, slice_index, IsTrue}
 use Rattle.cal_once.specs.declared.view.View.{View}
+use Rattle.cal_once.specs.declared.view.Plan.{Plan}
 use Rattle.cal_once.specs.Layout.{size_in, start_in, times}
 
 -- the word i of the table was seen to be x
@@ -108,7 +109,30 @@ module _ {S : Type 0} where
   abbrev pub spent : View S
   spent = record { plan = None; number = 0; used = 0; draft = []; published = []; looks = []; seen = []; others = [] }
 
-  -- the seat has learned words of the table, and is else as before
+  -- the seat has learned words of the table, and may have drafted a record; else it is as before
   pub record Learns (v w : View S) : Type 0 where
-    pub same : w ≡ record v { seen = w.seen }
+    pub same : w ≡ record v { draft = w.draft; seen = w.seen }
     pub more : (i x : ℕ) → Saw v.seen i x → Saw w.seen i x
+
+  -- the same seat later: what it knew stands for good
+  pub record IsLater (v w : View S) : Type 0 where
+    pub plan : w.plan ≡ v.plan
+    pub number : w.number ≡ v.number
+    pub others : w.others ≡ v.others
+    pub more : (i x : ℕ) → Saw v.seen i x → Saw w.seen i x
+
+  -- the length of a known place's record, and one of its words
+  abbrev pub IsSizeOf : View S → ℕ → ℕ → Type 0
+  IsSizeOf v place size = (slot : ℕ) × Saw v.seen (place + 1) slot × (size ≡ size_in slot)
+
+  abbrev pub IsWordOf : View S → ℕ → ℕ → ℕ → Type 0
+  IsWordOf v place i word = (slot : ℕ) × Saw v.seen (place + 1) slot × Saw v.seen (start_in slot + i) word
+
+  -- how many of the first n places the seat knows
+  abbrev pub known_count : View S → ℕ → ℕ
+  known_count v zero = 0
+  known_count v (suc n) = known_count v n + (if was_seen v.seen (n + 1) then 1 else 0)
+
+  -- the first seat of a table
+  abbrev pub first_seat : Plan S → View S
+  first_seat plan = record { plan = Some plan; number = 0; used = 0; draft = []; published = []; looks = []; seen = []; others = [] }

@@ -1,9 +1,17 @@
 //! Write-once rows.
 #![tactic(auto)]
 
+mod answer;
+mod load;
+mod rows;
+mod rule;
+mod seat;
 mod shape;
 mod view;
 
+pub use answer::Put;
+pub use rows::Rows;
+pub use seat::RowSeat;
 pub use shape::Shape;
 pub use view::{Plan, View};
 
