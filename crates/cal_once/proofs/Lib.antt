@@ -6,3 +6,4 @@ pub mod Stores
 pub mod Offers
 pub mod Seats
 pub mod Within
+pub mod Learning

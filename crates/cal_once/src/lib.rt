@@ -2,6 +2,9 @@
 #![tactic(auto)]
 
 mod answer;
+mod compare;
+mod find;
+mod found;
 mod load;
 mod rows;
 mod rule;
