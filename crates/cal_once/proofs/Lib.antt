@@ -7,3 +7,4 @@ pub mod Offers
 pub mod Seats
 pub mod Within
 pub mod Learning
+pub mod Finding

@@ -6,6 +6,7 @@ mod compare;
 mod find;
 mod found;
 mod load;
+mod offer;
 mod rows;
 mod rule;
 mod seat;
