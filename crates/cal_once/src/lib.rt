@@ -7,6 +7,7 @@ mod find;
 mod found;
 mod load;
 mod offer;
+mod place;
 mod rows;
 mod rule;
 mod seat;
