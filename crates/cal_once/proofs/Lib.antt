@@ -8,3 +8,4 @@ pub mod Seats
 pub mod Within
 pub mod Learning
 pub mod Finding
+pub mod Placing

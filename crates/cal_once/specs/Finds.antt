@@ -8,6 +8,11 @@ use Rattle.cal_once.specs.Views.{Saw, Holds, HoldsOther, Learns}
 use Rattle.cal_once.specs.Steps.{WasEmpty}
 use Rattle.cal_once.specs.Puts.{IsPlaced, AllHoldOthers}
 
+-- the record was published: the seat's list and its used part have grown by it
+pub record Publishes {S : Type 0} (v w : View S) (words : List ℕ) (place : ℕ) : Type 0 where
+  pub own : w ≡ record v { used = v.used + length words; draft = w.draft; published = v.published ++ place ∷ []; seen = w.seen }
+  pub more : (i x : ℕ) → Saw v.seen i x → Saw w.seen i x
+
 module _ {S : Type 0} (plan : Plan S) (home : ℕ) (v w : View S) (words : List ℕ) where
   -- an empty slot was found, and noted
   pub record FoundEmpty (place : ℕ) : Type 0 where
@@ -19,14 +24,9 @@ module _ {S : Type 0} (plan : Plan S) (home : ℕ) (v w : View S) (words : List 
     pub noted : w ≡ record v { draft = w.draft; looks = v.looks ++ place ∷ []; seen = w.seen }
     pub more : (i x : ℕ) → Saw v.seen i x → Saw w.seen i x
 
-  -- the record was published: the seat's list and its used part have grown by it
-  pub record Publishes (place : ℕ) : Type 0 where
-    pub own : w ≡ record v { used = v.used + length words; draft = w.draft; published = v.published ++ place ∷ []; seen = w.seen }
-    pub more : (i x : ℕ) → Saw v.seen i x → Saw w.seen i x
-
   -- how a search ended, and what the seat then knows
   abbrev pub Finds : Found → Type 0
   Finds (Same place) = IsPlaced plan home w words place × Learns v w
-  Finds (New place) = IsPlaced plan home w words place × Publishes place
+  Finds (New place) = IsPlaced plan home w words place × Publishes v w words place
   Finds (Empty place) = FoundEmpty place
   Finds Nowhere = AllHoldOthers plan w words × Learns v w

@@ -1,3 +1,4 @@
+use Rattle.cal_once.proofs.Placing.{start_small}
 use Rattle.cal_once.proofs.Seats.{allows_split}
 use Rattle.cal_once.proofs.Offers.{changed}
 use Rattle.cal_once.proofs.Stores.{record_at-set}
