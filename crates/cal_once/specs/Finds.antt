@@ -30,3 +30,8 @@ module _ {S : Type 0} (plan : Plan S) (home : ℕ) (v w : View S) (words : List 
   Finds (New place) = IsPlaced plan home w words place × Publishes v w words place
   Finds (Empty place) = FoundEmpty place
   Finds Nowhere = AllHoldOthers plan w words × Learns v w
+
+-- the search didn't end at an empty slot
+abbrev pub IsNotEmpty : Found → Type 0
+IsNotEmpty (Empty place) = ⊥
+IsNotEmpty _ = Unit {0}

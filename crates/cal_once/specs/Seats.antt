@@ -1,4 +1,4 @@
-use Rattle.std.specs.Prelude.{◌≡◌, ℕ, ◌+◌, ◌<◌, Some}
+use Rattle.std.specs.Prelude.{◌≡◌, ℕ, ◌+◌, ◌<◌, Some, List}
 use Rattle.atomic_table.specs.declared.shared.Seat.{Seat}
 use Rattle.cal_once.specs.declared.rows.Rows.{Rows}
 use Rattle.cal_once.specs.declared.seat.RowSeat.{RowSeat}
@@ -15,6 +15,10 @@ module _ {S : Type 0} where
   -- the shape and the sort of a table
   abbrev pub plan_of : Rows S → Plan S
   plan_of rows = rows.table.shared.key
+
+  -- the home of a record, by its sort's function
+  abbrev pub home_of : (ℕ → List ℕ → ℕ) → Rows S → List ℕ → ℕ
+  home_of home rows words = home (plan_of rows).shape.homes words
 
   -- the seat is one of this table's: the table and it, or the one that it was split from, come from one `new`
   pub record IsSeatOf (rows : Rows S) (seat : RowSeat S) : Type 0 where

@@ -121,6 +121,12 @@ module _ {S : Type 0} where
     pub others : w.others ≡ v.others
     pub more : (i x : ℕ) → Saw v.seen i x → Saw w.seen i x
 
+  -- the same seat later, which has published nothing
+  pub record KeepsOwn (v w : View S) : Type 0 where
+    pub later : IsLater v w
+    pub used : w.used ≡ v.used
+    pub published : w.published ≡ v.published
+
   -- the length of a known place's record, and one of its words
   abbrev pub IsSizeOf : View S → ℕ → ℕ → Type 0
   IsSizeOf v place size = (slot : ℕ) × Saw v.seen (place + 1) slot × (size ≡ size_in slot)

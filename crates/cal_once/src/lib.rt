@@ -6,12 +6,15 @@ mod compare;
 mod find;
 mod found;
 mod load;
+mod look;
 mod offer;
 mod place;
+mod put;
 mod rows;
 mod rule;
 mod seat;
 mod shape;
+mod split;
 mod view;
 
 pub use answer::Put;

@@ -1,7 +1,7 @@
 ghost use Rattle.std.specs.Prelude.{◌≡◌, ℕ, ◌+◌, ◌<◌, ◌≤◌, length, IsTrue};
 ghost use Rattle.cal_once.specs.Layout.{arena_start, probe, slot_for};
 ghost use Rattle.cal_once.specs.Views.{HoldsOther, KnowsParent, offered};
-ghost use Rattle.cal_once.specs.Finds.{Finds};
+ghost use Rattle.cal_once.specs.Finds.{Finds, IsNotEmpty};
 ghost use Rattle.cal_once.specs.Sound.{IsSound};
 ghost use Rattle.cal_once.specs.Seats.{IsAt, plan_of};
 ghost use Rattle.cal_once.specs.Steps.{MayOffer};
@@ -73,6 +73,7 @@ impl<S: RecSort> Rows<S> {
         requires from { from ≤ (plan_of self.now).shape.slots }
         requires before { (e : ℕ) → e < from → HoldsOther seat.old.me.0 (probe (plan_of self.now).shape home e) (P.words rec.now) }
         ensures seat { IsAt self.now seat.new × (seat.new.me.1 ≡ seat.old.me.1) }
+        ensures not_empty { IsNotEmpty result }
         ensures found { Finds (plan_of self.now) home seat.old.me.0 seat.new.me.0 (P.words rec.now) result }
         ensures sound { IsSound S.is_record S.may_publish (plan_of self.now) seat.new.me.0 }
     {

@@ -26,3 +26,18 @@ impl<S> Drop for RowSeat<S> {
         } = self;
     }
 }
+
+impl<S> RowSeat<S> {
+    pub(crate) fn into_seat(self) -> Seat<u8, View<S>>
+        ensures seat { result ≡ self.seat }
+        ensures bare { result.me.1 ≡ [] }
+    {
+        let Self {
+            seat,
+            number: _,
+            used: _,
+            made: _,
+        } = self;
+        seat
+    }
+}

@@ -61,6 +61,7 @@ returns-then-slot-eq0-2 g c =
     let shape = subst (λ p. IsShape p.shape) c.args.self.now.plan_is c.args.self.now.shaped in
     record {
       seat = (c.claim-slot.ensures.seat, ap (λ m. m.1) c.claim-slot.ensures.offered ∙ ap (λ m. m.1) c.peek-slot.ensures.looked.view ∙ c.loop-distance.invariant.hand);
+      not_empty = tt;
       found = published_found plan c.args.home c.args.seat.now.me.0 c.peek-slot.new.seat.me.0 c.claim-slot.new.seat.me.0 (g.P.Packed.words c.args.rec.now) ((c.args.home + c.loop-distance.distance) % c.args.self.now.plan.shape.slots) c.loop-distance.distance
           (arena_start plan.shape c.args.own.number + c.args.own.used) c.claim-slot.result all (ap (λ m. m.0) c.claim-slot.ensures.offered) c.if-slot-eq0-2.true (start_small plan.shape c.args.own.number c.args.own.used shape (omega arith) (omega arith)) (is_place g d) (is_probe g d) (passed g d);
       sound = c.claim-slot.ensures.sound;
@@ -136,6 +137,7 @@ returns-then-compare g c =
     let all = learns_then c.loop-distance.seat.me.0 c.if-slot-eq0.seat.me.0 c.compare.new.seat.me.0 m.2 c.compare.ensures.learns.0 in
     record {
       seat = (c.compare.ensures.seat.0, c.compare.ensures.seat.1 ∙ m.1);
+      not_empty = tt;
       found = (
         record {
           is_place = is_place g d;
@@ -160,6 +162,7 @@ returns g c =
     let enough = c.args.self.now.shaped.enough_slots in
     record {
       seat = (c.peek-slot-2.ensures.seat, ap (λ m. m.1) view ∙ inv.hand);
+      not_empty = tt;
       found = (
         all_others plan c.args.home c.loop-distance.seat.me.0 c.peek-slot-2.new.seat.me.0 (g.P.Packed.words c.args.rec.now) (omega (arith, c.requires.below)) last (λ e h. inv.before e (omega arith)),
         learns_then c.args.seat.now.me.0 c.loop-distance.seat.me.0 c.peek-slot-2.new.seat.me.0 inv.learns last,
