@@ -19,7 +19,7 @@ use Rattle.cal_once.proofs.Learning.{learns_nothing, learns_then, learns_slot, o
 pub distance_to : (shape : Shape) (home place : ℕ) → home < shape.slots → place < shape.slots → (distance : ℕ) × (distance < shape.slots) × (place ≡ probe shape home distance)
 distance_to shape home place h p = ⊎_elim
     (λ (before : place < home). let sum : home + (place + shape.slots - home) ≡ place + shape.slots = omega arith in
-        (place + shape.slots - home, omega arith, sym (ap (λ (n : ℕ). n % shape.slots) sum ∙ add-mod_right place shape.slots ∙ mod-eq_of_lt p)))
+    (place + shape.slots - home, omega arith, sym (ap (λ (n : ℕ). n % shape.slots) sum ∙ add-mod_right place shape.slots ∙ mod-eq_of_lt p)))
     (λ (after : home ≤ place). let sum : home + (place - home) ≡ place = omega arith in (place - home, omega arith, sym (ap (λ (n : ℕ). n % shape.slots) sum ∙ mod-eq_of_lt p)))
     (cases_lt place home)
 

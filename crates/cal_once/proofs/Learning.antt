@@ -24,9 +24,9 @@ module _ {S : Type 0} where
   -- a filled slot was met
   pub looked_filled : (noted : Bool) (place found : ℕ) (v : View S) → found ≢ 0 → looked noted place found v ≡ record v { seen = (place + 1, found) ∷ v.seen }
   looked_filled noted place found v ne = ap (λ (b : Bool). let w : View S = record v {
-        looks = cond (b && noted) (v.looks ++ place ∷ []) v.looks;
-        seen = cond b v.seen ((place + 1, found) ∷ v.seen)
-      } in w) (ne_eqb found 0 ne)
+    looks = cond (b && noted) (v.looks ++ place ∷ []) v.looks;
+    seen = cond b v.seen ((place + 1, found) ∷ v.seen);
+  } in w) (ne_eqb found 0 ne)
 
   pub learns_slot : (noted : Bool) (place found : ℕ) (v w : View S) → w ≡ looked noted place found v → found ≢ 0 → Learns v w × Saw w.seen (place + 1) found
   learns_slot noted place found v w is ne =

@@ -9,3 +9,5 @@ pub mod Within
 pub mod Learning
 pub mod Finding
 pub mod Placing
+pub mod Opening
+pub mod Counts

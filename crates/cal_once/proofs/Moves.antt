@@ -61,7 +61,7 @@ module _ {S : Type 0} (IsRecord : S → List ℕ → Type 0) (home_of : ℕ → 
             (λ t. ⊎_elim inl (λ sits. inr (others j u t.0 sits)) (k.seats j u t.1)) (at_set s.views id j w u here);
         first = λ u here. ⊎_elim
             (λ t. let old = k.first v (subst (λ (i : ℕ). get_elem? s.views i ≡ some v) (sym t.0) at) in subst (λ (os : List (Option (List ℕ))). Leads published (set s.views id w) os) (sym same ∙ ap (λ (x : View S). x.others) t.1)
-                (leads_set s.views k.published published id v w v.others at live (λ n ne. (apart n ne).1) old))
+            (leads_set s.views k.published published id v w v.others at live (λ n ne. (apart n ne).1) old))
             (λ t. leads_set s.views k.published published id v w u.others at live (λ n ne. (apart n ne).1) (k.first u t.1)) (at_set s.views id 0 w u here);
       }
 
@@ -110,16 +110,15 @@ module _ {S : Type 0} (IsRecord : S → List ℕ → Type 0) (home_of : ℕ → 
       let w : View S = looked noted place found v in
       let sits = sits_of s k id v at live in
       let mine : Sits plan s.words k.used k.published id w = record {
-            plan_is = sits.plan_is;
-            number_is = sits.number_is;
-            used_is = sits.used_is;
-            published_is = sits.published_is;
-            room = sits.room;
-            draft = sits.draft;
-            seen = λ i x saw. ⊎_elim (sits.seen i x) (λ t. record { here = ap (λ (j : ℕ). get_or s.words j 0) (sym t.1) ∙ t.2; fixed = let e = t.1 in inl (omega arith, omega arith, λ z. t.0 (t.2 ∙ z)) }) (seen_looked noted place found v i x saw);
-          } in
-      let kept = unmoved s k (place + 1) id me.1 v w at live mine refl in
-      (
+        plan_is = sits.plan_is;
+        number_is = sits.number_is;
+        used_is = sits.used_is;
+        published_is = sits.published_is;
+        room = sits.room;
+        draft = sits.draft;
+        seen = λ i x saw. ⊎_elim (sits.seen i x) (λ t. record { here = ap (λ (j : ℕ). get_or s.words j 0) (sym t.1) ∙ t.2; fixed = let e = t.1 in inl (omega arith, omega arith, λ z. t.0 (t.2 ∙ z)) }) (seen_looked noted place found v i x saw);
+      } in
+      let kept = unmoved s k (place + 1) id me.1 v w at live mine refl in (
         w,
         keeps,
         tt,
@@ -142,16 +141,15 @@ module _ {S : Type 0} (IsRecord : S → List ℕ → Type 0) (home_of : ℕ → 
       let st = k.laid.stands place h there.1 in
       let within : IsWithin plan.shape st.number (k.used st.number) slot = subst (λ (x : ℕ). IsWithin plan.shape st.number (k.used st.number) x) there.0 st.within in
       let mine : Sits plan s.words k.used k.published id w = record {
-            plan_is = sits.plan_is;
-            number_is = sits.number_is;
-            used_is = sits.used_is;
-            published_is = sits.published_is;
-            room = sits.room;
-            draft = sits.draft;
-            seen = λ j x saw. ⊎_elim (λ t. record { here = ap (λ (n : ℕ). get_or s.words n 0) (sym t.0) ∙ t.1; fixed = let e = t.0 in let from = within.from in let to = within.to in inr (st.number, omega arith, omega arith) }) (sits.seen j x) saw;
-          } in
-      let kept = unmoved s k i id me.1 v w at live mine refl in
-      (
+        plan_is = sits.plan_is;
+        number_is = sits.number_is;
+        used_is = sits.used_is;
+        published_is = sits.published_is;
+        room = sits.room;
+        draft = sits.draft;
+        seen = λ j x saw. ⊎_elim (λ t. record { here = ap (λ (n : ℕ). get_or s.words n 0) (sym t.0) ∙ t.1; fixed = let e = t.0 in let from = within.from in let to = within.to in inr (st.number, omega arith, omega arith) }) (sits.seen j x) saw;
+      } in
+      let kept = unmoved s k i id me.1 v w at live mine refl in (
         w,
         keeps,
         tt,

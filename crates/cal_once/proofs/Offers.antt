@@ -155,13 +155,13 @@ module _ {S : Type 0} (IsRecord : S → List ℕ → Type 0) (home_of : ℕ → 
               let r = records q (probe_below plan.shape (home ws) e some_slot) b.0 in ((λ none. b.0 (sym r.0 ∙ none)), (λ one. b.1 (sym r.1 ∙ one))));
           has_parent = subst (λ (l : List ℕ). HasParent plan.shape.slots words l) back
               (⊎_elim inl (λ t.
-                  let f = seen_slot IsRecord home_of MayPublish long_record plan s.words k.used k.published k.laid t.0 t.1 t.3 (sits.seen (t.0 + 1) t.1 t.5) in
-                  let st = k.laid.stands t.0 t.3 f.1 in
-                  let w = st.within in
-                  let long = w.two_words in
-                  let r = records t.0 t.3 f.1 in
-                  let depth : get_or (record_at s.words t.0) 1 0 ≡ t.2 = get_or-part s.words (size_in (slot_of s.words t.0)) (start_in (slot_of s.words t.0)) 1 (omega arith) ∙ ap (λ (n : ℕ). get_or s.words (start_in n + 1) 0) f.0 ∙ (sits.seen (start_in t.1 + 1) t.2 t.6).here in
-                  inr (t.0, t.3, t.4, (λ none. f.1 (sym r.0 ∙ none)), t.7 ∙ ap (λ (n : ℕ). n + 1) (sym (ap (λ (l : List ℕ). get_or l 1 0) r.1 ∙ depth)))) may.parent);
+              let f = seen_slot IsRecord home_of MayPublish long_record plan s.words k.used k.published k.laid t.0 t.1 t.3 (sits.seen (t.0 + 1) t.1 t.5) in
+              let st = k.laid.stands t.0 t.3 f.1 in
+              let w = st.within in
+              let long = w.two_words in
+              let r = records t.0 t.3 f.1 in
+              let depth : get_or (record_at s.words t.0) 1 0 ≡ t.2 = get_or-part s.words (size_in (slot_of s.words t.0)) (start_in (slot_of s.words t.0)) 1 (omega arith) ∙ ap (λ (n : ℕ). get_or s.words (start_in n + 1) 0) f.0 ∙ (sits.seen (start_in t.1 + 1) t.2 t.6).here in
+              inr (t.0, t.3, t.4, (λ none. f.1 (sym r.0 ∙ none)), t.7 ∙ ap (λ (n : ℕ). n + 1) (sym (ap (λ (l : List ℕ). get_or l 1 0) r.1 ∙ depth)))) may.parent);
         }
 
     new_apart : (q : ℕ) → q < plan.shape.slots → q ≢ place → slot_of s.words q ≢ 0 → AreApart word (slot_of s.words q)
@@ -177,9 +177,9 @@ module _ {S : Type 0} (IsRecord : S → List ℕ → Type 0) (home_of : ℕ → 
         let to = w.to in
         let bound = k.laid.room st.number in
         ⊎_elim (λ (less : st.number < id). let c = arena_before plan.shape st.number id less in inr (omega arith))
-            (λ (some_more : id ≤ st.number). ⊎_elim (λ (greater : id < st.number). let c = arena_before plan.shape id st.number greater in inl (omega arith))
-                (λ (least : st.number ≤ id). let same : st.number ≡ id = omega arith in let n : k.used st.number ≡ k.used id = ap k.used same in let o : arena_start plan.shape st.number ≡ arena_start plan.shape id = ap (arena_start plan.shape) same in inr (omega arith)) (cases_lt id st.number))
-            (cases_lt st.number id)
+        (λ (some_more : id ≤ st.number). ⊎_elim (λ (greater : id < st.number). let c = arena_before plan.shape id st.number greater in inl (omega arith))
+        (λ (least : st.number ≤ id). let same : st.number ≡ id = omega arith in let n : k.used st.number ≡ k.used id = ap k.used same in let o : arena_start plan.shape st.number ≡ arena_start plan.shape id = ap (arena_start plan.shape) same in inr (omega arith)) (cases_lt id st.number))
+        (cases_lt st.number id)
 
     apart_back : (a b : ℕ) → AreApart a b → AreApart b a
     apart_back a b = ⊎_elim inr inl
@@ -199,16 +199,16 @@ module _ {S : Type 0} (IsRecord : S → List ℕ → Type 0) (home_of : ℕ → 
       apart = λ p q hp hq other fp fq. dite (ℕ_discrete p place)
           (λ e. let ne : q ≢ place = λ same. other (e ∙ sym same) in subst (λ (z : ℕ × ℕ). AreApart z.0 z.1) (λ j. (sym (ap (slot_of words) e ∙ here) j, sym (elsewhere q ne) j)) (new_apart q hq ne (old_filled q ne fq)))
           (λ np. dite (ℕ_discrete q place)
-              (λ e. subst (λ (z : ℕ × ℕ). AreApart z.0 z.1) (λ j. (sym (elsewhere p np) j, sym (ap (slot_of words) e ∙ here) j)) (apart_back word (slot_of s.words p) (new_apart p hp np (old_filled p np fp))))
-              (λ nq. subst (λ (z : ℕ × ℕ). AreApart z.0 z.1) (λ j. (sym (elsewhere p np) j, sym (elsewhere q nq) j)) (k.laid.apart p q hp hq other (old_filled p np fp) (old_filled q nq fq))));
+          (λ e. subst (λ (z : ℕ × ℕ). AreApart z.0 z.1) (λ j. (sym (elsewhere p np) j, sym (ap (slot_of words) e ∙ here) j)) (apart_back word (slot_of s.words p) (new_apart p hp np (old_filled p np fp))))
+          (λ nq. subst (λ (z : ℕ × ℕ). AreApart z.0 z.1) (λ j. (sym (elsewhere p np) j, sym (elsewhere q nq) j)) (k.laid.apart p q hp hq other (old_filled p np fp) (old_filled q nq fq))));
       listed = λ n q some_times. dite (ℕ_discrete q place)
           (λ e. dite (ℕ_discrete n id)
-              (λ same. let room = sits.room in let u = sits.used_is in
-                  let w : IsWithin plan.shape id plan.shape.arena word = (let a = size_is in let b = start_is in let t = two in let o = starts in record { is_arena = is_arena; two_words = omega arith; from = omega arith; to = omega arith }) in
-                  let slot : slot_of words q ≡ word = ap (slot_of words) e ∙ here in
-                  let h = may.is_place in
-                  (omega arith, (λ none. let t = two in let a : word ≡ 0 = sym slot ∙ none in absurd (omega arith)), subst (λ (z : ℕ × ℕ). IsWithin plan.shape z.0 plan.shape.arena z.1) (λ j. (sym same j, sym slot j)) w))
-              (λ other. let none = not_listed n in let c : times q (published n) ≡ times place (k.published n) = (λ j. times (e j) (changed_else k.published id (v.published ++ place ∷ []) n other j)) in absurd (omega arith)))
+          (λ same. let room = sits.room in let u = sits.used_is in
+          let w : IsWithin plan.shape id plan.shape.arena word = (let a = size_is in let b = start_is in let t = two in let o = starts in record { is_arena = is_arena; two_words = omega arith; from = omega arith; to = omega arith }) in
+          let slot : slot_of words q ≡ word = ap (slot_of words) e ∙ here in
+          let h = may.is_place in
+          (omega arith, (λ none. let t = two in let a : word ≡ 0 = sym slot ∙ none in absurd (omega arith)), subst (λ (z : ℕ × ℕ). IsWithin plan.shape z.0 plan.shape.arena z.1) (λ j. (sym same j, sym slot j)) w))
+          (λ other. let none = not_listed n in let c : times q (published n) ≡ times place (k.published n) = (λ j. times (e j) (changed_else k.published id (v.published ++ place ∷ []) n other j)) in absurd (omega arith)))
           (λ ne. let c = same_times q n ne in let l = k.laid.listed n q (omega arith) in (l.0, (λ none. l.1 (sym (elsewhere q ne) ∙ none)), subst (λ (x : ℕ). IsWithin plan.shape n plan.shape.arena x) (sym (elsewhere q ne)) l.2));
     }
 
@@ -232,10 +232,12 @@ module _ {S : Type 0} (IsRecord : S → List ℕ → Type 0) (home_of : ℕ → 
           draft = λ j l. absurd (omega arith);
           seen = λ i x saw. ⊎_elim (λ t. let h = may.is_place in record { here = ap (λ (n : ℕ). get_or words n 0) (sym t.0) ∙ here ∙ t.1; fixed = let e = t.0 in let two_words = two in let y = t.1 in inl (omega arith, omega arith, λ z. absurd (omega arith)) })
               (λ t. ⊎_elim (λ u. let q = placed_at (start_in word) ws i x u in let o = start_is in let first = starts in let less = q.1 in let place_is = q.2 in
-                      let index : i ≡ start + q.0 = omega arith in
-                      record { here = ap (λ (n : ℕ). get_or words n 0) index ∙ beyond (start + q.0) (omega arith) ∙ ap (λ (n : ℕ). get_or s.words (arena_start plan.shape n + v.used + q.0) 0) sits.number_is ∙ sits.draft q.0 q.1 ∙ sym q.3;
-                               fixed = let us = sits.used_is in inr (id, omega arith, omega arith) })
-                  (λ u. new_fixed i x (sits.seen i x u)) (Saw_either (placed (start_in word) ws) v.seen i x t)) saw;
+              let index : i ≡ start + q.0 = omega arith in
+              record {
+                here = ap (λ (n : ℕ). get_or words n 0) index ∙ beyond (start + q.0) (omega arith) ∙ ap (λ (n : ℕ). get_or s.words (arena_start plan.shape n + v.used + q.0) 0) sits.number_is ∙ sits.draft q.0 q.1 ∙ sym q.3;
+                fixed = let us = sits.used_is in inr (id, omega arith, omega arith);
+              })
+              (λ u. new_fixed i x (sits.seen i x u)) (Saw_either (placed (start_in word) ws) v.seen i x t)) saw;
         }
 
     new_others : (j : ℕ) (u : View S) → j ≢ id → Sits plan s.words k.used k.published j u → Sits plan words used published j u
@@ -255,11 +257,11 @@ module _ {S : Type 0} (IsRecord : S → List ℕ → Type 0) (home_of : ℕ → 
 
   offered_miss : (place word found : ℕ) (v : View S) → found ≢ 0 → offered place word found v ≡ record v { seen = (place + 1, found) ∷ v.seen }
   offered_miss place word found v ne = ap (λ (b : Bool). let w : View S = record v {
-        used = cond b (v.used + length v.draft) v.used;
-        draft = cond b [] v.draft;
-        published = cond b (v.published ++ place ∷ []) v.published;
-        seen = cond b ((place + 1, word) ∷ placed (start_in word) v.draft ++ v.seen) ((place + 1, found) ∷ v.seen)
-      } in w) (ne_eqb found 0 ne)
+    used = cond b (v.used + length v.draft) v.used;
+    draft = cond b [] v.draft;
+    published = cond b (v.published ++ place ∷ []) v.published;
+    seen = cond b ((place + 1, word) ∷ placed (start_in word) v.draft ++ v.seen) ((place + 1, found) ∷ v.seen);
+  } in w) (ne_eqb found 0 ne)
 
   pub allows_offer : (slots id place distance word : ℕ) (me : Me ℕ (View S)) → me.0.plan ≡ Some plan → MayOffer IsRecord MayPublish home_of plan me.0 place distance → word ≡ slot_for (length me.0.draft) (arena_start plan.shape me.0.number + me.0.used)
       → Allows R slots id me (place + 1) (λ n. either (eqb n 0) word n) (offers IsRecord MayPublish (step slots (place + 1) 0 word none) me)
@@ -268,29 +270,27 @@ module _ {S : Type 0} (IsRecord : S → List ℕ → Type 0) (home_of : ℕ → 
       let found : ℕ = slot_of s.words place in
       let sits = sits_of IsRecord home_of MayPublish long_record plan s k id v at live in
       dite (ℕ_discrete found 0)
-          (λ empty.
-              let w : View S = offered place word 0 v in
-              let kept : R record { words = set s.words (place + 1) word; homes = s.homes; views = set s.views id w } = subst (λ (x : ℕ). R record { words = set s.words (place + 1) x; homes = s.homes; views = set s.views id (offered place x 0 v) }) (sym named) (published_there s k id place distance v at live may empty) in
-              (
-                w,
-                keeps,
-                tt,
-                subst (λ (b : Bool). R (stepped s (place + 1) (either b word found) id me.1 w keeps)) (sym (eq-eqb found 0 empty)) kept,
-                λ there is. let same : place ≡ there = omega arith in subst (λ (p : ℕ). Offered IsRecord MayPublish p word me found (w, me.1)) same record {
-                  view = ap (λ (x : ℕ). (offered place word x v, me.1)) (sym empty);
-                  sound = of_plan IsRecord home_of MayPublish long_record plan (λ (p : Plan S). IsSound IsRecord MayPublish p w) v live (told IsRecord home_of MayPublish long_record plan s (set s.words (place + 1) word) id v w kept at live);
-                },
-              ))
-          (λ ne.
-              let w : View S = record v { seen = (place + 1, found) ∷ v.seen } in
-              let kept = unmoved IsRecord home_of MayPublish long_record plan s k (place + 1) id me.1 v w at live (met IsRecord home_of MayPublish long_record plan s k id place found v sits may.is_place refl ne) refl in
-              (
-                w,
-                keeps,
-                tt,
-                subst (λ (b : Bool). R (stepped s (place + 1) (either b word found) id me.1 w keeps)) (sym (ne_eqb found 0 ne)) kept,
-                λ there is. let same : place ≡ there = omega arith in subst (λ (p : ℕ). Offered IsRecord MayPublish p word me found (w, me.1)) same record {
-                  view = ap (λ (x : View S). (x, me.1)) (sym (offered_miss place word found v ne));
-                  sound = of_plan IsRecord home_of MayPublish long_record plan (λ (p : Plan S). IsSound IsRecord MayPublish p w) v live (told IsRecord home_of MayPublish long_record plan s (set s.words (place + 1) found) id v w kept at live);
-                },
-              ))
+      (λ empty.
+      let w : View S = offered place word 0 v in
+      let kept : R record { words = set s.words (place + 1) word; homes = s.homes; views = set s.views id w } = subst (λ (x : ℕ). R record { words = set s.words (place + 1) x; homes = s.homes; views = set s.views id (offered place x 0 v) }) (sym named) (published_there s k id place distance v at live may empty) in (
+        w,
+        keeps,
+        tt,
+        subst (λ (b : Bool). R (stepped s (place + 1) (either b word found) id me.1 w keeps)) (sym (eq-eqb found 0 empty)) kept,
+        λ there is. let same : place ≡ there = omega arith in subst (λ (p : ℕ). Offered IsRecord MayPublish p word me found (w, me.1)) same record {
+          view = ap (λ (x : ℕ). (offered place word x v, me.1)) (sym empty);
+          sound = of_plan IsRecord home_of MayPublish long_record plan (λ (p : Plan S). IsSound IsRecord MayPublish p w) v live (told IsRecord home_of MayPublish long_record plan s (set s.words (place + 1) word) id v w kept at live);
+        },
+      ))
+      (λ ne.
+      let w : View S = record v { seen = (place + 1, found) ∷ v.seen } in
+      let kept = unmoved IsRecord home_of MayPublish long_record plan s k (place + 1) id me.1 v w at live (met IsRecord home_of MayPublish long_record plan s k id place found v sits may.is_place refl ne) refl in (
+        w,
+        keeps,
+        tt,
+        subst (λ (b : Bool). R (stepped s (place + 1) (either b word found) id me.1 w keeps)) (sym (ne_eqb found 0 ne)) kept,
+        λ there is. let same : place ≡ there = omega arith in subst (λ (p : ℕ). Offered IsRecord MayPublish p word me found (w, me.1)) same record {
+          view = ap (λ (x : View S). (x, me.1)) (sym (offered_miss place word found v ne));
+          sound = of_plan IsRecord home_of MayPublish long_record plan (λ (p : Plan S). IsSound IsRecord MayPublish p w) v live (told IsRecord home_of MayPublish long_record plan s (set s.words (place + 1) found) id v w kept at live);
+        },
+      ))

@@ -22,11 +22,11 @@ module _ {S : Type 0} where
   pub missed : (place word found : ℕ) (words : List ℕ) (v w : View S) → w ≡ offered place word found (record v { draft = words }) → found ≢ 0 → Learns v w × Saw w.seen (place + 1) found × (w.draft ≡ words)
   missed place word found words v w is ne =
       let e : w ≡ record v { draft = words; seen = (place + 1, found) ∷ v.seen } = is ∙ ap (λ (b : Bool). let x : View S = record v {
-            used = cond b (v.used + length words) v.used;
-            draft = cond b [] words;
-            published = cond b (v.published ++ place ∷ []) v.published;
-            seen = cond b ((place + 1, word) ∷ placed (start_in word) words ++ v.seen) ((place + 1, found) ∷ v.seen)
-          } in x) (ne_eqb found 0 ne) in
+        used = cond b (v.used + length words) v.used;
+        draft = cond b [] words;
+        published = cond b (v.published ++ place ∷ []) v.published;
+        seen = cond b ((place + 1, word) ∷ placed (start_in word) words ++ v.seen) ((place + 1, found) ∷ v.seen);
+      } in x) (ne_eqb found 0 ne) in
       subst (λ (z : View S). Learns v z × Saw z.seen (place + 1) found × (z.draft ≡ words)) (sym e) (record { same = refl; more = λ i x h. inr h }, inl (refl, refl), refl)
 
   pub parent_later : (v w : View S) (slots : ℕ) (words : List ℕ) → ((i x : ℕ) → Saw v.seen i x → Saw w.seen i x) → KnowsParent v slots words → KnowsParent w slots words
@@ -40,8 +40,7 @@ module _ {S : Type 0} where
       let new : List (ℕ × ℕ) = (place + 1, word) ∷ placed (start_in word) words in
       let e : w ≡ record v { used = v.used + length words; draft = []; published = v.published ++ place ∷ []; seen = new ++ v.seen } = is ∙ ap (λ (n : ℕ). offered place word n (record v { draft = words })) none in
       let more : (i x : ℕ) → Saw v.seen i x → Saw w.seen i x = λ i x h. subst (λ (z : View S). Saw z.seen i x) (sym e) (Saw_right new v.seen i x h) in
-      let here : (i x : ℕ) → Saw new i x → Saw w.seen i x = λ i x h. subst (λ (z : View S). Saw z.seen i x) (sym e) (Saw_left new v.seen i x h) in
-      (
+      let here : (i x : ℕ) → Saw new i x → Saw w.seen i x = λ i x h. subst (λ (z : View S). Saw z.seen i x) (sym e) (Saw_left new v.seen i x h) in (
         record {
           is_place = is_place;
           holds = record { slot = word; known = here (place + 1) word (inl (refl, refl)); size = size-slot_for (length words) start small; each = λ i h. here (start_in word + i) (get_or words i 0) (inr (Saw_placed (start_in word) words i h)) };

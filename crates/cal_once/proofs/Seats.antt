@@ -41,13 +41,16 @@ module _ {S : Type 0} (IsRecord : S → List ℕ → Type 0) (home_of : ℕ → 
             (at_end views right u j there);
         first = λ u there. ⊎_elim
             (λ t. ⊎_elim (λ m. subst (λ (x : View S). Leads k.published (views ++ right ∷ []) x.others) m.1 record {
-                made = let l = length-append v.others (None ∷ []) in omega arith;
-                back = λ n places there. ⊎_elim
-                    (λ b. let o = old.back n places b.0 in let below = b.1 in (o.0, λ w here. ⊎_elim
+              made = let l = length-append v.others (None ∷ []) in omega arith;
+              back = λ n places there. ⊎_elim
+                  (λ b. let o = old.back n places b.0 in let below = b.1 in (
+                    o.0,
+                    λ w here. ⊎_elim
                         (λ x. ⊎_elim (λ y. let e = y.0 in absurd (omega arith)) (λ y. o.1 w y.1) (at_set s.views id (n + 1) left w x.0))
-                        (λ x. let e = x.1 in absurd (omega arith)) (at_end views right w (n + 1) here)))
-                    (λ b. absurd (cc b.0)) (at_end v.others None (Some places) n there);
-              }) (λ m. absurd (m.0 (sym is_first))) (at_set s.views id 0 left u t.0))
+                        (λ x. let e = x.1 in absurd (omega arith)) (at_end views right w (n + 1) here),
+                  ))
+                  (λ b. absurd (cc b.0)) (at_end v.others None (Some places) n there);
+            }) (λ m. absurd (m.0 (sym is_first))) (at_set s.views id 0 left u t.0))
             (λ t. let e = t.1 in absurd (omega arith)) (at_end views right u 0 there);
       }
 
@@ -64,8 +67,15 @@ module _ {S : Type 0} (IsRecord : S → List ℕ → Type 0) (home_of : ℕ → 
       let views : List (View S) = set s.views id both in
       let long = length-set s.views id both in
       let longer = length-set views other gone in
-      let sits_both : Sits plan s.words k.used k.published id both = record { plan_is = sits.plan_is; number_is = sits.number_is; used_is = sits.used_is; published_is = sits.published_is; room = sits.room; draft = sits.draft;
-            seen = λ i x saw. ⊎_elim (sits.seen i x) (sits_other.seen i x) (Saw_either v.seen w.seen i x saw) } in
+      let sits_both : Sits plan s.words k.used k.published id both = record {
+        plan_is = sits.plan_is;
+        number_is = sits.number_is;
+        used_is = sits.used_is;
+        published_is = sits.published_is;
+        room = sits.room;
+        draft = sits.draft;
+        seen = λ i x saw. ⊎_elim (sits.seen i x) (sits_other.seen i x) (Saw_either v.seen w.seen i x saw);
+      } in
       record {
         used = k.used;
         published = k.published;
@@ -77,13 +87,16 @@ module _ {S : Type 0} (IsRecord : S → List ℕ → Type 0) (home_of : ℕ → 
             (at_set views other j gone u here);
         first = λ u here. ⊎_elim (λ t. absurd (apart (sym t.0 ∙ sym is_first)))
             (λ t. ⊎_elim (λ m. subst (λ (x : View S). Leads k.published (set views other gone) x.others) m.1 record {
-                made = let j = length-joined v.others (w.number - 1) w.published in let m = old.made in omega arith;
-                back = λ n places b. ⊎_elim
-                    (λ c. let index : n + 1 ≡ other = (let e = c.0 in let zero_not : other ≢ 0 = (λ z. apart (z ∙ sym is_first)) in omega arith) in
-                        (c.1 ∙ sits_other.published_is ∙ ap k.published (sym index), λ x y. ⊎_elim (λ z. ap (λ (q : View S). q.plan) (sym z.1)) (λ z. absurd (z.0 index)) (at_set views other (n + 1) gone x y)))
-                    (λ c. let o = old.back n places c in (o.0, λ x y. ⊎_elim (λ z. ap (λ (q : View S). q.plan) (sym z.1))
-                        (λ z. ⊎_elim (λ q. let e = q.0 in absurd (omega arith)) (λ q. o.1 x q.1) (at_set s.views id (n + 1) both x z.1)) (at_set views other (n + 1) gone x y)))
-                    (at_joined v.others (w.number - 1) w.published n places b);
-              }) (λ m. absurd (m.0 (sym is_first))) (at_set s.views id 0 both u t.1))
+              made = let j = length-joined v.others (w.number - 1) w.published in let m = old.made in omega arith;
+              back = λ n places b. ⊎_elim
+                  (λ c. let index : n + 1 ≡ other = (let e = c.0 in let zero_not : other ≢ 0 = (λ z. apart (z ∙ sym is_first)) in omega arith) in
+                  (c.1 ∙ sits_other.published_is ∙ ap k.published (sym index), λ x y. ⊎_elim (λ z. ap (λ (q : View S). q.plan) (sym z.1)) (λ z. absurd (z.0 index)) (at_set views other (n + 1) gone x y)))
+                  (λ c. let o = old.back n places c in (
+                    o.0,
+                    λ x y. ⊎_elim (λ z. ap (λ (q : View S). q.plan) (sym z.1))
+                        (λ z. ⊎_elim (λ q. let e = q.0 in absurd (omega arith)) (λ q. o.1 x q.1) (at_set s.views id (n + 1) both x z.1)) (at_set views other (n + 1) gone x y),
+                  ))
+                  (at_joined v.others (w.number - 1) w.published n places b);
+            }) (λ m. absurd (m.0 (sym is_first))) (at_set s.views id 0 both u t.1))
             (at_set views other 0 gone u here);
       }

@@ -25,9 +25,9 @@ pub was_seen_from : (es : List (ℕ × ℕ)) (i x : ℕ) → Saw es i x → was_
 was_seen_from [] i x h = absurd h
 was_seen_from (e ∷ es) i x h = ⊎_elim (λ t. ap (λ (b : Bool). b || was_seen es i) (eq-eqb e.0 i t.0)) (λ t. or_right (eqb e.0 i) (was_seen es i) (was_seen_from es i x t)) h
   where
-  or_right : (a b : Bool) → b ≡ true → (a || b) ≡ true
-  or_right true b h = refl
-  or_right false b h = h
+    or_right : (a b : Bool) → b ≡ true → (a || b) ≡ true
+    or_right true b h = refl
+    or_right false b h = h
 
 pub seen_to_be : (es : List (ℕ × ℕ)) (i : ℕ) → was_seen es i ≡ true → (x : ℕ) × Saw es i x
 seen_to_be [] i h = absurd (cc)

@@ -53,9 +53,11 @@ module _ {S : Type 0} (IsRecord : S → List ℕ → Type 0) (home_of : ℕ → 
           let size : size_in (slot_of words place) ≡ size_in k.slot = ap size_in s.0 in
           let start : start_in (slot_of words place) ≡ start_in k.slot = ap start_in s.0 in
           let bound = inside place st in
-          let long = length-part words (size_in (slot_of words place)) (start_in (slot_of words place)) bound in
-          (s.1, λ e. ⊎_elim (λ differ. differ (sym size ∙ sym long ∙ ap length e))
-              (λ t. t.4 (sym (sits.seen (start_in k.slot + t.0) t.1 t.3).here ∙ ap (λ (n : ℕ). get_or words (n + t.0) 0) (sym start) ∙ sym (get_or-part words (size_in (slot_of words place)) (start_in (slot_of words place)) t.0 (subst (λ (n : ℕ). t.0 < n) (sym size) t.2)) ∙ ap (λ (l : List ℕ). get_or l t.0 0) e)) k.differs)
+          let long = length-part words (size_in (slot_of words place)) (start_in (slot_of words place)) bound in (
+            s.1,
+            λ e. ⊎_elim (λ differ. differ (sym size ∙ sym long ∙ ap length e))
+                (λ t. t.4 (sym (sits.seen (start_in k.slot + t.0) t.1 t.3).here ∙ ap (λ (n : ℕ). get_or words (n + t.0) 0) (sym start) ∙ sym (get_or-part words (size_in (slot_of words place)) (start_in (slot_of words place)) t.0 (subst (λ (n : ℕ). t.0 < n) (sym size) t.2)) ∙ ap (λ (l : List ℕ). get_or l t.0 0) e)) k.differs,
+          )
 
       -- the first two words of a record that were seen are there
       spot : (place x j y : ℕ) → place < plan.shape.slots → j < 2 → Saw v.seen (place + 1) x → Saw v.seen (start_in x + j) y → get_or (record_at words place) j 0 ≡ y
@@ -73,8 +75,8 @@ module _ {S : Type 0} (IsRecord : S → List ℕ → Type 0) (home_of : ℕ → 
           let p : get_or (record_at words place) 0 0 ≡ parent = spot place slot 0 parent h (omega arith) known (let e : start_in slot ≡ start_in slot + 0 = omega arith in subst (λ (i : ℕ). Saw v.seen i parent) e first) in
           let d : get_or (record_at words place) 1 0 ≡ depth = spot place slot 1 depth h (omega arith) known second in
           ⊎_elim (λ t. inl (sym p ∙ t.0, sym d ∙ t.1))
-              (λ t. inr (t.0, sym p ∙ t.2, t.1, λ above_slot above k l. sym d ∙ t.4 ∙ ap (λ (n : ℕ). n + 1) (spot t.0 above_slot 1 above t.1 (omega arith) k l)))
-              st.has_parent
+          (λ t. inr (t.0, sym p ∙ t.2, t.1, λ above_slot above k l. sym d ∙ t.4 ∙ ap (λ (n : ℕ). n + 1) (spot t.0 above_slot 1 above t.1 (omega arith) k l)))
+          st.has_parent
 
       one_place : (p q : ℕ) (ws : List ℕ) → p < plan.shape.slots → q < plan.shape.slots → Holds v p ws → Holds v q ws → p ≡ q
       one_place p q ws hp hq kp kq =
@@ -85,12 +87,12 @@ module _ {S : Type 0} (IsRecord : S → List ℕ → Type 0) (home_of : ℕ → 
           let e : record_at words p ≡ record_at words q = a.1 ∙ sym b.1 in
           let P : List ℕ → ℕ → ℕ = λ ws d. probe plan.shape (home_of plan.shape.homes ws) d in
           ⊎_elim
-              (λ (less : x.distance < y.distance). absurd ((y.before x.distance less).1 (ap (record_at words) (sym (x.at ∙ ap (λ (l : List ℕ). P l x.distance) e)) ∙ e)))
-              (λ (more : y.distance ≤ x.distance). ⊎_elim
-                  (λ (less : y.distance < x.distance). absurd ((x.before y.distance less).1 (ap (record_at words) (sym (y.at ∙ ap (λ (l : List ℕ). P l y.distance) (sym e))) ∙ sym e)))
-                  (λ (least : x.distance ≤ y.distance). let same : x.distance ≡ y.distance = omega arith in x.at ∙ (λ i. P (e i) (same i)) ∙ sym y.at)
-                  (cases_lt y.distance x.distance))
-              (cases_lt x.distance y.distance)
+          (λ (less : x.distance < y.distance). absurd ((y.before x.distance less).1 (ap (record_at words) (sym (x.at ∙ ap (λ (l : List ℕ). P l x.distance) e)) ∙ e)))
+          (λ (more : y.distance ≤ x.distance). ⊎_elim
+          (λ (less : y.distance < x.distance). absurd ((x.before y.distance less).1 (ap (record_at words) (sym (y.at ∙ ap (λ (l : List ℕ). P l y.distance) (sym e))) ∙ sym e)))
+          (λ (least : x.distance ≤ y.distance). let same : x.distance ≡ y.distance = omega arith in x.at ∙ (λ i. P (e i) (same i)) ∙ sym y.at)
+          (cases_lt y.distance x.distance))
+          (cases_lt x.distance y.distance)
 
       is_lawful : (place : ℕ) (ws : List ℕ) → place < plan.shape.slots → Holds v place ws → IsLawful IsRecord MayPublish plan v place ws
       is_lawful place ws h k =
@@ -126,13 +128,13 @@ module _ {S : Type 0} (IsRecord : S → List ℕ → Type 0) (home_of : ℕ → 
             let others : (m : ℕ) → m ≢ st.number → listed_in place m ≡ 0 = one_list place h s.1 st in
             let made = (leads (sym sits.number_is ∙ all.0)).made in
             let is_made : st.number < length views = ⊎_elim (λ (l : st.number < length views). l)
-                    (λ (g : length views ≤ st.number). let none : times place (published st.number) ≡ 0 = ap (times place) (unmade st.number g) in let one = st.listed in absurd (omega arith)) (cases_lt st.number (length views)) in
+            (λ (g : length views ≤ st.number). let none : times place (published st.number) ≡ 0 = ap (times place) (unmade st.number g) in let one = st.listed in absurd (omega arith)) (cases_lt st.number (length views)) in
             dite (ℕ_discrete st.number 0)
-                (λ first. let one : listed_in place 0 ≡ 1 = ap (listed_in place) (sym first) ∙ st.listed in
-                    let rest = sum_from_none (listed_in place) 1 (length v.others) (λ j low _. others j (λ e. omega arith)) in all_times all place ∙ omega arith)
-                (λ later. let none : listed_in place 0 ≡ 0 = others 0 (λ e. later (sym e)) in
-                    let one = sum_from_one (listed_in place) 1 (length v.others) st.number (omega arith) (omega arith) others in
-                    let l = st.listed in all_times all place ∙ omega arith)
+            (λ first. let one : listed_in place 0 ≡ 1 = ap (listed_in place) (sym first) ∙ st.listed in
+            let rest = sum_from_none (listed_in place) 1 (length v.others) (λ j low _. others j (λ e. omega arith)) in all_times all place ∙ omega arith)
+            (λ later. let none : listed_in place 0 ≡ 0 = others 0 (λ e. later (sym e)) in
+            let one = sum_from_one (listed_in place) 1 (length v.others) st.number (omega arith) (omega arith) others in
+            let l = st.listed in all_times all place ∙ omega arith)
 
         pub is_sound : number < plan.shape.arenas → IsSound IsRecord MayPublish plan v
         is_sound is_arena = record {

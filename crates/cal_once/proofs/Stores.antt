@@ -32,7 +32,7 @@ record_at-set words i x place other outside inside =
     let start : ℕ = start_in (slot_of words place) in
     let slot : slot_of (set words i x) place ≡ slot_of words place = get_or-set_other words i (place + 1) x 0 other in
     let part : take size (drop start (set words i x)) ≡ take size (drop start words) = same_part (set words i x) words size start (length-set words i x)
-        (λ j low high. get_or-set_other words i j x 0 (λ e. ⊎_elim (λ before. absurd (omega arith)) (λ after. absurd (omega arith)) outside)) (let l = length-set words i x in omega arith) in
+    (λ j low high. get_or-set_other words i j x 0 (λ e. ⊎_elim (λ before. absurd (omega arith)) (λ after. absurd (omega arith)) outside)) (let l = length-set words i x in omega arith) in
     (slot, (λ j. take (size_in (slot j)) (drop (start_in (slot j)) (set words i x))) ∙ part)
 
 module _ {S : Type 0} (IsRecord : S → List ℕ → Type 0) (home_of : ℕ → List ℕ → ℕ) (MayPublish : S → ℕ → List ℕ → Type 0) (long_record : (sort : S) (ws : List ℕ) → IsRecord sort ws → 2 ≤ length ws) (plan : Plan S) where
@@ -76,9 +76,9 @@ module _ {S : Type 0} (IsRecord : S → List ℕ → Type 0) (home_of : ℕ → 
         let to = w.to in
         let room = laid.room st.number in
         ⊎_elim (λ (less : st.number < id). let b = arena_before plan.shape st.number id less in inr (omega arith))
-            (λ (more : id ≤ st.number). ⊎_elim (λ (greater : id < st.number). let b = arena_before plan.shape id st.number greater in inl (omega arith))
-                (λ (least : st.number ≤ id). let same : st.number ≡ id = omega arith in let u : used st.number ≡ used id = ap used same in let a : arena_start plan.shape st.number ≡ arena_start plan.shape id = ap (arena_start plan.shape) same in inr (omega arith)) (cases_lt id st.number))
-            (cases_lt st.number id)
+        (λ (more : id ≤ st.number). ⊎_elim (λ (greater : id < st.number). let b = arena_before plan.shape id st.number greater in inl (omega arith))
+        (λ (least : st.number ≤ id). let same : st.number ≡ id = omega arith in let u : used st.number ≡ used id = ap used same in let a : arena_start plan.shape st.number ≡ arena_start plan.shape id = ap (arena_start plan.shape) same in inr (omega arith)) (cases_lt id st.number))
+        (cases_lt st.number id)
 
     slot_same : (place : ℕ) → place < plan.shape.slots → slot_of (set words i x) place ≡ slot_of words place
     slot_same place h = get_or-set_other words i (place + 1) x 0 (λ e. omega arith)
@@ -106,8 +106,8 @@ module _ {S : Type 0} (IsRecord : S → List ℕ → Type 0) (home_of : ℕ → 
     pub fixed_apart : (j y : ℕ) → IsFixed plan words used j y → j ≢ i
     fixed_apart j y f e = ⊎_elim (λ t. let b = t.1 in absurd (omega arith))
         (λ t. let room = laid.room t.0 in let a = t.1 in let b = t.2 in
-            let same : t.0 ≡ id = one_arena plan.shape t.0 id j (omega arith) (omega arith) (omega arith) (omega arith) in
-            let u : used t.0 ≡ used id = ap used same in let s : arena_start plan.shape t.0 ≡ arena_start plan.shape id = ap (arena_start plan.shape) same in absurd (omega arith)) f.fixed
+        let same : t.0 ≡ id = one_arena plan.shape t.0 id j (omega arith) (omega arith) (omega arith) (omega arith) in
+        let u : used t.0 ≡ used id = ap used same in let s : arena_start plan.shape t.0 ≡ arena_start plan.shape id = ap (arena_start plan.shape) same in absurd (omega arith)) f.fixed
 
     fixed_store : (j y : ℕ) → IsFixed plan words used j y → IsFixed plan (set words i x) used j y
     fixed_store j y f = record { here = get_or-set_other words i j x 0 (fixed_apart j y f) ∙ f.here; fixed = f.fixed }
@@ -143,19 +143,18 @@ module _ {S : Type 0} (IsRecord : S → List ℕ → Type 0) (home_of : ℕ → 
       let front : length (take k v.draft) ≡ k = omega (arith, length-take k v.draft) in
       let whole : length w.draft ≡ k + 1 = length-append (take k v.draft) (x ∷ []) ∙ (omega arith) in
       let mine : Sits plan (set s.words i x) kept.used kept.published id w = record {
-            plan_is = sits.plan_is;
-            number_is = sits.number_is;
-            used_is = sits.used_is;
-            published_is = sits.published_is;
-            room = omega arith;
-            draft = λ j l. dite (ℕ_discrete j k)
-                (λ e. let here : arena_start plan.shape id + v.used + j ≡ i = omega arith in ap (λ (n : ℕ). get_or (set s.words i x) n 0) here ∙ get_or-set_same s.words i x 0 (omega arith)
-                    ∙ sym (ap (λ (n : ℕ). get_or w.draft n 0) (e ∙ sym front) ∙ get_or-append_seam (take k v.draft) x [] 0))
-                (λ ne. let less : j < k = omega arith in get_or-set_other s.words i (arena_start plan.shape id + v.used + j) x 0 (λ e. omega arith) ∙ sits.draft j (omega arith)
-                    ∙ sym (get_or-append (take k v.draft) (x ∷ []) 0 j (omega arith) ∙ get_or-take k v.draft j 0 less));
-            seen = λ n y saw. fixed_store s.words kept.used kept.published kept.laid id i x low high n y (sits.seen n y saw);
-          } in
-      (
+        plan_is = sits.plan_is;
+        number_is = sits.number_is;
+        used_is = sits.used_is;
+        published_is = sits.published_is;
+        room = omega arith;
+        draft = λ j l. dite (ℕ_discrete j k)
+            (λ e. let here : arena_start plan.shape id + v.used + j ≡ i = omega arith in ap (λ (n : ℕ). get_or (set s.words i x) n 0) here ∙ get_or-set_same s.words i x 0 (omega arith)
+            ∙ sym (ap (λ (n : ℕ). get_or w.draft n 0) (e ∙ sym front) ∙ get_or-append_seam (take k v.draft) x [] 0))
+            (λ ne. let less : j < k = omega arith in get_or-set_other s.words i (arena_start plan.shape id + v.used + j) x 0 (λ e. omega arith) ∙ sits.draft j (omega arith)
+            ∙ sym (get_or-append (take k v.draft) (x ∷ []) 0 j (omega arith) ∙ get_or-take k v.draft j 0 less));
+        seen = λ n y saw. fixed_store s.words kept.used kept.published kept.laid id i x low high n y (sits.seen n y saw);
+      } in (
         w,
         keeps,
         tt,

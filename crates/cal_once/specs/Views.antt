@@ -74,7 +74,7 @@ module _ {S : Type 0} where
   abbrev pub looked : Bool → ℕ → ℕ → View S → View S
   looked noted place found v = record v {
     looks = if (found == 0) && noted then v.looks ++ place ∷ [] else v.looks;
-    seen = if found == 0 then v.seen else (place + 1, found) ∷ v.seen
+    seen = if found == 0 then v.seen else (place + 1, found) ∷ v.seen;
   }
 
   -- after a load of a record's word
@@ -91,7 +91,7 @@ module _ {S : Type 0} where
     used = if found == 0 then v.used + length v.draft else v.used;
     draft = if found == 0 then [] else v.draft;
     published = if found == 0 then v.published ++ place ∷ [] else v.published;
-    seen = if found == 0 then (place + 1, word) ∷ placed (start_in word) v.draft ++ v.seen else (place + 1, found) ∷ v.seen
+    seen = if found == 0 then (place + 1, word) ∷ placed (start_in word) v.draft ++ v.seen else (place + 1, found) ∷ v.seen;
   }
 
   -- the first seat after a split, and the new seat

@@ -1,12 +1,19 @@
-//! Write-once rows.
+//! Write-once rows: a table in which many threads put records, without locks, and in which each record stands at one
+//! place for good.
+//!
+//! The layers above use that a place which a seat knows never changes, that equal records are at one place, and
+//! that a refusal tells what was found. Each call keeps the rule of `specs/Rule.antt` at each of its atomic
+//! steps, whatever other seats do. Nothing is promised of progress, of fairness, or of an order in time.
 #![tactic(auto)]
 
 mod answer;
 mod compare;
+mod filled;
 mod find;
 mod found;
 mod load;
 mod look;
+mod new;
 mod offer;
 mod place;
 mod put;
@@ -15,6 +22,8 @@ mod rule;
 mod seat;
 mod shape;
 mod split;
+#[cfg(test)]
+mod tests;
 mod view;
 
 pub use answer::Put;
@@ -22,11 +31,3 @@ pub use rows::Rows;
 pub use seat::RowSeat;
 pub use shape::Shape;
 pub use view::{Plan, View};
-
-ghost use Rattle.std.specs.Prelude.{◌≡◌};
-
-pub fn scratch(n: u64) -> u64
-    ensures { result ≡ n }
-{
-    n
-}

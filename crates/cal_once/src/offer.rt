@@ -26,12 +26,7 @@ impl<S: RecSort> Rows<S> {
     }
 
     // Writes a record behind the words that the seat published.
-    pub(crate) fn draft<P: Packed<S>>(
-        &self,
-        seat: &mut Seat<u8, View<S>>,
-        rec: &P,
-        start: u64,
-    )
+    pub(crate) fn draft<P: Packed<S>>(&self, seat: &mut Seat<u8, View<S>>, rec: &P, start: u64)
         requires seat { IsAt self.now seat.old }
         requires arena { seat.old.me.0.number < (plan_of self.now).shape.arenas }
         requires start { start ≡ arena_start (plan_of self.now).shape seat.old.me.0.number + seat.old.me.0.used }

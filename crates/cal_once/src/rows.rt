@@ -8,6 +8,7 @@ use cal_words::RecSort;
 use std::alloc::Global;
 
 /// A table of records, each of which stands at its place for good.
+#[derive(Drop)]
 pub struct Rows<S: RecSort> {
     pub(crate) table: Table<u8, View<S>, Plan<S>, WriteOnce, Global>,
     pub(crate) plan: Plan<S>,

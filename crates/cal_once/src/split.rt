@@ -35,6 +35,8 @@ impl<S: RecSort> Rows<S> {
         ensures seat { IsSeatOf self.now seat.new }
         ensures joined { view seat.new ≡ joined (view seat.old) (view other) }
     {
-        self.table.shared.join_seat::<Meet>(&mut seat.seat, other.into_seat());
+        self.table
+            .shared
+            .join_seat::<Meet>(&mut seat.seat, other.into_seat());
     }
 }

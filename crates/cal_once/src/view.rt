@@ -2,6 +2,7 @@ use crate::Shape;
 use std::collections::LinkedList;
 
 /// What a table is told once.
+#[derive(Drop)]
 pub struct Plan<S> {
     pub shape: Shape,
     pub sort: S,

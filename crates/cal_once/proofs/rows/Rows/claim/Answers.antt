@@ -8,7 +8,7 @@ use Rattle.cal_once.proofs.rows.Rows.claim.Goals.{After-len, then-not-drafted, e
 -- the record is drafted, now or before
 is_drafted : (g : _) (c : After-len g) → c.if-not-drafted.seat.me.0 ≡ record c.args.seat.now.me.0 { draft = g.P.Packed.words c.args.rec.now }
 is_drafted g c = elim c.if-not-drafted.branch [
-  then-not-drafted w ↦ ap (λ s. s.me.0) w.seat-is ∙ w.draft.ensures.drafted
+  | then-not-drafted w ↦ ap (λ s. s.me.0) w.seat-is ∙ w.draft.ensures.drafted
   | else-not-drafted w ↦ ap (λ s. s.me.0) w.seat-is ∙ ap (λ (l : List ℕ). let v : View _ = record c.args.seat.now.me.0 { draft = l } in v) (c.requires.drafted w.if-not-drafted.false)
 ]
 

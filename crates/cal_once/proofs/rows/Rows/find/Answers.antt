@@ -21,7 +21,7 @@ returns-then-slot-eq0-clause-found g c =
     let place : ℕ = (c.args.home + c.loop-distance.distance) % c.args.self.now.plan.shape.slots in
     let seen = c.note-slot.ensures.looked in
     empty_found (plan_of c.args.self.now) c.args.home c.args.seat.now.me.0 c.loop-distance.seat.me.0 c.note-slot.new.seat.me.0 (g.P.Packed.words c.args.rec.now) place c.loop-distance.distance c.note-slot.result inv.learns
-        (ap (λ m. m.0) seen.view) c.if-slot-eq0.true (seen.empty (plan_of c.args.self.now) inv.at.plan c.if-slot-eq0.true) (is_near g d) (is_probe g d) inv.before
+    (ap (λ m. m.0) seen.view) c.if-slot-eq0.true (seen.empty (plan_of c.args.self.now) inv.at.plan c.if-slot-eq0.true) (is_near g d) (is_probe g d) inv.before
 
 pub returns-then-compare-clause-found : goal.returns-then-compare-clause-found
 returns-then-compare-clause-found g c =
@@ -29,8 +29,7 @@ returns-then-compare-clause-found g c =
     let inv = c.loop-distance.invariant in
     let place : ℕ = (c.args.home + c.loop-distance.distance) % c.args.self.now.plan.shape.slots in
     let met = learns_slot true place c.note-slot.result c.loop-distance.seat.me.0 c.note-slot.new.seat.me.0 (ap (λ m. m.0) c.note-slot.ensures.looked.view) c.if-slot-eq0.false in
-    let all = learns_then c.loop-distance.seat.me.0 c.note-slot.new.seat.me.0 c.compare.new.seat.me.0 met.0 c.compare.ensures.learns.0 in
-    (
+    let all = learns_then c.loop-distance.seat.me.0 c.note-slot.new.seat.me.0 c.compare.new.seat.me.0 met.0 c.compare.ensures.learns.0 in (
       record {
         is_place = let near = is_near g d in let slots = ap (λ p. p.shape.slots) c.args.self.now.plan_is in let below : place < c.args.self.now.plan.shape.slots = mod-lt (c.args.home + c.loop-distance.distance) (omega arith) in omega arith;
         holds = c.if-compare.ensures.same;
@@ -63,8 +62,7 @@ returns-clause-found g c =
     let peeked = learns_peek c.args.home c.peek-slot.result c.loop-distance.seat.me.0 c.peek-slot.new.seat.me.0 (ap (λ m. m.0) c.peek-slot.ensures.looked.view) in
     let slots = ap (λ p. p.shape.slots) c.args.self.now.plan_is in
     let homes = ap (λ p. p.shape.homes) c.args.self.now.plan_is in
-    let enough = c.args.self.now.shaped.enough_slots in
-    (
+    let enough = c.args.self.now.shaped.enough_slots in (
       all_others plan c.args.home c.loop-distance.seat.me.0 c.peek-slot.new.seat.me.0 (g.P.Packed.words c.args.rec.now) (omega (arith, c.requires.home)) peeked (λ e h. inv.before e (omega arith)),
       learns_then c.args.seat.now.me.0 c.loop-distance.seat.me.0 c.peek-slot.new.seat.me.0 inv.learns peeked,
     )

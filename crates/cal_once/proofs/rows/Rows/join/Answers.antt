@@ -8,8 +8,7 @@ pub join_seat-requires : goal.join_seat-requires
 join_seat-requires g c =
     let rows = c.args.self.now in
     let plan = rows.table.shared.key in
-    let long = words_are rows.plan plan rows.table.shared.table_id.words rows.plan_is rows.long in
-    (
+    let long = words_are rows.plan plan rows.table.shared.table_id.words rows.plan_is rows.long in (
       c.requires.seats.0.table,
       ap (λ s. s.table_id) c.into_seat.ensures.seat ∙ c.requires.seats.1.table,
       c.into_seat.ensures.bare,

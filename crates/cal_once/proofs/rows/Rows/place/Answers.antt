@@ -79,27 +79,25 @@ is_met g c =
     let inv = c.loop-distance.invariant in
     let view = c.peek-slot.ensures.looked.view in
     elim c.if-slot-eq0.branch [
-      then-slot-eq0+else-slot-eq0-2 w ↦ subst (λ (z : Seat ℕ (View g.row.S.Denot) × ℕ × Bool). Met g c z.0 z.1 z.2) (λ i. (sym w.seat-is i, sym w.slot-is i, sym w.drafted-is i))
+      | then-slot-eq0+else-slot-eq0-2 w ↦ subst (λ (z : Seat ℕ (View g.row.S.Denot) × ℕ × Bool). Met g c z.0 z.1 z.2) (λ i. (sym w.seat-is i, sym w.slot-is i, sym w.drafted-is i))
           (let first = learns_peek place c.peek-slot.result c.loop-distance.seat.me.0 c.peek-slot.new.seat.me.0 (ap (λ m. m.0) view) in
-              let miss = missed place (slot_for (length (g.P.Packed.words c.args.rec.now)) (arena_start plan.shape c.args.own.number + c.args.own.used)) w.claim-slot.result (g.P.Packed.words c.args.rec.now) c.peek-slot.new.seat.me.0 w.claim-slot.new.seat.me.0 (ap (λ m. m.0) w.claim-slot.ensures.offered) w.if-slot-eq0-2.false in
-              (
-                w.claim-slot.ensures.seat,
-                ap (λ m. m.1) w.claim-slot.ensures.offered ∙ ap (λ m. m.1) view ∙ inv.hand,
-                learns_then c.loop-distance.seat.me.0 c.peek-slot.new.seat.me.0 w.claim-slot.new.seat.me.0 first miss.0,
-                miss.1,
-                w.claim-slot.ensures.sound,
-                λ t. miss.2,
-              ))
+          let miss = missed place (slot_for (length (g.P.Packed.words c.args.rec.now)) (arena_start plan.shape c.args.own.number + c.args.own.used)) w.claim-slot.result (g.P.Packed.words c.args.rec.now) c.peek-slot.new.seat.me.0 w.claim-slot.new.seat.me.0 (ap (λ m. m.0) w.claim-slot.ensures.offered) w.if-slot-eq0-2.false in (
+            w.claim-slot.ensures.seat,
+            ap (λ m. m.1) w.claim-slot.ensures.offered ∙ ap (λ m. m.1) view ∙ inv.hand,
+            learns_then c.loop-distance.seat.me.0 c.peek-slot.new.seat.me.0 w.claim-slot.new.seat.me.0 first miss.0,
+            miss.1,
+            w.claim-slot.ensures.sound,
+            λ t. miss.2,
+          ))
       | else-slot-eq0 w ↦ subst (λ (z : Seat ℕ (View g.row.S.Denot) × ℕ × Bool). Met g c z.0 z.1 z.2) (λ i. (sym w.seat-is i, sym w.slot-is i, sym w.drafted-is i))
-          (let met = learns_slot false place c.peek-slot.result c.loop-distance.seat.me.0 c.peek-slot.new.seat.me.0 (ap (λ m. m.0) view) w.if-slot-eq0.false in
-              (
-                c.peek-slot.ensures.seat,
-                ap (λ m. m.1) view ∙ inv.hand,
-                met.0,
-                met.1,
-                c.peek-slot.ensures.looked.sound plan inv.at.plan,
-                λ t. ap (λ m. m.0.draft) view ∙ inv.written t,
-              ))
+          (let met = learns_slot false place c.peek-slot.result c.loop-distance.seat.me.0 c.peek-slot.new.seat.me.0 (ap (λ m. m.0) view) w.if-slot-eq0.false in (
+            c.peek-slot.ensures.seat,
+            ap (λ m. m.1) view ∙ inv.hand,
+            met.0,
+            met.1,
+            c.peek-slot.ensures.looked.sound plan inv.at.plan,
+            λ t. ap (λ m. m.0.draft) view ∙ inv.written t,
+          ))
     ]
 
 pub loop-distance-init : goal.loop-distance-init

@@ -16,10 +16,10 @@ is_inside g c =
     let plan = plan_of c.args.self.now in
     let x = seen_to_be old.seen (c.args.place + 1) c.requires.known.1 in
     dite (ℕ_discrete c.peek-slot.result 0)
-        (λ none. absurd ((seen.empty plan c.requires.seat.plan none).unknown c.requires.known.1))
-        (λ some. let met = learns_slot false c.args.place c.peek-slot.result old c.peek-slot.new.seat.me.0 (ap (λ m. m.0) seen.view) some in
-            let same = (seen.sound plan c.requires.seat.plan).one_word (c.args.place + 1) x.0 c.peek-slot.result (met.0.more (c.args.place + 1) x.0 x.1) met.1 in
-            subst (λ (w : ℕ). c.args.i < size_in w) same (c.requires.inside x.0 x.1))
+    (λ none. absurd ((seen.empty plan c.requires.seat.plan none).unknown c.requires.known.1))
+    (λ some. let met = learns_slot false c.args.place c.peek-slot.result old c.peek-slot.new.seat.me.0 (ap (λ m. m.0) seen.view) some in
+    let same = (seen.sound plan c.requires.seat.plan).one_word (c.args.place + 1) x.0 c.peek-slot.result (met.0.more (c.args.place + 1) x.0 x.1) met.1 in
+    subst (λ (w : ℕ). c.args.i < size_in w) same (c.requires.inside x.0 x.1))
 
 pub overflow_add-start : goal.overflow_add-start
 overflow_add-start g c = let h = is_inside g (goal.at.overflow_add-start g c).After-peek-slot in omega arith

@@ -1,0 +1,1 @@
+use crate::{Put, RowSeat, Rows, Shape};
