@@ -22,8 +22,6 @@ mod rule;
 mod seat;
 mod shape;
 mod split;
-#[cfg(test)]
-mod tests;
 mod view;
 
 pub use answer::Put;

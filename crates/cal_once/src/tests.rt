@@ -1,1 +1,0 @@
-use crate::{Put, RowSeat, Rows, Shape};
