@@ -22,6 +22,8 @@ mod rule;
 mod seat;
 mod shape;
 mod split;
+#[cfg(test)]
+mod tests;
 mod view;
 
 pub use answer::Put;
