@@ -1,0 +1,13 @@
+pub mod Seen
+pub mod Regions
+pub mod Sounds
+pub mod Moves
+pub mod Stores
+pub mod Offers
+pub mod Seats
+pub mod Within
+pub mod Learning
+pub mod Finding
+pub mod Placing
+pub mod Opening
+pub mod Counts

@@ -1,0 +1,161 @@
+-- What a seat knows follows from the rule.
+use Rattle.std.proofs.Common.{◌≡◌, ◌≢◌, ◌⊎◌, ℕ, zero, suc, ◌+◌, ◌-◌, ◌*◌, ◌/◌, ◌%◌, ◌^◌, ◌<◌, ◌≤◌, Bool, true, false, Option, Some, None, List, [], ◌∷◌, ◌++◌, length, get_or, take, drop, sym, refl, ap, ◌∙◌, subst, inl, inr, ⊎_elim, arith}
+use mathlib.Core.Logic.{dite}
+use mathlib.Core.Option.{some}
+use native.Mathlib.Decide.{ℕ_discrete}
+use lib.ListN.{get_elem?}
+use Rattle.std.proofs.lemmas.Bool.{cases_lt}
+use Rattle.cal_once.specs.declared.view.View.{View}
+use Rattle.cal_once.specs.declared.view.Plan.{Plan}
+use Rattle.cal_once.specs.Layout.{IsShape, IsWithin, AreApart, word_count, arena_start, size_in, start_in, slot_of, record_at, probe, times}
+use Rattle.cal_once.specs.Views.{Saw, Knows, Holds, HoldsOther, KnowsParent, IsParent, AllJoined, all_published, gathered}
+use Rattle.cal_once.specs.Sound.{IsLawful, IsBelow, IsSound}
+use Rattle.cal_once.specs.Rule.{HasParent, HoldsAnother, IsFixed, Stands, IsLaid, Sits, Leads}
+use Rattle.cal_once.specs.Steps.{WasEmpty}
+use Rattle.cal_once.proofs.Seen.{seen_to_be, times-append, sum_from, sum_from_none, sum_from_one, times-gathered}
+use Rattle.cal_once.proofs.Regions.{part_is, length-part, get_or-part, arena_inside, one_region}
+
+module _ {S : Type 0} (IsRecord : S → List ℕ → Type 0) (home_of : ℕ → List ℕ → ℕ) (MayPublish : S → ℕ → List ℕ → Type 0) where
+  module _ (long_record : (sort : S) (ws : List ℕ) → IsRecord sort ws → 2 ≤ length ws) (plan : Plan S) (words : List ℕ) (used : ℕ → ℕ) (published : ℕ → List ℕ) (laid : IsLaid IsRecord home_of MayPublish plan words used published) where
+    -- a slot's word that was seen is there, and isn't 0
+    pub seen_slot : (place x : ℕ) → place < plan.shape.slots → IsFixed plan words used (place + 1) x → (slot_of words place ≡ x) × (slot_of words place ≢ 0)
+    seen_slot place x h f = let here = f.here in (here, ⊎_elim (λ t e. t.2 (sym here ∙ e)) (λ t. let low = t.1 in absurd (omega arith)) f.fixed)
+
+    -- a filled slot's record lies within the words
+    pub inside : (place : ℕ) → Stands IsRecord home_of MayPublish plan words used published place → start_in (slot_of words place) + size_in (slot_of words place) ≤ length words
+    inside place st = let w = st.within in let to = w.to in let e = arena_inside plan.shape st.number (used st.number) w.is_arena (laid.room st.number) in let l = laid.long in omega arith
+
+    -- a number's words don't reach past its arena
+    pub widened : (n : ℕ) (w : ℕ) → IsWithin plan.shape n (used n) w → IsWithin plan.shape n plan.shape.arena w
+    widened n w x = let r = laid.room n in let t = x.to in record { is_arena = x.is_arena; two_words = x.two_words; from = x.from; to = omega arith }
+
+    -- a place stands in the list of one number alone
+    pub one_list : (place : ℕ) → place < plan.shape.slots → slot_of words place ≢ 0 → (st : Stands IsRecord home_of MayPublish plan words used published place) → (m : ℕ) → m ≢ st.number → times place (published m) ≡ 0
+    one_list place h filled st m other = dite (ℕ_discrete (times place (published m)) 0) (λ z. z)
+        (λ some_times. let l = laid.listed m place (omega arith) in absurd (other (one_region plan.shape m st.number plan.shape.arena plan.shape.arena (slot_of words place) (omega arith) (omega arith) l.2 (widened st.number (slot_of words place) st.within))))
+
+    module _ (views : List (View S)) (number : ℕ) (v : View S) (sits : Sits plan words used published number v) where
+      -- the record that a seat knows is the one that is there
+      pub held : (place : ℕ) (ws : List ℕ) → place < plan.shape.slots → Holds v place ws → (slot_of words place ≢ 0) × (record_at words place ≡ ws)
+      held place ws h k =
+          let s = seen_slot place k.slot h (sits.seen (place + 1) k.slot k.known) in
+          let st = laid.stands place h s.1 in
+          let size : size_in (slot_of words place) ≡ length ws = ap size_in s.0 ∙ k.size in
+          let start : start_in (slot_of words place) ≡ start_in k.slot = ap start_in s.0 in
+          let bound = inside place st in
+          (s.1, (λ i. take (size i) (drop (start i) words)) ∙ part_is words (start_in k.slot) ws (omega arith) (λ j l. (sits.seen (start_in k.slot + j) (get_or ws j 0) (k.each j l)).here))
+
+      -- the place holds another record, as the seat knows
+      pub held_other : (place : ℕ) (ws : List ℕ) → place < plan.shape.slots → HoldsOther v place ws → HoldsAnother words place ws
+      held_other place ws h k =
+          let s = seen_slot place k.slot h (sits.seen (place + 1) k.slot k.known) in
+          let st = laid.stands place h s.1 in
+          let size : size_in (slot_of words place) ≡ size_in k.slot = ap size_in s.0 in
+          let start : start_in (slot_of words place) ≡ start_in k.slot = ap start_in s.0 in
+          let bound = inside place st in
+          let long = length-part words (size_in (slot_of words place)) (start_in (slot_of words place)) bound in (
+            s.1,
+            λ e. ⊎_elim (λ differ. differ (sym size ∙ sym long ∙ ap length e))
+                (λ t. t.4 (sym (sits.seen (start_in k.slot + t.0) t.1 t.3).here ∙ ap (λ (n : ℕ). get_or words (n + t.0) 0) (sym start) ∙ sym (get_or-part words (size_in (slot_of words place)) (start_in (slot_of words place)) t.0 (subst (λ (n : ℕ). t.0 < n) (sym size) t.2)) ∙ ap (λ (l : List ℕ). get_or l t.0 0) e)) k.differs,
+          )
+
+      -- the first two words of a record that were seen are there
+      spot : (place x j y : ℕ) → place < plan.shape.slots → j < 2 → Saw v.seen (place + 1) x → Saw v.seen (start_in x + j) y → get_or (record_at words place) j 0 ≡ y
+      spot place x j y h two slot word =
+          let s = seen_slot place x h (sits.seen (place + 1) x slot) in
+          let st = laid.stands place h s.1 in
+          let w = st.within in
+          let long = w.two_words in
+          get_or-part words (size_in (slot_of words place)) (start_in (slot_of words place)) j (omega arith) ∙ ap (λ (n : ℕ). get_or words (start_in n + j) 0) s.0 ∙ (sits.seen (start_in x + j) y word).here
+
+      is_below : (place slot parent depth : ℕ) → place < plan.shape.slots → Saw v.seen (place + 1) slot → Saw v.seen (start_in slot) parent → Saw v.seen (start_in slot + 1) depth → IsBelow plan v parent depth
+      is_below place slot parent depth h known first second =
+          let s = seen_slot place slot h (sits.seen (place + 1) slot known) in
+          let st = laid.stands place h s.1 in
+          let p : get_or (record_at words place) 0 0 ≡ parent = spot place slot 0 parent h (omega arith) known (let e : start_in slot ≡ start_in slot + 0 = omega arith in subst (λ (i : ℕ). Saw v.seen i parent) e first) in
+          let d : get_or (record_at words place) 1 0 ≡ depth = spot place slot 1 depth h (omega arith) known second in
+          ⊎_elim (λ t. inl (sym p ∙ t.0, sym d ∙ t.1))
+          (λ t. inr (t.0, sym p ∙ t.2, t.1, λ above_slot above k l. sym d ∙ t.4 ∙ ap (λ (n : ℕ). n + 1) (spot t.0 above_slot 1 above t.1 (omega arith) k l)))
+          st.has_parent
+
+      one_place : (p q : ℕ) (ws : List ℕ) → p < plan.shape.slots → q < plan.shape.slots → Holds v p ws → Holds v q ws → p ≡ q
+      one_place p q ws hp hq kp kq =
+          let a = held p ws hp kp in
+          let b = held q ws hq kq in
+          let x = laid.stands p hp a.0 in
+          let y = laid.stands q hq b.0 in
+          let e : record_at words p ≡ record_at words q = a.1 ∙ sym b.1 in
+          let P : List ℕ → ℕ → ℕ = λ ws d. probe plan.shape (home_of plan.shape.homes ws) d in
+          ⊎_elim
+          (λ (less : x.distance < y.distance). absurd ((y.before x.distance less).1 (ap (record_at words) (sym (x.at ∙ ap (λ (l : List ℕ). P l x.distance) e)) ∙ e)))
+          (λ (more : y.distance ≤ x.distance). ⊎_elim
+          (λ (less : y.distance < x.distance). absurd ((x.before y.distance less).1 (ap (record_at words) (sym (y.at ∙ ap (λ (l : List ℕ). P l y.distance) (sym e))) ∙ sym e)))
+          (λ (least : x.distance ≤ y.distance). let same : x.distance ≡ y.distance = omega arith in x.at ∙ (λ i. P (e i) (same i)) ∙ sym y.at)
+          (cases_lt y.distance x.distance))
+          (cases_lt x.distance y.distance)
+
+      is_lawful : (place : ℕ) (ws : List ℕ) → place < plan.shape.slots → Holds v place ws → IsLawful IsRecord MayPublish plan v place ws
+      is_lawful place ws h k =
+          let a = held place ws h k in
+          let st = laid.stands place h a.0 in
+          record {
+            is_record = subst (λ (l : List ℕ). IsRecord plan.sort l) a.1 st.is_record;
+            number = st.number;
+            may_publish = subst (λ (l : List ℕ). MayPublish plan.sort st.number l) a.1 st.may_publish;
+            own = λ mine. ap (λ (l : List ℕ). times place l) (sits.published_is ∙ ap published (sym sits.number_is ∙ sym mine)) ∙ st.listed;
+          }
+
+      module _ (leads : number ≡ 0 → Leads published views v.others) (unmade : (n : ℕ) → length views ≤ n → published n ≡ []) where
+        abbrev listed_in : ℕ → ℕ → ℕ
+        listed_in place n = times place (published n)
+
+        all_times : AllJoined v → (place : ℕ) → times place (all_published v) ≡ listed_in place 0 + sum_from (listed_in place) 1 (length v.others)
+        all_times all place =
+            let zero_number : number ≡ 0 = sym sits.number_is ∙ all.0 in
+            let back = leads zero_number in
+            let own : times place v.published ≡ listed_in place 0 = ap (times place) (sits.published_is ∙ ap published zero_number) in
+            let rest = times-gathered v.others (listed_in place) place 1 all.1 (λ j l at. ap (times place) (back.back j l at).0 ∙ ap (listed_in place) (omega arith)) in
+            times-append place v.published (gathered v.others) ∙ (λ i. own i + rest i)
+
+        none_times : AllJoined v → (place : ℕ) → ((n : ℕ) → listed_in place n ≡ 0) → times place (all_published v) ≡ 0
+        none_times all place none = let a = none 0 in let b = sum_from_none (listed_in place) 1 (length v.others) (λ j _ _. none j) in all_times all place ∙ omega arith
+
+        known_once : AllJoined v → (place : ℕ) → place < plan.shape.slots → Knows v place → times place (all_published v) ≡ 1
+        known_once all place h known =
+            let x = seen_to_be v.seen (place + 1) known in
+            let s = seen_slot place x.0 h (sits.seen (place + 1) x.0 x.1) in
+            let st = laid.stands place h s.1 in
+            let others : (m : ℕ) → m ≢ st.number → listed_in place m ≡ 0 = one_list place h s.1 st in
+            let made = (leads (sym sits.number_is ∙ all.0)).made in
+            let is_made : st.number < length views = ⊎_elim (λ (l : st.number < length views). l)
+            (λ (g : length views ≤ st.number). let none : times place (published st.number) ≡ 0 = ap (times place) (unmade st.number g) in let one = st.listed in absurd (omega arith)) (cases_lt st.number (length views)) in
+            dite (ℕ_discrete st.number 0)
+            (λ first. let one : listed_in place 0 ≡ 1 = ap (listed_in place) (sym first) ∙ st.listed in
+            let rest = sum_from_none (listed_in place) 1 (length v.others) (λ j low _. others j (λ e. omega arith)) in all_times all place ∙ omega arith)
+            (λ later. let none : listed_in place 0 ≡ 0 = others 0 (λ e. later (sym e)) in
+            let one = sum_from_one (listed_in place) 1 (length v.others) st.number (omega arith) (omega arith) others in
+            let l = st.listed in all_times all place ∙ omega arith)
+
+        pub is_sound : number < plan.shape.arenas → IsSound IsRecord MayPublish plan v
+        is_sound is_arena = record {
+          own_arena = subst (λ (n : ℕ). n < plan.shape.arenas) (sym sits.number_is) is_arena;
+          room = sits.room;
+          one_word = λ i x y a b. sym (sits.seen i x a).here ∙ (sits.seen i y b).here;
+          within = λ place slot h k. let s = seen_slot place slot h (sits.seen (place + 1) slot k) in let st = laid.stands place h s.1 in
+              ((λ e. s.1 (s.0 ∙ e)), (st.number, subst (λ (w : ℕ). IsWithin plan.shape st.number plan.shape.arena w) s.0 (widened st.number (slot_of words place) st.within)));
+          apart = λ p q a b hp hq other kp kq. let s = seen_slot p a hp (sits.seen (p + 1) a kp) in let t = seen_slot q b hq (sits.seen (q + 1) b kq) in
+              subst (λ (z : ℕ × ℕ). AreApart z.0 z.1) (λ i. (s.0 i, t.0 i)) (laid.apart p q hp hq other s.1 t.1);
+          one_place = one_place;
+          lawful = is_lawful;
+          below = is_below;
+          once = λ all place. (known_once all place, λ past. none_times all place (λ n. dite (ℕ_discrete (listed_in place n) 0) (λ z. z) (λ some_times. let l = (laid.listed n place (omega arith)).0 in absurd (omega arith))));
+        }
+
+        pub was_empty : (place : ℕ) → place < plan.shape.slots → slot_of words place ≡ 0 → WasEmpty plan v place
+        was_empty place h empty = record {
+          unknown = λ known. let x = seen_to_be v.seen (place + 1) known in (seen_slot place x.0 h (sits.seen (place + 1) x.0 x.1)).1 empty;
+          no_parent = λ p. let s = seen_slot p.0 p.1 p.2 (sits.seen (p.0 + 1) p.1 p.3) in let st = laid.stands p.0 p.2 s.1 in
+              let first : get_or (record_at words p.0) 0 0 ≡ place + 1 = spot p.0 p.1 0 (place + 1) p.2 (omega arith) p.3 (let e : start_in p.1 ≡ start_in p.1 + 0 = omega arith in subst (λ (i : ℕ). Saw v.seen i (place + 1)) e p.4) in
+              ⊎_elim (λ t. let none = t.0 in absurd (omega arith)) (λ t. let word = t.2 in let same : t.0 ≡ place = omega arith in t.3 (ap (slot_of words) same ∙ empty)) st.has_parent;
+          unlisted = λ all. none_times all place (λ n. dite (ℕ_discrete (listed_in place n) 0) (λ z. z) (λ some_times. absurd ((laid.listed n place (omega arith)).1 empty)));
+        }

@@ -1,0 +1,18 @@
+use Rattle.std.proofs.Common.{◌≡◌, ◌-◌, ◌<◌, ◌≤◌, ℕ}
+use Rattle.cal_once.specs.Layout.{probe}
+use Rattle.cal_once.specs.Views.{HoldsOther, Learns}
+use Rattle.cal_once.specs.Seats.{IsAt, plan_of}
+use Rattle.cal_once.proofs.rows.Rows.find.Given as goal
+
+-- the slots so far hold other records
+abbrev pub invariant-loop-distance : goal.invariant-loop-distance
+invariant-loop-distance g l = record {
+  at : IsAt l.self l.seat;
+  hand : l.seat.me.1 ≡ l.initial.seat.me.1;
+  reached : l.distance ≤ l.slots;
+  before : (e : ℕ) → e < l.distance → HoldsOther l.seat.me.0 (probe (plan_of l.self).shape l.home e) (g.P.Packed.words l.rec);
+  learns : Learns l.initial.seat.me.0 l.seat.me.0;
+}
+
+abbrev pub decreases-loop-distance : goal.decreases-loop-distance
+decreases-loop-distance g l = l.slots - l.distance

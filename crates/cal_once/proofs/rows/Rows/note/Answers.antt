@@ -1,0 +1,19 @@
+use Rattle.std.proofs.Common.{true, refl, ap, ◌∙◌}
+use Rattle.cal_once.proofs.Moves.{allows_look}
+use Rattle.cal_once.proofs.Within.{words_are, slot_inside}
+use Rattle.cal_once.proofs.rows.Rows.note.Goals as goal
+
+pub load-requires : goal.load-requires
+load-requires g c =
+    let rows = c.args.self.now in
+    let long = words_are rows.plan rows.table.shared.key rows.table.shared.table_id.words rows.plan_is rows.long in (
+      c.requires.seat.table,
+      slot_inside rows.table.shared.key.shape rows.table.shared.table_id.words c.args.place long c.requires.place,
+      allows_look g.S.RecSort.is_record g.S.RecSort.home_of g.S.RecSort.may_publish g.S.RecSort.has_parent rows.table.shared.key true rows.table.shared.table_id.slots c.args.seat.now.id c.args.place c.args.seat.now.me c.requires.seat.plan c.requires.place,
+    )
+
+pub returns-clause-seat : goal.returns-clause-seat
+returns-clause-seat g c = record {
+  table = c.load.ensures.0 ∙ c.requires.seat.table;
+  plan = ap (λ m. m.0.plan) (c.load.ensures.2 c.args.place refl).view ∙ c.requires.seat.plan;
+}

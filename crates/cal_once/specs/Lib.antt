@@ -1,0 +1,8 @@
+pub mod Layout
+pub mod Views
+pub mod Sound
+pub mod Rule
+pub mod Steps
+pub mod Seats
+pub mod Puts
+pub mod Finds

@@ -1,0 +1,33 @@
+//! Write-once rows: a table in which many threads put records, without locks, and in which each record stands at one
+//! place for good.
+//!
+//! The layers above use that a place which a seat knows never changes, that equal records are at one place, and
+//! that a refusal tells what was found. Each call keeps the rule of `specs/Rule.antt` at each of its atomic
+//! steps, whatever other seats do. Nothing is promised of progress, of fairness, or of an order in time.
+#![tactic(auto)]
+
+mod answer;
+mod compare;
+mod filled;
+mod find;
+mod found;
+mod load;
+mod look;
+mod new;
+mod offer;
+mod place;
+mod put;
+mod rows;
+mod rule;
+mod seat;
+mod shape;
+mod split;
+#[cfg(test)]
+mod tests;
+mod view;
+
+pub use answer::Put;
+pub use rows::Rows;
+pub use seat::RowSeat;
+pub use shape::Shape;
+pub use view::{Plan, View};

@@ -1,0 +1,41 @@
+ghost use Rattle.std.specs.Prelude.{◌≡◌, IfOk, replicate};
+ghost use Rattle.cal_once.specs.Layout.{IsShape};
+ghost use Rattle.cal_once.specs.Views.{first_seat};
+ghost use Rattle.cal_once.specs.Seats.{IsSeatOf, plan_of, view};
+
+use crate::{Plan, RowSeat, Rows, Shape};
+use atomic_table::Table;
+use cal_value::OutOfMemory;
+use cal_words::RecSort;
+use std::alloc::Global;
+
+fn zeros(alloc: Global, count: usize) -> Result<Vec<u64>, OutOfMemory>
+    ensures { IfOk result (λ v. v.items ≡ replicate count 0) }
+{
+    Ok(vec![in alloc; 0; count]?)
+}
+
+impl<S: RecSort> Rows<S> {
+    /// A table of empty slots, for records of this sort, and its first seat.
+    pub fn new(alloc: Global, shape: Shape, sort: S) -> Result<(Rows<S>, RowSeat<S>), OutOfMemory>
+    where
+        S: Drop,
+        requires { IsShape shape }
+        ensures plan { IfOk result (λ r. plan_of r.0 ≡ record { shape = shape; sort = sort }) }
+        ensures seat { IfOk result (λ r. IsSeatOf r.0 r.1 × (view r.1 ≡ first_seat (plan_of r.0))) }
+    {
+        let count = 1 + shape.slots + shape.arenas * shape.arena;
+        let words = zeros(alloc, count as usize)?;
+        let plan = Plan { shape, sort };
+        let (table, seat) = Table::of_words(alloc, words.as_slice(), &plan)?;
+        Ok((
+            Rows { table, plan },
+            RowSeat {
+                seat,
+                number: 0,
+                used: 0,
+                made: 1,
+            },
+        ))
+    }
+}

@@ -1,0 +1,240 @@
+ghost use Rattle.std.specs.Prelude.{◌≡◌, ◌+◌, ◌^◌, ◌<◌, ◌≤◌, All, IfOk, length, vec_len};
+ghost use Rattle.cal_words.specs.Words.{text_length};
+ghost use Rattle.cal_once.specs.Layout.{IsShape};
+ghost use Rattle.cal_once.specs.Seats.{IsSeatOf, plan_of, view};
+ghost use Rattle.cal_once.specs.Views.{first_seat};
+
+use crate::{Put, RowSeat, Rows, Shape};
+use cal_value::{Text, Variant};
+use cal_words::{NodeId, NodeRec, NodeSort, know_node};
+use std::alloc::Global;
+use std::test::Fail;
+use std::thread;
+use std::thread::Threads;
+
+// Puts a child of the root.
+fn put_child(rows: &Rows<NodeSort>, seat: &mut RowSeat<NodeSort>, attr: u32, value: &Variant) -> Put
+    requires seat { IsSeatOf rows.now seat.old }
+    requires short { text_length value.now < 2 ^ 32 }
+    ensures seat { IsSeatOf rows.now seat.new }
+{
+    let rec = NodeRec {
+        parent: NodeId(0),
+        depth: 1,
+        attr,
+        value,
+    };
+    know_node(&rec);
+    rows.put(seat, &rec, 0)
+}
+
+// The answers to these letters, put as children of the root in order.
+fn answers(alloc: Global, shape: Shape, letters: &[u8]) -> Result<Vec<Put>, Fail>
+    requires { IsShape shape }
+{
+    let (rows, mut seat) = Rows::new(alloc, shape, NodeSort)?;
+    let mut all = Vec::new(alloc);
+    for letter in letters {
+        let mut text = Text::new(alloc);
+        text.push(char::from(*letter))?;
+        if text.len() == 1 {
+            all.push(put_child(&rows, &mut seat, 0, &Variant::Text(text)))?;
+        }
+    }
+    Ok(all)
+}
+
+fn new_at(place: u64) -> Put {
+    Put::Placed { place, fresh: true }
+}
+
+#[test]
+fn each_record_has_one_place(rt: HostRuntime) -> Result<(), Fail> {
+    let alloc = rt.alloc();
+    let again = Put::Placed {
+        place: 0,
+        fresh: false,
+    };
+    for slots in 1..9 {
+        let shape = Shape {
+            slots,
+            homes: 1,
+            arena: 64,
+            arenas: 1,
+        };
+        let all = answers(alloc, shape, b"abcdefgha")?;
+        for (at, answer) in all.iter().enumerate() {
+            let wanted = if at == 8 {
+                again
+            } else if (at as u64) < slots {
+                new_at(at as u64)
+            } else {
+                Put::RowsFull
+            };
+            assert!(rt; *answer == wanted, "letter {at} of {slots} slots");
+        }
+    }
+    Ok(())
+}
+
+#[test]
+fn a_record_is_placed_from_its_home(rt: HostRuntime) -> Result<(), Fail> {
+    let four = Shape {
+        slots: 4,
+        homes: 4,
+        arena: 64,
+        arenas: 1,
+    };
+    let first = Put::Placed {
+        place: 0,
+        fresh: false,
+    };
+    let wanted = [
+        new_at(0),
+        new_at(1),
+        new_at(2),
+        new_at(3),
+        Put::RowsFull,
+        first,
+    ];
+    assert!(rt; answers(rt.alloc(), four, b"abcdea")?.as_slice() == wanted.as_slice());
+    let short = Shape {
+        slots: 9,
+        homes: 1,
+        arena: 5,
+        arenas: 1,
+    };
+    let full = Put::ArenaFull { used: 5, need: 5 };
+    assert!(rt; answers(rt.alloc(), short, b"ab")?.as_slice() == [new_at(0), full].as_slice());
+    Ok(())
+}
+
+#[derive(Drop)]
+struct Worker {
+    seat: RowSeat<NodeSort>,
+    places: Vec<u64>,
+}
+
+// Puts the records from `from` on, and remembers their places.
+fn put_many(rows: &Rows<NodeSort>, worker: &mut Worker, from: u32, count: u32)
+    requires seat { IsSeatOf rows.now worker.old.seat }
+    requires few { from + count < 2 ^ 32 }
+    ensures seat { IsSeatOf rows.now worker.new.seat }
+{
+    for attr in from..from + count {
+        if let Put::Placed { place, .. } = put_child(
+            rows,
+            &mut worker.seat,
+            attr,
+            &Variant::Bool(true),
+        ) {
+            let _ = worker.places.push(place);
+        }
+    }
+}
+
+// The workers put `shared` records, the same for all, and each `own` ones of its own.
+fn put_all<R: Threads + Sync>(
+    rt: &R,
+    rows: &Rows<NodeSort>,
+    workers: &mut [Worker],
+    shared: u32,
+    own: u32,
+)
+    requires seats { All (λ w. IsSeatOf rows.now w.seat) workers.old }
+    requires few { (shared ≤ 1000) × (own ≤ 1000) × (0 < length workers.old) × (length workers.old ≤ 8) }
+    ensures { All (λ w. IsSeatOf rows.now w.seat) workers.new }
+{
+    let threads = workers.len();
+    thread::for_each_mut(
+        rt,
+        workers,
+        threads,
+        &|number, worker| {
+            put_many(rows, worker, 0, shared);
+            put_many(rows, worker, 1000 * (number as u32 + 1), own);
+        },
+    );
+}
+
+// Workers with seats that are split off from the first one.
+fn hire(
+    alloc: Global,
+    rows: &Rows<NodeSort>,
+    first: &mut RowSeat<NodeSort>,
+    count: usize,
+) -> Result<Vec<Worker>, Fail>
+    requires seat { IsSeatOf rows.now first.old }
+    requires fresh { view first.old ≡ first_seat (plan_of rows.now) }
+    requires enough { count < (plan_of rows.now).shape.arenas }
+    ensures seat { IsSeatOf rows.now first.new × ((view first.new).number ≡ 0) }
+    ensures workers { IfOk result (λ v. (vec_len v ≡ count) × All (λ w. IsSeatOf rows.now w.seat) v.items) }
+{
+    let mut workers = Vec::new(alloc);
+    for _number in 0..count {
+        let seat = rows.split(first);
+        workers.push(Worker {
+            seat,
+            places: Vec::with_capacity(alloc, 2000)?,
+        })?;
+    }
+    Ok(workers)
+}
+
+// Joins the workers, and says whether their first places agree.
+fn dismiss(
+    alloc: Global,
+    rows: &Rows<NodeSort>,
+    first: &mut RowSeat<NodeSort>,
+    mut workers: Vec<Worker>,
+    shared: usize,
+) -> bool
+    requires seat { IsSeatOf rows.now first.old × ((view first.old).number ≡ 0) }
+    requires workers { All (λ w. IsSeatOf rows.now w.seat) workers.items }
+    ensures seat { IsSeatOf rows.now first.new }
+{
+    let mut agree = true;
+    let mut kept: Vec<u64> = Vec::new(alloc);
+    while let Some(worker) = workers.pop() {
+        let Worker { seat, places } = worker;
+        rows.join(first, seat);
+        agree = agree && (kept.is_empty() || agrees(kept.as_slice(), places.as_slice(), shared));
+        kept = places;
+    }
+    workers.destroy_empty();
+    agree
+}
+
+fn agrees(places: &[u64], others: &[u64], count: usize) -> bool {
+    for at in 0..count {
+        let (Some(place), Some(other)) = (places.get(at), others.get(at)) else {
+            return false;
+        };
+        if *place != *other {
+            return false;
+        }
+    }
+    true
+}
+
+#[test]
+fn side_by_side_each_record_has_one_place(rt: HostRuntime) -> Result<(), Fail> {
+    let alloc = rt.alloc();
+    for (count, shared, own, filled) in [(2, 100, 0, 100), (8, 500, 500, 4500)] {
+        let shape = Shape {
+            slots: 5000,
+            homes: 5000,
+            arena: 5000,
+            arenas: 9,
+        };
+        let (rows, mut first) = Rows::new(alloc, shape, NodeSort)?;
+        let mut workers = hire(alloc, &rows, &mut first, count)?;
+        put_all(&rt, &rows, workers.as_mut_slice(), shared, own);
+        let agree = dismiss(alloc, &rows, &mut first, workers, shared as usize);
+        assert!(rt;
+            agree && rows.filled(&mut first) == filled,
+            "{count} threads"
+        );
+    }
+    Ok(())
+}

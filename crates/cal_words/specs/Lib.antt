@@ -1,0 +1,4 @@
+pub mod Words
+pub mod Homes
+pub mod Records
+pub mod Nodes
