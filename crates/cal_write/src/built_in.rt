@@ -27,7 +27,8 @@ pub(crate) fn built_in_nodes(alloc: Global) -> Result<Nodes, OutOfMemory>
 
 /// An entry that names an attribute.
 pub(crate) fn name_entry(alloc: Global, name: &str) -> Result<Entry, OutOfMemory>
-    ensures { IfOk result (λ entry. entry ≡ record { attr = name_attribute; value = value.Text name.now }) }
+    ensures { IfOk result (λ entry.
+        entry ≡ record { attr = name_attribute; value = value.Text name.now }) }
 {
     Ok(Entry {
         attr: attribute_of_names(alloc)?,
@@ -37,7 +38,8 @@ pub(crate) fn name_entry(alloc: Global, name: &str) -> Result<Entry, OutOfMemory
 
 /// An entry that gives an attribute's properties.
 pub(crate) fn props_entry(alloc: Global, props: Props) -> Result<Entry, OutOfMemory>
-    ensures { IfOk result (λ entry. entry ≡ record { attr = prop_attribute; value = value.Int (pos props.0) }) }
+    ensures { IfOk result (λ entry.
+        entry ≡ record { attr = prop_attribute; value = value.Int (pos props.0) }) }
 {
     Ok(Entry {
         attr: attribute_of_props(alloc)?,
@@ -46,7 +48,8 @@ pub(crate) fn props_entry(alloc: Global, props: Props) -> Result<Entry, OutOfMem
 }
 
 fn kind_entry(alloc: Global, kind: Kind) -> Result<Entry, OutOfMemory>
-    ensures { IfOk result (λ entry. entry ≡ record { attr = type_attribute; value = value.Kind kind }) }
+    ensures { IfOk result (λ entry.
+        entry ≡ record { attr = type_attribute; value = value.Kind kind }) }
 {
     Ok(Entry {
         attr: attribute_of_kinds(alloc)?,

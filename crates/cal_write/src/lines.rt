@@ -17,7 +17,8 @@ pub(crate) fn write_added(
     value: &Variant,
     parent: Option<usize>,
 ) -> Result<(), OutOfMemory>
-    ensures { OnOk result (out.new ≡ out.old ++ (if added.fresh then node_line_of added.place attribute value.now parent else [])) }
+    ensures { OnOk result (out.new ≡ out.old
+        ++ (if added.fresh then node_line_of added.place attribute value.now parent else [])) }
 {
     if added.fresh {
         write_node(out, added.place, attribute, value, parent)?;
@@ -64,7 +65,8 @@ pub(crate) fn write_record(
 }
 
 fn write_parent(out: &mut Text, parent: Option<usize>) -> Result<(), OutOfMemory>
-    ensures { OnOk result (out.new ≡ out.old ++ field (codes "parent") (map decimal (option_to_list parent))) }
+    ensures { OnOk result (out.new ≡ out.old
+        ++ field (codes "parent") (map decimal (option_to_list parent))) }
 {
     if let Some(id) = parent {
         out.push_str(",parent=")?;

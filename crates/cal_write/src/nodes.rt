@@ -89,7 +89,8 @@ impl Nodes {
         entry: &Entry,
     ) -> Result<Option<Found>, OutOfMemory>
         requires { IsPlace self.old parent }
-        ensures known { IfOk result (λ o. IfSome o (FindsNode self.old self.new entry.now (node_at self.old parent))) }
+        ensures known { IfOk result (λ o.
+            IfSome o (FindsNode self.old self.new entry.now (node_at self.old parent))) }
         ensures unknown { IfOk result (λ o. IfNone o (self.new ≡ self.old)) }
         ensures err { OnErr result (self.new ≡ self.old) }
     {

@@ -57,12 +57,15 @@ pub fn write_records<W: Sink>(
     output: &mut W,
     records: &Records,
 ) -> Result<(), WriteEnd>
-    ensures ok { OnOk result (Appends (W.written output.old) (W.written output.new) (canonical_text records.now.rows)) }
+    ensures ok { OnOk result
+        (Appends (W.written output.old) (W.written output.new) (canonical_text records.now.rows)) }
     ensures later { W.faults output.old ≤ W.faults output.new }
 
     // A fault may leave a front of the text behind what was written.
-    ensures fault { IsErrOf result WriteEnd.WriteFault → Rose (W.faults output.old) (W.faults output.new) }
-    ensures front { IsErrOf result WriteEnd.WriteFault → AppendsFront (W.written output.old) (W.written output.new) (canonical_text records.now.rows) }
+    ensures fault { IsErrOf result WriteEnd.WriteFault
+        → Rose (W.faults output.old) (W.faults output.new) }
+    ensures front { IsErrOf result WriteEnd.WriteFault
+        → AppendsFront (W.written output.old) (W.written output.new) (canonical_text records.now.rows) }
     ensures memory { IsErrOf result WriteEnd.OutOfMemory → output.new ≡ output.old }
 {
     let text = cali_text(alloc, records)?;

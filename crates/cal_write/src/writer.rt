@@ -46,10 +46,11 @@ impl Writer {
         })
     }
 
-    /// Writes the next record. It takes time in the record's size and in what is new with it. Nothing is said of
-    /// the writer after an `Err`.
+    /// Writes the next record. It takes time in the record's size and in what is new with it. Nothing
+    /// is said of the writer after an `Err`.
     pub fn put(&mut self, rec: &Rec) -> Result<(), OutOfMemory>
-        ensures { (rs : List Rec) → StandsFor self.old rs → OnOk result (StandsFor self.new (rs ++ rec.now ∷ [])) }
+        ensures { (rs : List Rec) → StandsFor self.old rs
+            → OnOk result (StandsFor self.new (rs ++ rec.now ∷ [])) }
     {
         let refs = self.need_paths(rec.paths.as_slice())?;
         let attributes = self.need_attributes(rec.imms.as_slice())?;
@@ -78,8 +79,10 @@ impl Writer {
 
     /// Writes what the paths need, and gives the places of the nodes that they lead to.
     fn need_paths(&mut self, paths: &[Seq<Entry>]) -> Result<Vec<usize>, OutOfMemory>
-        ensures writes { OnOk result (Writes self.old self.new (flat_map (needed_below []) paths.now)) }
-        ensures at { IfOk result (λ refs. AreAt self.new.nodes (flat_map last_nodes paths.now) refs.items) }
+        ensures writes { OnOk result
+            (Writes self.old self.new (flat_map (needed_below []) paths.now)) }
+        ensures at { IfOk result (λ refs.
+            AreAt self.new.nodes (flat_map last_nodes paths.now) refs.items) }
     {
         let mut refs = Vec::with_capacity(self.alloc, paths.len())?;
         for path in paths {
@@ -92,8 +95,10 @@ impl Writer {
 
     /// Writes what the immediates need, and gives the places of their attributes' nodes.
     fn need_attributes(&mut self, imms: &[Entry]) -> Result<Vec<usize>, OutOfMemory>
-        ensures writes { OnOk result (Writes self.old self.new (flat_map (λ e. needed_by_attribute e.attr) imms.now)) }
-        ensures at { IfOk result (λ places. AreAt self.new.nodes (map (λ e. node_of_attribute e.attr) imms.now) places.items) }
+        ensures writes { OnOk result
+            (Writes self.old self.new (flat_map (λ e. needed_by_attribute e.attr) imms.now)) }
+        ensures at { IfOk result (λ places.
+            AreAt self.new.nodes (map (λ e. node_of_attribute e.attr) imms.now) places.items) }
     {
         let mut places = Vec::with_capacity(self.alloc, imms.len())?;
         for entry in imms {
@@ -106,7 +111,8 @@ impl Writer {
     /// Writes what a path needs, and gives the place of the node that it leads to, if it has an entry.
     fn need_path(&mut self, path: &[Entry]) -> Result<Option<usize>, OutOfMemory>
         ensures writes { OnOk result (Writes self.old self.new (needed_below [] path.now)) }
-        ensures at { IfOk result (λ o. AreAt self.new.nodes (last_nodes path.now) (option_to_list o)) }
+        ensures at { IfOk result (λ o.
+            AreAt self.new.nodes (last_nodes path.now) (option_to_list o)) }
     {
         let mut parent = None;
         for entry in path {
@@ -149,7 +155,9 @@ impl Writer {
 
     /// Writes the node of an attribute's properties, and gives its place, or that of the attribute's kind.
     fn need_props(&mut self, kind: Kind, props: Props) -> Result<usize, OutOfMemory>
-        ensures { IfOk result (WritesTo self.old self.new (way_down (node_of_props props kind)) (node_of_props props kind)) }
+        ensures {
+            let n = node_of_props props kind in
+            IfOk result (WritesTo self.old self.new (way_down n) n) }
     {
         let alloc = self.alloc;
         let parent = kind.node() as usize;
@@ -170,7 +178,9 @@ impl Writer {
     ) -> Result<usize, OutOfMemory>
         requires parent { IsPlace self.old.nodes parent }
         requires attribute { KnowsAttribute self.old.nodes entry.now.attr attribute }
-        ensures { let n = entry.now ∷ node_at self.old.nodes parent in IfOk result (WritesTo self.old self.new (n ∷ []) n) }
+        ensures {
+            let n = entry.now ∷ node_at self.old.nodes parent in
+            IfOk result (WritesTo self.old self.new (n ∷ []) n) }
     {
         let added = self
             .nodes
