@@ -4,8 +4,8 @@ use Rattle.cal_once.specs.declared.rows.Rows.{Rows}
 use Rattle.cal_once.specs.declared.seat.RowSeat.{RowSeat}
 use Rattle.cal_once.specs.declared.view.View.{View}
 use Rattle.cal_once.specs.declared.view.Plan.{Plan}
-use Rattle.cal_once.specs.Layout.{size_in}
-use Rattle.cal_once.specs.Views.{Saw, Knows}
+use Rattle.cal_once.specs.Layout.{size_in, probe}
+use Rattle.cal_once.specs.Views.{Saw, Knows, HoldsOther}
 
 module _ {S : Type 0} where
   -- what a seat knows
@@ -37,3 +37,8 @@ module _ {S : Type 0} where
   -- i is below the length of the known record
   abbrev pub IsBelowSize : View S → ℕ → ℕ → Type 0
   IsBelowSize v place i = (slot : ℕ) → Saw v.seen (place + 1) slot → i < size_in slot
+
+  -- the first n slots from a record's home on hold other records, as the seat knows
+  abbrev pub OthersBefore : (ℕ → List ℕ → ℕ) → Rows S → RowSeat S → List ℕ → ℕ → Type 0
+  OthersBefore home rows seat words n =
+      (e : ℕ) → e < n → HoldsOther (view seat) (probe (plan_of rows).shape (home_of home rows words) e) words
