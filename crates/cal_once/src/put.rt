@@ -17,19 +17,23 @@ impl<S: RecSort> Rows<S> {
         requires is_record { S.is_record (plan_of self.now).sort (P.words rec.now) }
         requires may_publish { S.may_publish (plan_of self.now).sort (view seat.old).number
             (P.words rec.now) }
-        requires parent { KnowsParent (view seat.old) (plan_of self.now).shape.slots (P.words rec.now) }
+        requires parent { KnowsParent (view seat.old) (plan_of self.now).shape.slots
+            (P.words rec.now) }
         requires from { from ≤ (plan_of self.now).shape.slots }
         requires before { OthersBefore S.home_of self.now seat.old (P.words rec.now) from }
         ensures seat { IsSeatOf self.now seat.new }
         ensures later { IsLater (view seat.old) (view seat.new) }
 
         ensures placed { IfPlaced result (StandsAt S.home_of self.now seat.new (P.words rec.now)) }
-        ensures rows_full { IfRowsFull result (OthersEverywhere self.now seat.new (P.words rec.now)) }
+        ensures rows_full { IfRowsFull result
+            (OthersEverywhere self.now seat.new (P.words rec.now)) }
         ensures arena_full { IfArenaFull result
             (NoRoom S.home_of self.now seat.old seat.new (P.words rec.now)) }
 
-        // The list of published places grows exactly by a fresh place, and that of empty looks only where the arena is full.
-        ensures published { (view seat.new).published ≡ published_after result (view seat.old).published }
+        // The list of published places grows exactly by a fresh place, and that of empty looks only where
+        // the arena is full.
+        ensures published { (view seat.new).published
+            ≡ published_after result (view seat.old).published }
         ensures used { (view seat.new).used
             ≡ used_after result (length (P.words rec.now)) (view seat.old).used }
         ensures looks { UnlessArenaFull result ((view seat.new).looks ≡ (view seat.old).looks) }
