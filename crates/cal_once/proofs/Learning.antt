@@ -1,5 +1,5 @@
 -- What a seat learns step by step.
-use Rattle.std.proofs.Common.{◌≡◌, ◌≢◌, ◌⊎◌, ℕ, ◌+◌, ◌<◌, Bool, false, true, cond, eqb, ◌&&◌, List, [], ◌∷◌, ◌++◌, sym, refl, ap, ◌∙◌, subst, inl, inr, ⊎_elim, arith}
+use Rattle.std.proofs.Common.{◌≡◌, ◌≢◌, ◌⊎◌, ℕ, ◌+◌, ◌<◌, Bool, false, true, cond, eqb, ◌&&◌, List, [], ◌∷◌, ◌++◌, get_or, sym, refl, ap, ◌∙◌, subst, inl, inr, ⊎_elim, arith}
 use mathlib.Core.Option.{none, some}
 use mathlib.Core.Logic.{dite}
 use native.Mathlib.Decide.{ℕ_discrete}
@@ -54,3 +54,7 @@ from_same a b h = dite (ℕ_discrete a b) (λ e. e) (λ ne. absurd (cc (ne_eqb a
 
 pub from_other : (a b : ℕ) → eqb a b ≡ false → a ≢ b
 from_other a b h e = absurd (cc (eq-eqb a b e, h))
+
+-- what holds a record, as a seat knows, holds it later
+pub holds_later : {S : Type 0} (v w : View S) (place : ℕ) (words : List ℕ) → ((i x : ℕ) → Saw v.seen i x → Saw w.seen i x) → Holds v place words → Holds w place words
+holds_later v w place words more h = record { slot = h.slot; known = more (place + 1) h.slot h.known; size = h.size; each = λ i l. more (start_in h.slot + i) (get_or words i 0) (h.each i l) }

@@ -33,14 +33,15 @@ module _ {S : Type 0} (IsRecord : S → List ℕ → Type 0) (home_of : ℕ → 
   sits_of s k id v at live = ⊎_elim (λ none. absurd (cc (none, live))) (λ sits. sits) (k.seats id v at)
 
   -- the first seat leads still where the seat id has another view
-  leads_set : (views : List (View S)) (published published' : ℕ → List ℕ) (id : ℕ) (v w : View S) (others : List (Option (List ℕ))) → get_elem? views id ≡ some v → v.plan ≡ Some plan → ((n : ℕ) → n ≢ id → published' n ≡ published n)
+  leads_set : (views : List (View S)) (published published' : ℕ → List ℕ) (id : ℕ) (v w : View S) (others : List (Option (List ℕ))) → get_elem? views id ≡ some v → v.plan ≡ Some plan → w.plan ≡ Some plan → ((n : ℕ) → n ≢ id → published' n ≡ published n)
       → Leads published views others → Leads published' (set views id w) others
-  leads_set views published published' id v w others at live same l = record {
+  leads_set views published published' id v w others at live live_after same l = record {
     made = l.made ∙ sym (length-set views id w);
     back = λ k places there.
         let b = l.back k places there in
         let apart : k + 1 ≢ id = λ e. let none = b.1 v (subst (λ (i : ℕ). get_elem? views i ≡ some v) (sym e) at) in absurd (cc (none, live)) in
         (b.0 ∙ sym (same (k + 1) apart), λ x here. ⊎_elim (λ t. absurd (apart t.0)) (λ t. b.1 x t.1) (at_set views id (k + 1) w x here));
+    gone = λ k x here none. ⊎_elim (λ t. absurd (let same_plan : w.plan ≡ x.plan = ap (λ (z : View S). z.plan) t.1 in cc)) (λ t. l.gone k x t.1 none) (at_set views id (k + 1) w x here);
   }
 
   -- the seat id has another view, and the words are others
@@ -61,8 +62,8 @@ module _ {S : Type 0} (IsRecord : S → List ℕ → Type 0) (home_of : ℕ → 
             (λ t. ⊎_elim inl (λ sits. inr (others j u t.0 sits)) (k.seats j u t.1)) (at_set s.views id j w u here);
         first = λ u here. ⊎_elim
             (λ t. let old = k.first v (subst (λ (i : ℕ). get_elem? s.views i ≡ some v) (sym t.0) at) in subst (λ (os : List (Option (List ℕ))). Leads published (set s.views id w) os) (sym same ∙ ap (λ (x : View S). x.others) t.1)
-            (leads_set s.views k.published published id v w v.others at live (λ n ne. (apart n ne).1) old))
-            (λ t. leads_set s.views k.published published id v w u.others at live (λ n ne. (apart n ne).1) (k.first u t.1)) (at_set s.views id 0 w u here);
+            (leads_set s.views k.published published id v w v.others at live mine.plan_is (λ n ne. (apart n ne).1) old))
+            (λ t. leads_set s.views k.published published id v w u.others at live mine.plan_is (λ n ne. (apart n ne).1) (k.first u t.1)) (at_set s.views id 0 w u here);
       }
 
   -- what the rule says of a seat

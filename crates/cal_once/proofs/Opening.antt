@@ -34,7 +34,7 @@ module _ {S : Type 0} (IsRecord : S → List ℕ → Type 0) (home_of : ℕ → 
         few = omega arith;
         unmade = λ n past. (refl, refl);
         seats = λ number v at. first_only number v at;
-        first = λ v at. let same : first_seat plan ≡ v = cc in subst (λ (x : View S). Leads {S = S} (λ n. []) (first_seat plan ∷ []) x.others) same record { made = omega arith; back = λ k places b. absurd cc };
+        first = λ v at. let same : first_seat plan ≡ v = cc in subst (λ (x : View S). Leads {S = S} (λ n. []) (first_seat plan ∷ []) x.others) same record { made = omega arith; back = λ k places b. absurd cc; gone = λ k w there none. absurd (let next : k + 1 ≡ suc k = omega arith in let h = subst (λ (i : ℕ). get_elem? (first_seat plan ∷ []) i ≡ some w) next there in cc) };
       }
     where
       first_only : (number : ℕ) (v : View S) → get_elem? (first_seat plan ∷ []) number ≡ some v → (v.plan ≡ None) ⊎ Sits plan (replicate (word_count plan.shape) 0) (λ n. 0) (λ n. []) number v

@@ -3,12 +3,12 @@ use Rattle.std.proofs.Common.{◌≡◌, ◌≢◌, ◌⊎◌, ℕ, zero, suc, �
 use mathlib.Core.Option.{none, some}
 use lib.ListN.{get_elem?}
 use Rattle.atomic_table.specs.Table.{State, Splits, Joins}
-use Rattle.atomic_table.proofs.Lists.{at_set, set_else}
+use Rattle.atomic_table.proofs.Lists.{at_set, at_longer, set_else}
 use Rattle.cal_once.specs.declared.view.View.{View}
 use Rattle.cal_once.specs.declared.view.Plan.{Plan}
 use Rattle.cal_once.specs.Views.{Saw, split_off, new_seat, joined, joined_with, spent}
 use Rattle.cal_once.specs.Rule.{IsLaid, Sits, Leads, Kept}
-use Rattle.cal_once.proofs.Seen.{Saw_either, at_below, at_end, at_joined, length-joined}
+use Rattle.cal_once.proofs.Seen.{Saw_either, at_below, at_end, at_joined, joined_else, joined_here, length-joined}
 use Rattle.cal_once.proofs.Moves.{Rule, sits_of}
 
 module _ {S : Type 0} (IsRecord : S → List ℕ → Type 0) (home_of : ℕ → List ℕ → ℕ) (MayPublish : S → ℕ → List ℕ → Type 0) (long_record : (sort : S) (ws : List ℕ) → IsRecord sort ws → 2 ≤ length ws) (plan : Plan S) where
@@ -50,6 +50,9 @@ module _ {S : Type 0} (IsRecord : S → List ℕ → Type 0) (home_of : ℕ → 
                         (λ x. let e = x.1 in absurd (omega arith)) (at_end views right w (n + 1) here),
                   ))
                   (λ b. absurd (cc b.0)) (at_end v.others None (Some places) n there);
+              gone = λ n w here none. ⊎_elim
+                  (λ x. ⊎_elim (λ y. let e = y.0 in absurd (omega arith)) (λ y. let o = old.gone n w y.1 none in (o.0, at_longer v.others (None ∷ []) n (Some o.0) o.1)) (at_set s.views id (n + 1) left w x.0))
+                  (λ x. absurd (let same_plan : v.plan ≡ w.plan = ap (λ (z : View S). z.plan) x.0 in cc)) (at_end views right w (n + 1) here);
             }) (λ m. absurd (m.0 (sym is_first))) (at_set s.views id 0 left u t.0))
             (λ t. let e = t.1 in absurd (omega arith)) (at_end views right u 0 there);
       }
@@ -97,6 +100,12 @@ module _ {S : Type 0} (IsRecord : S → List ℕ → Type 0) (home_of : ℕ → 
                         (λ z. ⊎_elim (λ q. let e = q.0 in absurd (omega arith)) (λ q. o.1 x q.1) (at_set s.views id (n + 1) both x z.1)) (at_set views other (n + 1) gone x y),
                   ))
                   (at_joined v.others (w.number - 1) w.published n places b);
+              gone = λ n x y none. ⊎_elim
+                  (λ z. let e = z.0 in let below = at_below s.views w other at_other in let made = old.made in let same : n ≡ w.number - 1 = omega arith in
+                  (w.published, subst (λ (k : ℕ). get_elem? (joined_with v.others (w.number - 1) w.published) k ≡ some (Some w.published)) (sym same) (joined_here v.others (w.number - 1) w.published (omega arith))))
+                  (λ z. ⊎_elim (λ q. let e = q.0 in absurd (omega arith))
+                  (λ q. let o = old.gone n x q.1 none in let other_place : n ≢ w.number - 1 = (λ e. z.0 (let zero_not : other ≢ 0 = (λ f. apart (f ∙ sym is_first)) in omega arith)) in (o.0, joined_else v.others (w.number - 1) w.published n other_place ∙ o.1))
+                  (at_set s.views id (n + 1) both x z.1)) (at_set views other (n + 1) gone x y);
             }) (λ m. absurd (m.0 (sym is_first))) (at_set s.views id 0 both u t.1))
             (at_set views other 0 gone u here);
       }

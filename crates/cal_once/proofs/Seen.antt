@@ -98,3 +98,15 @@ pub length-joined : (os : List (Option (List ℕ))) (n : ℕ) (places : List ℕ
 length-joined [] n places = refl
 length-joined (o ∷ os) zero places = refl
 length-joined (o ∷ os) (suc n) places = ap suc (length-joined os n places)
+
+pub joined_here : (os : List (Option (List ℕ))) (n : ℕ) (places : List ℕ) → n < length os → get_elem? (joined_with os n places) n ≡ some (Some places)
+joined_here [] n places h = absurd (omega arith)
+joined_here (o ∷ os) zero places h = refl
+joined_here (o ∷ os) (suc n) places h = joined_here os n places (omega arith)
+
+pub joined_else : (os : List (Option (List ℕ))) (n : ℕ) (places : List ℕ) (k : ℕ) → k ≢ n → get_elem? (joined_with os n places) k ≡ get_elem? os k
+joined_else [] n places k ne = refl
+joined_else (o ∷ os) zero places zero ne = absurd (ne refl)
+joined_else (o ∷ os) zero places (suc k) ne = refl
+joined_else (o ∷ os) (suc n) places zero ne = refl
+joined_else (o ∷ os) (suc n) places (suc k) ne = joined_else os n places k (λ e. ne (ap suc e))

@@ -146,6 +146,7 @@ module _ {S : Type 0} (IsRecord : S → List ℕ → Type 0) (home_of : ℕ → 
           apart = λ p q a b hp hq other kp kq. let s = seen_slot p a hp (sits.seen (p + 1) a kp) in let t = seen_slot q b hq (sits.seen (q + 1) b kq) in
               subst (λ (z : ℕ × ℕ). AreApart z.0 z.1) (λ i. (s.0 i, t.0 i)) (laid.apart p q hp hq other s.1 t.1);
           one_place = one_place;
+          one_record = λ place a b h k l. sym (held place a h k).1 ∙ (held place b h l).1;
           lawful = is_lawful;
           below = is_below;
           once = λ all place. (known_once all place, λ past. none_times all place (λ n. dite (ℕ_discrete (listed_in place n) 0) (λ z. z) (λ some_times. let l = (laid.listed n place (omega arith)).0 in absurd (omega arith))));

@@ -3,7 +3,10 @@ use Rattle.cal_once.specs.declared.answer.Put.{Put}
 use Rattle.cal_once.specs.declared.answer.Put.TheVariants.{Placed, RowsFull, ArenaFull}
 use Rattle.cal_once.specs.declared.view.View.{View}
 use Rattle.cal_once.specs.declared.view.Plan.{Plan}
+use Rattle.cal_once.specs.declared.rows.Rows.{Rows}
+use Rattle.cal_once.specs.declared.seat.RowSeat.{RowSeat}
 use Rattle.cal_once.specs.Layout.{probe}
+use Rattle.cal_once.specs.Seats.{home_of, plan_of, view}
 use Rattle.cal_once.specs.Views.{Holds, HoldsOther}
 use Rattle.cal_once.specs.Steps.{WasEmpty}
 
@@ -59,3 +62,14 @@ module _ {S : Type 0} where
     pub empty : WasEmpty plan v place
     pub before : (e : ℕ) → e < distance → HoldsOther w (probe plan.shape home e) words
     pub looks : w.looks ≡ v.looks ++ place ∷ []
+
+  -- the same three of a table and its seat
+  abbrev pub StandsAt : (ℕ → List ℕ → ℕ) → Rows S → RowSeat S → List ℕ → ℕ → Type 0
+  StandsAt home rows seat words place = IsPlaced (plan_of rows) (home_of home rows words) (view seat) words place
+
+  abbrev pub OthersEverywhere : Rows S → RowSeat S → List ℕ → Type 0
+  OthersEverywhere rows seat words = AllHoldOthers (plan_of rows) (view seat) words
+
+  abbrev pub NoRoom : (ℕ → List ℕ → ℕ) → Rows S → RowSeat S → RowSeat S → List ℕ → ℕ → ℕ → Type 0
+  NoRoom home rows before after words used need =
+      LacksRoom (plan_of rows) (home_of home rows words) (view before) (view after) words used need

@@ -33,10 +33,11 @@ pub record Sits {S : Type 0} (plan : Plan S) (words : List ℕ) (used : ℕ → 
   pub draft : (k : ℕ) → k < length v.draft → slice_index words (arena_start plan.shape number + v.used + k) ≡ slice_index v.draft k
   pub seen : (i x : ℕ) → Saw v.seen i x → IsFixed plan words used i x
 
--- the first seat knows how many seats were made, and the list of each one that was joined
+-- the first seat knows how many seats were made, and the list of each one that was joined and says nothing more
 pub record Leads {S : Type 0} (published : ℕ → List ℕ) (views : List (View S)) (others : List (Option (List ℕ))) : Type 0 where
   pub made : length others + 1 ≡ length views
   pub back : (k : ℕ) (places : List ℕ) → get_elem? others k ≡ some (Some places) → (places ≡ published (k + 1)) × ((w : View S) → get_elem? views (k + 1) ≡ some w → w.plan ≡ None)
+  pub gone : (k : ℕ) (w : View S) → get_elem? views (k + 1) ≡ some w → w.plan ≡ None → (places : List ℕ) × (get_elem? others k ≡ some (Some places))
 
 module _ {S : Type 0} (IsRecord : S → List ℕ → Type 0) (home_of : ℕ → List ℕ → ℕ) (MayPublish : S → ℕ → List ℕ → Type 0) where
   -- A filled slot. Its record lies in the used part of one arena, in whose number's list the place stands once. It is a

@@ -26,6 +26,7 @@ module _ {S : Type 0} (IsRecord : S → List ℕ → Type 0) (MayPublish : S →
     pub within : (place slot : ℕ) → place < plan.shape.slots → Saw v.seen (place + 1) slot → (slot ≢ 0) × ((number : ℕ) × IsWithin plan.shape number plan.shape.arena slot)
     pub apart : (p q a b : ℕ) → p < plan.shape.slots → q < plan.shape.slots → p ≢ q → Saw v.seen (p + 1) a → Saw v.seen (q + 1) b → AreApart a b
     pub one_place : (p q : ℕ) (words : List ℕ) → p < plan.shape.slots → q < plan.shape.slots → Holds v p words → Holds v q words → p ≡ q
+    pub one_record : (place : ℕ) (a b : List ℕ) → place < plan.shape.slots → Holds v place a → Holds v place b → a ≡ b
     pub lawful : (place : ℕ) (words : List ℕ) → place < plan.shape.slots → Holds v place words → IsLawful plan v place words
     pub below : (place slot parent depth : ℕ) → place < plan.shape.slots → Saw v.seen (place + 1) slot → Saw v.seen (start_in slot) parent → Saw v.seen (start_in slot + 1) depth → IsBelow plan v parent depth
     pub once : AllJoined v → (place : ℕ) → (place < plan.shape.slots → Knows v place → times place (all_published v) ≡ 1) × (plan.shape.slots ≤ place → times place (all_published v) ≡ 0)

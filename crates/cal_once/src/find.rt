@@ -3,7 +3,7 @@ ghost use Rattle.cal_once.specs.Layout.{probe};
 ghost use Rattle.cal_once.specs.Views.{HoldsOther, Learns};
 ghost use Rattle.cal_once.specs.Finds.{Finds};
 ghost use Rattle.cal_once.specs.Sound.{IsSound};
-ghost use Rattle.cal_once.specs.Seats.{IsAt, plan_of};
+ghost use Rattle.cal_once.specs.Seats.{IsAt, OthersFrom, plan_of};
 
 use crate::found::Found;
 use crate::{Rows, View};
@@ -22,9 +22,10 @@ impl<S: RecSort> Rows<S> {
         requires seat { IsAt self.now seat.old }
         requires home { home < (plan_of self.now).shape.homes }
         requires from { from ≤ (plan_of self.now).shape.slots }
-        requires before { (e : ℕ) → e < from → HoldsOther seat.old.me.0 (probe (plan_of self.now).shape home e) (P.words rec.now) }
+        requires before { OthersFrom self.now home seat.old.me.0 (P.words rec.now) from }
         ensures seat { IsAt self.now seat.new × (seat.new.me.1 ≡ seat.old.me.1) }
-        ensures found { Finds (plan_of self.now) home seat.old.me.0 seat.new.me.0 (P.words rec.now) result }
+        ensures found { Finds (plan_of self.now) home seat.old.me.0 seat.new.me.0 (P.words rec.now)
+            result }
         ensures sound { IsSound S.is_record S.may_publish (plan_of self.now) seat.new.me.0 }
     {
         let slots = self.plan.shape.slots;

@@ -11,6 +11,7 @@ mod compare;
 mod filled;
 mod find;
 mod found;
+mod laws;
 mod load;
 mod look;
 mod new;
@@ -27,6 +28,7 @@ mod tests;
 mod view;
 
 pub use answer::Put;
+pub use laws::{known_for_good, one_place_each};
 pub use rows::Rows;
 pub use seat::RowSeat;
 pub use shape::Shape;

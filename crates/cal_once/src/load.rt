@@ -16,7 +16,8 @@ impl<S: RecSort> Rows<S> {
         requires seat { IsAt self.now seat.old }
         requires place { place < (plan_of self.now).shape.slots }
         ensures seat { IsAt self.now seat.new }
-        ensures looked { Looked S.is_record S.may_publish false place seat.old.me result seat.new.me }
+        ensures looked { Looked S.is_record S.may_publish false place seat.old.me result
+            seat.new.me }
     {
         self.table.shared.load::<Peek>(seat, place as usize + 1)
     }
@@ -26,7 +27,8 @@ impl<S: RecSort> Rows<S> {
         requires seat { IsAt self.now seat.old }
         requires place { place < (plan_of self.now).shape.slots }
         ensures seat { IsAt self.now seat.new }
-        ensures looked { Looked S.is_record S.may_publish true place seat.old.me result seat.new.me }
+        ensures looked { Looked S.is_record S.may_publish true place seat.old.me result
+            seat.new.me }
     {
         self.table.shared.load::<Look>(seat, place as usize + 1)
     }

@@ -17,7 +17,8 @@ impl<S: RecSort> Rows<S> {
         ensures own { KeepsOwn (view seat.old) (view seat.new) }
         ensures known { OnTrue result (Knows (view seat.new) place) }
         ensures empty { OnFalse result (WasEmpty (plan_of self.now) (view seat.old) place) }
-        ensures looks { (view seat.new).looks ≡ (if result then (view seat.old).looks else (view seat.old).looks ++ place ∷ []) }
+        ensures looks { (view seat.new).looks
+            ≡ (if result then (view seat.old).looks else (view seat.old).looks ++ place ∷ []) }
         ensures sound { IsSound S.is_record S.may_publish (plan_of self.now) (view seat.new) }
     {
         self.note(&mut seat.seat, place) != 0

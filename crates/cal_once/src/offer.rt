@@ -1,7 +1,7 @@
 ghost use Rattle.std.specs.Prelude.{◌≡◌, ◌+◌, ◌<◌, ◌≤◌, length};
 ghost use Rattle.cal_once.specs.Layout.{arena_start, slot_for};
 ghost use Rattle.cal_once.specs.Views.{drafted, Learns};
-ghost use Rattle.cal_once.specs.Seats.{IsAt, plan_of};
+ghost use Rattle.cal_once.specs.Seats.{IsAt, next_word, plan_of};
 ghost use Rattle.cal_once.specs.Steps.{MayOffer, Offered};
 
 use crate::rule::{Draft, Offer};
@@ -14,7 +14,7 @@ impl<S: RecSort> Rows<S> {
     fn store(&self, seat: &mut Seat<u8, View<S>>, start: u64, k: u64, word: u64)
         requires seat { IsAt self.now seat.old }
         requires arena { seat.old.me.0.number < (plan_of self.now).shape.arenas }
-        requires start { start ≡ arena_start (plan_of self.now).shape seat.old.me.0.number + seat.old.me.0.used }
+        requires start { start ≡ next_word self.now seat.old.me.0 }
         requires next { k ≤ length seat.old.me.0.draft }
         requires room { seat.old.me.0.used + k < (plan_of self.now).shape.arena }
         ensures seat { IsAt self.now seat.new }
@@ -29,8 +29,9 @@ impl<S: RecSort> Rows<S> {
     pub(crate) fn draft<P: Packed<S>>(&self, seat: &mut Seat<u8, View<S>>, rec: &P, start: u64)
         requires seat { IsAt self.now seat.old }
         requires arena { seat.old.me.0.number < (plan_of self.now).shape.arenas }
-        requires start { start ≡ arena_start (plan_of self.now).shape seat.old.me.0.number + seat.old.me.0.used }
-        requires room { seat.old.me.0.used + length (P.words rec.now) ≤ (plan_of self.now).shape.arena }
+        requires start { start ≡ next_word self.now seat.old.me.0 }
+        requires room { seat.old.me.0.used + length (P.words rec.now)
+            ≤ (plan_of self.now).shape.arena }
         requires some { 0 < length (P.words rec.now) }
         ensures seat { IsAt self.now seat.new × (seat.new.me.1 ≡ seat.old.me.1) }
         ensures drafted { seat.new.me.0 ≡ record seat.old.me.0 { draft = P.words rec.now } }
@@ -40,7 +41,8 @@ impl<S: RecSort> Rows<S> {
         }
     }
 
-    // Exchanges the slot of a place, at this distance from the draft's home, against 0. The word that was found.
+    // Exchanges the slot of a place, at this distance from the draft's home, against 0. The word that was
+    // found.
     pub(crate) fn offer(
         &self,
         seat: &mut Seat<u8, View<S>>,
@@ -49,10 +51,12 @@ impl<S: RecSort> Rows<S> {
         word: u64,
     ) -> u64
         requires seat { IsAt self.now seat.old }
-        requires word { word ≡ slot_for (length seat.old.me.0.draft) (arena_start (plan_of self.now).shape seat.old.me.0.number + seat.old.me.0.used) }
-        requires may { MayOffer S.is_record S.may_publish S.home_of (plan_of self.now) seat.old.me.0 place distance }
+        requires word { word ≡ slot_for (length seat.old.me.0.draft) (next_word self.now seat.old.me.0) }
+        requires may { MayOffer S.is_record S.may_publish S.home_of (plan_of self.now) seat.old.me.0
+            place distance }
         ensures seat { IsAt self.now seat.new }
-        ensures offered { Offered S.is_record S.may_publish place word seat.old.me result seat.new.me }
+        ensures offered { Offered S.is_record S.may_publish place word seat.old.me result
+            seat.new.me }
     {
         let _distance = distance;
         self.table

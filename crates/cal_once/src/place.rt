@@ -3,7 +3,7 @@ ghost use Rattle.cal_once.specs.Layout.{arena_start, probe, slot_for};
 ghost use Rattle.cal_once.specs.Views.{HoldsOther, KnowsParent, offered};
 ghost use Rattle.cal_once.specs.Finds.{Finds, IsNotEmpty};
 ghost use Rattle.cal_once.specs.Sound.{IsSound};
-ghost use Rattle.cal_once.specs.Seats.{IsAt, plan_of};
+ghost use Rattle.cal_once.specs.Seats.{IsAt, OthersFrom, claimed, drafting, plan_of};
 ghost use Rattle.cal_once.specs.Steps.{MayOffer};
 
 use crate::found::Found;
@@ -26,7 +26,8 @@ pub struct Spot {
 }
 
 impl<S: RecSort> Rows<S> {
-    // Offers a record, which may be drafted already, at a place. The word that was found in the slot: at 0 it is published.
+    // Offers a record, which may be drafted already, at a place. The word that was found in the slot: at 0 it is
+    // published.
     fn claim<P: Packed<S>>(
         &self,
         seat: &mut Seat<u8, View<S>>,
@@ -40,9 +41,11 @@ impl<S: RecSort> Rows<S> {
         requires sound { IsSound S.is_record S.may_publish (plan_of self.now) seat.old.me.0 }
         requires room { own.used + length (P.words rec.now) ≤ (plan_of self.now).shape.arena }
         requires drafted { IsTrue drafted → seat.old.me.0.draft ≡ P.words rec.now }
-        requires may { MayOffer S.is_record S.may_publish S.home_of (plan_of self.now) (record seat.old.me.0 { draft = P.words rec.now }) at.place at.distance }
+        requires may { MayOffer S.is_record S.may_publish S.home_of (plan_of self.now)
+            (drafting (P.words rec.now) seat.old.me.0) at.place at.distance }
         ensures seat { IsAt self.now seat.new }
-        ensures offered { seat.new.me ≡ (offered at.place (slot_for (length (P.words rec.now)) (arena_start (plan_of self.now).shape own.number + own.used)) result (record seat.old.me.0 { draft = P.words rec.now }), seat.old.me.1) }
+        ensures offered { seat.new.me
+            ≡ (claimed self.now own at.place (P.words rec.now) result seat.old.me.0, seat.old.me.1) }
         ensures sound { IsSound S.is_record S.may_publish (plan_of self.now) seat.new.me.0 }
     {
         let shape = self.plan.shape;
@@ -67,14 +70,16 @@ impl<S: RecSort> Rows<S> {
         requires room { own.used + length (P.words rec.now) ≤ (plan_of self.now).shape.arena }
         requires is_record { S.is_record (plan_of self.now).sort (P.words rec.now) }
         requires may_publish { S.may_publish (plan_of self.now).sort own.number (P.words rec.now) }
-        requires parent { KnowsParent seat.old.me.0 (plan_of self.now).shape.slots (P.words rec.now) }
+        requires parent { KnowsParent seat.old.me.0 (plan_of self.now).shape.slots
+            (P.words rec.now) }
         requires home { home ≡ S.home_of (plan_of self.now).shape.homes (P.words rec.now) }
         requires below { home < (plan_of self.now).shape.homes }
         requires from { from ≤ (plan_of self.now).shape.slots }
-        requires before { (e : ℕ) → e < from → HoldsOther seat.old.me.0 (probe (plan_of self.now).shape home e) (P.words rec.now) }
+        requires before { OthersFrom self.now home seat.old.me.0 (P.words rec.now) from }
         ensures seat { IsAt self.now seat.new × (seat.new.me.1 ≡ seat.old.me.1) }
         ensures not_empty { IsNotEmpty result }
-        ensures found { Finds (plan_of self.now) home seat.old.me.0 seat.new.me.0 (P.words rec.now) result }
+        ensures found { Finds (plan_of self.now) home seat.old.me.0 seat.new.me.0 (P.words rec.now)
+            result }
         ensures sound { IsSound S.is_record S.may_publish (plan_of self.now) seat.new.me.0 }
     {
         let slots = self.plan.shape.slots;

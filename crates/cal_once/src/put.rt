@@ -1,9 +1,8 @@
-ghost use Rattle.std.specs.Prelude.{◌≡◌, ℕ, ◌+◌, ◌<◌, ◌≤◌, length};
-ghost use Rattle.cal_once.specs.Layout.{probe};
-ghost use Rattle.cal_once.specs.Views.{HoldsOther, KnowsParent, IsLater};
+ghost use Rattle.std.specs.Prelude.{◌≡◌, ◌≤◌, length};
+ghost use Rattle.cal_once.specs.Views.{IsLater, KnowsParent};
 ghost use Rattle.cal_once.specs.Sound.{IsSound};
-ghost use Rattle.cal_once.specs.Seats.{IsSeatOf, home_of, plan_of, view};
-ghost use Rattle.cal_once.specs.Puts.{IfPlaced, IfRowsFull, IfArenaFull, UnlessArenaFull, IsPlaced, AllHoldOthers, LacksRoom, published_after, used_after};
+ghost use Rattle.cal_once.specs.Seats.{IsSeatOf, OthersBefore, plan_of, view};
+ghost use Rattle.cal_once.specs.Puts.{IfPlaced, IfRowsFull, IfArenaFull, UnlessArenaFull, StandsAt, OthersEverywhere, NoRoom, published_after, used_after};
 
 use crate::found::Found;
 use crate::place::Own;
@@ -16,23 +15,27 @@ impl<S: RecSort> Rows<S> {
     pub fn put<P: Packed<S>>(&self, seat: &mut RowSeat<S>, rec: &P, from: u64) -> Put
         requires seat { IsSeatOf self.now seat.old }
         requires is_record { S.is_record (plan_of self.now).sort (P.words rec.now) }
-        requires may_publish { S.may_publish (plan_of self.now).sort (view seat.old).number (P.words rec.now) }
-        requires parent { KnowsParent (view seat.old) (plan_of self.now).shape.slots (P.words rec.now) }
+        requires may_publish { S.may_publish (plan_of self.now).sort (view seat.old).number
+            (P.words rec.now) }
+        requires parent { KnowsParent (view seat.old) (plan_of self.now).shape.slots
+            (P.words rec.now) }
         requires from { from ≤ (plan_of self.now).shape.slots }
-        requires before { (e : ℕ) → e < from →
-            HoldsOther (view seat.old) (probe (plan_of self.now).shape (home_of S.home_of self.now (P.words rec.now)) e) (P.words rec.now) }
+        requires before { OthersBefore S.home_of self.now seat.old (P.words rec.now) from }
         ensures seat { IsSeatOf self.now seat.new }
         ensures later { IsLater (view seat.old) (view seat.new) }
 
-        ensures placed { IfPlaced result
-            (IsPlaced (plan_of self.now) (home_of S.home_of self.now (P.words rec.now)) (view seat.new) (P.words rec.now)) }
-        ensures rows_full { IfRowsFull result (AllHoldOthers (plan_of self.now) (view seat.new) (P.words rec.now)) }
+        ensures placed { IfPlaced result (StandsAt S.home_of self.now seat.new (P.words rec.now)) }
+        ensures rows_full { IfRowsFull result
+            (OthersEverywhere self.now seat.new (P.words rec.now)) }
         ensures arena_full { IfArenaFull result
-            (LacksRoom (plan_of self.now) (home_of S.home_of self.now (P.words rec.now)) (view seat.old) (view seat.new) (P.words rec.now)) }
+            (NoRoom S.home_of self.now seat.old seat.new (P.words rec.now)) }
 
-        // The list of published places grows exactly by a fresh place, and that of empty looks only where the arena is full.
-        ensures published { (view seat.new).published ≡ published_after result (view seat.old).published }
-        ensures used { (view seat.new).used ≡ used_after result (length (P.words rec.now)) (view seat.old).used }
+        // The list of published places grows exactly by a fresh place, and that of empty looks only where
+        // the arena is full.
+        ensures published { (view seat.new).published
+            ≡ published_after result (view seat.old).published }
+        ensures used { (view seat.new).used
+            ≡ used_after result (length (P.words rec.now)) (view seat.old).used }
         ensures looks { UnlessArenaFull result ((view seat.new).looks ≡ (view seat.old).looks) }
         ensures sound { IsSound S.is_record S.may_publish (plan_of self.now) (view seat.new) }
     {
