@@ -1,4 +1,4 @@
-// The same probing over plain atomics: `rustc -O rows.rs && ./rows`.
+// The probing of `bench_rows` over plain atomics; `bench/rows` builds and runs it beside that program.
 use std::sync::atomic::{AtomicU64, Ordering::SeqCst};
 use std::time::Instant;
 
