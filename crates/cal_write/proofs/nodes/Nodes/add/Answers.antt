@@ -7,11 +7,11 @@ use Rattle.cal_value.specs.OrderLaws.{entry_exact}
 use Rattle.cal_write.specs.declared.nodes.Nodes.TheInside.{Inside}
 use Rattle.cal_write.specs.Nodes.{Node}
 use Rattle.cal_write.specs.Added.{AddsNode}
-use Rattle.cal_write.specs.Board.{known_nodes, IsKept}
+use Rattle.cal_write.specs.Kept.{known_nodes, IsKept}
 use Rattle.cal_write.specs.Places.{IsPlace, node_at, KnowsAttribute}
 use Rattle.cal_write.specs.Table.{no_entry, nodes_of}
 use Rattle.cal_write.proofs.TableLemmas.{keys-insert_entry, at-insert_key, within-insert_key}
-use Rattle.cal_write.proofs.BoardLemmas.{kept-enter, kept-add, adds-node}
+use Rattle.cal_write.proofs.KeptLemmas.{kept-enter, kept-add, adds-node}
 use Rattle.cal_write.proofs.nodes.Nodes.add.Goals as goal
 
 pub invariant_of-self : goal.invariant_of-self

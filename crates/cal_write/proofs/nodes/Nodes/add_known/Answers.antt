@@ -3,11 +3,11 @@ use Rattle.std.specs.HashMap.{keys}
 use Rattle.cal_value.specs.OrderLaws.{entry_exact}
 use Rattle.cal_write.specs.Nodes.{Node}
 use Rattle.cal_write.specs.Added.{AddsNode, FindsNode}
-use Rattle.cal_write.specs.Board.{known_nodes}
+use Rattle.cal_write.specs.Kept.{known_nodes}
 use Rattle.cal_write.specs.Places.{IsPlace, node_at, KnowsAttribute}
 use Rattle.cal_write.specs.Table.{no_entry, nodes_of}
 use Rattle.cal_write.proofs.TableLemmas.{found-key}
-use Rattle.cal_write.proofs.BoardLemmas.{kept-add, adds-node}
+use Rattle.cal_write.proofs.KeptLemmas.{kept-add, adds-node}
 use Rattle.cal_write.proofs.nodes.Nodes.add_known.Goals as goal
 
 pub invariant_of-self : goal.invariant_of-self

@@ -1,6 +1,6 @@
 use Rattle.std.proofs.Common.{subst, sym}
 use Rattle.cal_write.specs.Places.{KnowsAttribute}
-use Rattle.cal_write.proofs.BoardLemmas.{kept-know}
+use Rattle.cal_write.proofs.KeptLemmas.{kept-know}
 use Rattle.cal_write.proofs.nodes.Nodes.know.Goals as goal
 
 pub invariant_of-self-2 : goal.invariant_of-self-2

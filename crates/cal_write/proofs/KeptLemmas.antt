@@ -15,7 +15,7 @@ use Rattle.cal_write.specs.declared.nodes.Added.{Added}
 use Rattle.cal_write.specs.declared.nodes.Nodes.TheInside.{Inside}
 use Rattle.cal_write.specs.Nodes.{Node, with_node}
 use Rattle.cal_write.specs.Added.{AddsNode}
-use Rattle.cal_write.specs.Board.{known_nodes, IsKept}
+use Rattle.cal_write.specs.Kept.{known_nodes, IsKept}
 use Rattle.cal_write.specs.Places.{IsPlace, node_at, KnowsAttribute}
 use Rattle.cal_write.specs.Table.{no_entry, nodes_of, AttributePlaces, EntryPlaces, KeySet, KnowsAttributes, KnowsEntries}
 use Rattle.cal_write.proofs.TableLemmas.{IsKey, kept-entry, keys-insert_entry, holds-updated, kept-key, grown-key, added-key, key_eq, key_decides, KnowsAttributes-grown, KnowsEntries-grown}
