@@ -1,4 +1,4 @@
-use Rattle.std.proofs.Common.{◌≡◌, ℕ, ◌+◌, ◌<◌, Bool, true, false, List, [], ◌∷◌, ◌++◌, length, take, drop, map, pos, refl, sym, ap, ◌∙◌, subst, arith, fold, eqb, cond, if◌then◌else◌, append_assoc, decimal}
+use Rattle.std.proofs.Common.{◌≡◌, ℕ, Bool, true, false, List, [], ◌∷◌, ◌++◌, length, drop, map, pos, refl, sym, ap, ◌∙◌, subst, fold, eqb, cond, if◌then◌else◌, append_assoc, decimal}
 use Rattle.std.specs.List.{list_any, flat_map}
 use Rattle.std.proofs.Math.Seq.{drop-append_seam, drop-length}
 use Rattle.std.proofs.lemmas.List.{append-nil}
@@ -7,13 +7,11 @@ use Rattle.std.proofs.lemmas.List.Concat.{flat_map-append}
 use Rattle.std.proofs.lemmas.List.Sums.{fold-append}
 use Rattle.cal_value.specs.declared.attribute.Attribute.{Attribute}
 use Rattle.cal_value.specs.declared.attribute.Entry.{Entry}
-use Rattle.cal_value.specs.declared.kind.Kind as kinds
-use Rattle.cal_value.specs.declared.props.Props.{Props}
 use Rattle.cal_value.specs.declared.record.Rec.{Rec}
 use Rattle.cal_value.specs.declared.variant.Variant.TheVariants as value
 use Rattle.cal_write.specs.CanonicalText.{id_text, parent_ids, node_line, last_nodes, record_line, record_text, text_behind, canonical_text}
 use Rattle.cal_write.specs.Lines.{record_line_of}
-use Rattle.cal_write.specs.Nodes.{Node, same_node, with_node, built_in, node_of_kind, node_of_props, node_of_attribute, way_down, needed_by_attribute, needed_below, needed_by_record, nodes, name_attribute, prop_attribute, type_attribute}
+use Rattle.cal_write.specs.Nodes.{Node, same_node, with_node, built_in, node_of_kind, node_of_attribute, way_down, needed_by_attribute, needed_below, needed_by_record, nodes, name_attribute, prop_attribute, type_attribute}
 use Rattle.cal_write.specs.Places.{KnowsAttribute, Grows}
 use Rattle.cal_write.specs.Steps.{new_lines, Writes, AreAt}
 use Rattle.cal_write.specs.Written.{Written, StandsFor}
@@ -76,10 +74,11 @@ new_lines-all ns (n ∷ needed) h = by (list_any (same_node n) ns) (λ e. has-la
   where
     has-last : list_any (same_node n) ns ≡ false → list_any (same_node n) (ns ++ n ∷ []) ≡ true
     has-last e = subst (λ l. list_any (same_node n) l ≡ true) (ap (λ b. if b then ns else ns ++ n ∷ []) e) (has-with_node ns n)
+
     by : (b : Bool) → (b ≡ false → list_any (same_node n) (ns ++ n ∷ []) ≡ true) → IsReady (if b then ns else ns ++ n ∷ []) needed
         → ((m : List Node) → IsReady m needed → new_lines m needed ≡ flat_map (node_line (fold with_node m needed)) (drop (length m) (fold with_node m needed)))
         → (if b then [] else node_line (ns ++ n ∷ []) n) ++ new_lines (if b then ns else ns ++ n ∷ []) needed
-          ≡ flat_map (node_line (fold with_node (if b then ns else ns ++ n ∷ []) needed)) (drop (length ns) (fold with_node (if b then ns else ns ++ n ∷ []) needed))
+        ≡ flat_map (node_line (fold with_node (if b then ns else ns ++ n ∷ []) needed)) (drop (length ns) (fold with_node (if b then ns else ns ++ n ∷ []) needed))
     by true last ready all = all ns ready
     by false last ready all =
         let now : List Node = ns ++ n ∷ [] in
@@ -115,7 +114,7 @@ unfolding IsReady HasParts Described
 way_down-ready ns [] h = tt
 way_down-ready ns (e ∷ up) h =
     IsReady-append ns (way_down up) ((e ∷ up) ∷ []) (way_down-ready ns up h.1)
-      ((has-grown (node_of_attribute e.attr) (fold-grows ns (way_down up)) h.0, way_down-there ns up), tt)
+    ((has-grown (node_of_attribute e.attr) (fold-grows ns (way_down up)) h.0, way_down-there ns up), tt)
 
 has-known : (ns : List Node) (a : Attribute) (i : ℕ) → KnowsAttribute built_in a i → Grows built_in ns → list_any (same_node (node_of_attribute a)) ns ≡ true
 has-known ns a i known g = IsAt-has (IsAt-grown g known.at)
@@ -126,6 +125,7 @@ attribute-described ns g a = (has-known ns name_attribute 8 knows_name g, by (eq
   where
     type_there : list_any (same_node (node_of_attribute type_attribute)) ns ≡ true
     type_there = has-known ns type_attribute 9 knows_type g
+
     by : (b : Bool) → Described ns (cond b (node_of_kind a.kind) (record { attr = prop_attribute; value = value.Int (pos a.props.0) } ∷ node_of_kind a.kind))
     by true = (type_there, tt)
     by false = (has-known ns prop_attribute 10 knows_prop g, (type_there, tt))
@@ -144,9 +144,10 @@ path-ready ns up [] g h = tt
 path-ready ns up (e ∷ path) g h =
     let mid : List Node = fold with_node ns (needed_by_attribute e.attr) in
     let grows : Grows ns mid = fold-grows ns (needed_by_attribute e.attr) in
-    IsReady-append ns (needed_by_attribute e.attr) ((e ∷ up) ∷ needed_below (e ∷ up) path) (attribute-ready ns g e.attr)
-      ((attribute-there ns e.attr, HasUp-grown up grows h),
-       path-ready (with_node mid (e ∷ up)) (e ∷ up) path (Grows-trans g (Grows-trans grows (with_node-grows mid (e ∷ up)))) (has-with_node mid (e ∷ up)))
+    IsReady-append ns (needed_by_attribute e.attr) ((e ∷ up) ∷ needed_below (e ∷ up) path) (attribute-ready ns g e.attr) (
+      (attribute-there ns e.attr, HasUp-grown up grows h),
+      path-ready (with_node mid (e ∷ up)) (e ∷ up) path (Grows-trans g (Grows-trans grows (with_node-grows mid (e ∷ up)))) (has-with_node mid (e ∷ up)),
+    )
 
 -- of a list, each of whose elements needs something that is ready wherever it stands
 each-ready : {X : Type 0} (f : X → List Node) → ((ns : List Node) (x : X) → Grows built_in ns → IsReady ns (f x)) → (ns : List Node) (xs : List X) → Grows built_in ns → IsReady ns (flat_map f xs)
@@ -161,9 +162,9 @@ root-there ns = tt
 record-ready : (ns : List Node) → Grows built_in ns → (r : Rec) → IsReady ns (needed_by_record r)
 record-ready ns g r =
     IsReady-append ns (flat_map (needed_below []) r.paths) (flat_map (λ e. needed_by_attribute e.attr) r.imms)
-      (each-ready (needed_below []) (λ m path h. path-ready m [] path h (root-there m)) ns r.paths g)
-      (each-ready (λ (e : Entry). needed_by_attribute e.attr) (λ m e h. attribute-ready m h e.attr) (fold with_node ns (flat_map (needed_below []) r.paths)) r.imms
-        (Grows-trans g (fold-grows ns (flat_map (needed_below []) r.paths))))
+    (each-ready (needed_below []) (λ m path h. path-ready m [] path h (root-there m)) ns r.paths g)
+    (each-ready (λ (e : Entry). needed_by_attribute e.attr) (λ m e h. attribute-ready m h e.attr) (fold with_node ns (flat_map (needed_below []) r.paths)) r.imms
+    (Grows-trans g (fold-grows ns (flat_map (needed_below []) r.paths))))
 
 -- ---- one more record
 
@@ -192,10 +193,10 @@ stands-put {old} {mid} {new} rs r refs places stands writes g h same text =
     let grown : mid.nodes ≡ all = writes.nodes ∙ ap (λ ns. fold with_node ns (needed_by_record r)) stands.nodes ∙ sym (nodes-push rs r) in
     let begins : Grows built_in (nodes rs) = fold-grows built_in (flat_map needed_by_record rs) in
     let lines : new_lines (nodes rs) (needed_by_record r) ≡ flat_map (node_line all) (drop (length (nodes rs)) all) =
-        new_lines-all (nodes rs) (needed_by_record r) (record-ready (nodes rs) begins r) ∙ ap (λ ns. flat_map (node_line ns) (drop (length (nodes rs)) ns)) (sym (nodes-push rs r)) in
+    new_lines-all (nodes rs) (needed_by_record r) (record-ready (nodes rs) begins r) ∙ ap (λ ns. flat_map (node_line ns) (drop (length (nodes rs)) ns)) (sym (nodes-push rs r)) in
     let line : record_line_of refs places r.imms ≡ record_line all r = record_line-at mid.nodes r refs places g h ∙ ap (λ ns. record_line ns r) grown in
     let front : mid.text ≡ canonical_text rs ++ flat_map (node_line all) (drop (length (nodes rs)) all) =
-        writes.text ∙ ap (λ l. l ++ new_lines old.nodes (needed_by_record r)) stands.text ∙ ap (λ ns. canonical_text rs ++ new_lines ns (needed_by_record r)) stands.nodes ∙ ap (λ l. canonical_text rs ++ l) lines in
+    writes.text ∙ ap (λ l. l ++ new_lines old.nodes (needed_by_record r)) stands.text ∙ ap (λ ns. canonical_text rs ++ new_lines ns (needed_by_record r)) stands.nodes ∙ ap (λ l. canonical_text rs ++ l) lines in
     record {
       nodes = same ∙ grown;
       text = text ∙ ap (λ l. mid.text ++ l) line ∙ ap (λ l. l ++ record_line all r) front

@@ -1,4 +1,4 @@
-use Rattle.std.proofs.Common.{◌≡◌, ℕ, zero, suc, ◌+◌, ◌*◌, ◌/◌, ◌%◌, ◌<◌, ◌≤◌, Bool, true, false, List, [], ◌∷◌, ◌++◌, refl, ap, ◌∙◌, arith, eqb, if◌then◌else◌, ℤ, pos, negsuc}
+use Rattle.std.proofs.Common.{◌≡◌, ℕ, zero, suc, ◌/◌, ◌%◌, ◌<◌, ◌≤◌, Bool, true, false, List, [], ◌∷◌, refl, ap, arith, eqb, if◌then◌else◌, ℤ, pos, negsuc}
 use Rattle.std.specs.Fmt.{digits, digits_onto, digit_glyph, signed_decimal}
 use Rattle.std.proofs.lemmas.Bool.Decides.{nat_tests}
 use Rattle.cal_value.specs.Values.{value_text}
@@ -20,10 +20,11 @@ onto-plain (suc k) base n acc low high plain =
   where
     now : escaped (digit_glyph false (n % base) ∷ acc) ≡ digit_glyph false (n % base) ∷ acc
     now = rw (glyph-plain (n % base) (omega arith), plain) refl
+
     by : (b : Bool) → escaped (digit_glyph false (n % base) ∷ acc) ≡ digit_glyph false (n % base) ∷ acc
         → escaped (digits_onto k base false (n / base) (digit_glyph false (n % base) ∷ acc)) ≡ digits_onto k base false (n / base) (digit_glyph false (n % base) ∷ acc)
         → escaped (if b then digit_glyph false (n % base) ∷ acc else digits_onto k base false (n / base) (digit_glyph false (n % base) ∷ acc))
-          ≡ (if b then digit_glyph false (n % base) ∷ acc else digits_onto k base false (n / base) (digit_glyph false (n % base) ∷ acc))
+        ≡ (if b then digit_glyph false (n % base) ∷ acc else digits_onto k base false (n / base) (digit_glyph false (n % base) ∷ acc))
     by true one more = one
     by false one more = more
 

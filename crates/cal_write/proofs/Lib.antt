@@ -1,6 +1,6 @@
 pub mod PlaceLemmas
 pub mod TableLemmas
-pub mod BoardLemmas
+pub mod KeptLemmas
 pub mod EscapeLemmas
 pub mod LineLemmas
 pub mod BuiltInLemmas

@@ -1,5 +1,5 @@
 use Rattle.std.proofs.Common.{◌≡◌, ◌≢◌, ℕ, ◌+◌, ◌<◌, Bool, true, false, List, [], ◌∷◌, ◌++◌, length, get_or, take, map, reverse, cond, pos, Option, Some, None, option_to_list, refl, sym, ap, ◌∙◌, subst, arith, fold, eqb, append_assoc}
-use Rattle.std.specs.List.{list_any, flat_map}
+use Rattle.std.specs.List.{flat_map}
 use Rattle.std.proofs.lemmas.Bool.Decides.{nat_tests}
 use Rattle.std.proofs.lemmas.List.{append-nil, take_more, map_more, reverse-append, length-append}
 use Rattle.std.proofs.lemmas.List.Concat.{flat_map-append}
@@ -10,12 +10,12 @@ use Rattle.cal_value.specs.declared.kind.Kind as kinds
 use Rattle.cal_value.specs.declared.props.Props.{Props}
 use Rattle.cal_value.specs.declared.variant.Variant.TheVariants as value
 use Rattle.cal_write.specs.CanonicalText.{last_nodes}
-use Rattle.cal_write.specs.Nodes.{Node, same_node, with_node, built_in, node_of_kind, node_of_props, node_of_attribute, way_down, needed_by_attribute, needed_below, name_attribute, prop_attribute}
+use Rattle.cal_write.specs.Nodes.{Node, with_node, built_in, node_of_kind, node_of_props, way_down, needed_by_attribute, needed_below, name_attribute, prop_attribute}
 use Rattle.cal_write.specs.Places.{IsAt, HasAll, KnowsAttribute, node_at, IsPlace, Grows}
 use Rattle.cal_write.specs.Steps.{Writes, WritesTo, AreAt}
 use Rattle.cal_write.specs.Written.{Written}
-use Rattle.cal_write.proofs.BuiltInLemmas.{knows_kind, knows_name, knows_prop}
-use Rattle.cal_write.proofs.PlaceLemmas.{same_decides, fold-grows, has-grown, HasAll-grown, IsAt-grown, IsAt-has, IsAt-node, node_at-grown, KnowsAttribute-grown}
+use Rattle.cal_write.proofs.BuiltInLemmas.{knows_kind}
+use Rattle.cal_write.proofs.PlaceLemmas.{fold-grows, has-grown, IsAt-grown, IsAt-has, IsAt-node, node_at-grown}
 use Rattle.cal_write.proofs.TableLemmas.{IsAt-with_node}
 use Rattle.cal_write.proofs.StepLemmas.{Writes-then, Writes-known, Writes-grows, AreAt-grown, AreAt-append}
 

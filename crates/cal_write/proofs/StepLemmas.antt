@@ -1,18 +1,17 @@
-use Rattle.std.proofs.Common.{◌≡◌, ℕ, ◌+◌, ◌<◌, Bool, true, false, not, List, [], ◌∷◌, ◌++◌, length, map, Option, Some, None, option_to_list, refl, sym, ap, ◌∙◌, subst, arith, fold, if◌then◌else◌, append_assoc, decimal}
-use Rattle.std.specs.List.{list_any, position_or_len}
+use Rattle.std.proofs.Common.{◌≡◌, ℕ, Bool, true, false, not, List, [], ◌∷◌, ◌++◌, length, map, Option, Some, None, option_to_list, refl, sym, ap, ◌∙◌, subst, arith, fold, if◌then◌else◌, append_assoc, decimal}
+use Rattle.std.specs.List.{list_any}
 use Rattle.std.proofs.lemmas.List.{append-nil}
 use Rattle.std.proofs.lemmas.List.Sums.{fold-append}
-use Rattle.cal_value.specs.declared.attribute.Attribute.{Attribute}
 use Rattle.cal_value.specs.declared.attribute.Entry.{Entry}
 use Rattle.cal_write.specs.declared.nodes.Added.{Added}
 use Rattle.cal_write.specs.Added.{AddsNode}
-use Rattle.cal_write.specs.Nodes.{Node, same_node, with_node, built_in, node_of_attribute, needed_by_attribute}
+use Rattle.cal_write.specs.Nodes.{Node, same_node, with_node}
 use Rattle.cal_write.specs.CanonicalText.{id_text, parent_ids, node_line}
 use Rattle.cal_write.specs.Lines.{node_line_of}
 use Rattle.cal_write.specs.Places.{IsAt, HasAll, KnowsAttribute, node_at, IsPlace, Grows}
 use Rattle.cal_write.specs.Steps.{new_lines, Writes, WritesTo, AreAt}
 use Rattle.cal_write.specs.Written.{Written}
-use Rattle.cal_write.proofs.PlaceLemmas.{Grows-trans, with_node-grows, fold-grows, fold-known, with_node-known, IsAt-grown, IsAt-node}
+use Rattle.cal_write.proofs.PlaceLemmas.{fold-grows, fold-known, IsAt-grown}
 
 -- ---- lines, one list of nodes after another
 
@@ -77,6 +76,7 @@ Writes-one old text new parent e added attribute h known adds written = record {
   where
     n : Node
     n = e ∷ node_at old parent
+
     by : (b : Bool) → added.fresh ≡ not b → IsAt (if b then old else old ++ n ∷ []) n added.place
         → (if added.fresh then node_line_of added.place attribute e.value parent else []) ≡ (if b then [] else node_line (old ++ n ∷ []) n)
     by true fresh at = rw fresh refl

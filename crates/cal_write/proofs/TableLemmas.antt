@@ -4,7 +4,7 @@ use Rattle.std.specs.Option.{option_eq}
 use Rattle.std.specs.List.{list_any, position_or_len}
 use Rattle.std.proofs.lemmas.Bool.{cases_lt}
 use Rattle.std.proofs.lemmas.Bool.Decides.{same_from_decides, Decides-like, Decides-ltb, Decides-eqb, Decides-and}
-use Rattle.std.proofs.lemmas.List.{length-append, get_or_append_left, get_or_push, append_assoc, get_or_default}
+use Rattle.std.proofs.lemmas.List.{length-append, get_or_append_left, get_or_push}
 use Rattle.std.proofs.lemmas.List.Sums.{fold-append}
 use Rattle.indexmap.specs.IndexSet.{insert_key}
 use Rattle.indexmap.specs.IndexMap.{insert_entry}
@@ -15,12 +15,11 @@ use Rattle.std.specs.declared.cmp.Ordering.{Ordering}
 use Rattle.cal_value.specs.ExactOrder.{IsExactOrder, exact_decides}
 use Rattle.cal_value.specs.Order.{entry_cmp}
 use Rattle.cal_value.specs.OrderLaws.{entry_exact}
-use Rattle.cal_value.specs.declared.attribute.Attribute.{Attribute}
 use Rattle.cal_value.specs.declared.attribute.Entry.{Entry}
 use Rattle.cal_write.specs.declared.nodes.NodeKey.{NodeKey}
 use Rattle.cal_write.specs.Nodes.{Node, same_node, with_node}
 use Rattle.cal_write.specs.Added.{AddsNode}
-use Rattle.cal_write.specs.Places.{IsAt, KnowsAttribute, node_at, IsPlace, Grows}
+use Rattle.cal_write.specs.Places.{IsAt, node_at, IsPlace, Grows}
 use Rattle.cal_write.specs.Table.{no_entry, node_of_key, nodes_of, IsBefore, Apart, IsTable, AttributePlaces, EntryPlaces, KnowsAttributes, KnowsEntries}
 use Rattle.cal_write.proofs.PlaceLemmas.{same_decides, position_passes, position-any, position-none, position-push, none-any, with_node-grows, KnowsAttribute-grown}
 
@@ -58,8 +57,10 @@ Apart-push {A} d xs x apart new i j h g e = by (cases_lt i (length xs)) (cases_l
   where
     at : (k : ℕ) → k < length xs → get_or (xs ++ x ∷ []) k d ≡ get_or xs k d
     at k l = get_or_append_left xs (x ∷ []) d k l
+
     last : (k : ℕ) → length xs ≤ k → k < length (xs ++ x ∷ []) → (length xs ≡ k) × (get_or (xs ++ x ∷ []) k d ≡ x)
     last k l m = let is : length xs ≡ k = omega (arith, l, m, length-append xs (x ∷ [])) in (is, get_or_push xs x d k is)
+
     by : ((i < length xs) ⊎ (length xs ≤ i)) → ((j < length xs) ⊎ (length xs ≤ j)) → i ≡ j
     by (inl a) (inl b) = apart i j a b (sym (at i a) ∙ e ∙ at j b)
     by (inl a) (inr b) = absurd (new i a (sym (at i a) ∙ e ∙ (last j b g).1))
@@ -100,17 +101,17 @@ module _ {es : List Entry} {ks : List NodeKey} {ns : List Node} (t : IsTable es 
       let l' : i < length ns = omega (arith, l, t.counted) in
       let same = e ∙ t.nodes i k l in
       key_one k (get_or ks i k)
-        (parent_one k.parent (get_or ks i k).parent is.parent (before_all (get_or ks i k).parent i (t.parents i k l) l') (some_entry k) (tail_one same))
-        (t.entries_apart k.entry (get_or ks i k).entry is.entry (t.entries i k l) (head_one same))
+      (parent_one k.parent (get_or ks i k).parent is.parent (before_all (get_or ks i k).parent i (t.parents i k l) l') (some_entry k) (tail_one same))
+      (t.entries_apart k.entry (get_or ks i k).entry is.entry (t.entries i k l) (head_one same))
 
   module _ (eq : NodeKey → NodeKey → Bool) (decides : (x y : NodeKey) → Decides (eq x y) (x ≡ y)) (k : NodeKey) (is : IsKey es ns k) where
     -- the keys answer as the nodes do
     answers : map (eq k) ks ≡ map (same_node (node_of_key es ns k)) ns
     answers =
         alike (eq k) (same_node (node_of_key es ns k)) k [] ks ns (sym t.counted) (λ i l.
-          same_from_decides (eq k (get_or ks i k)) (same_node (node_of_key es ns k) (get_or ns i []))
-            (decides k (get_or ks i k))
-            (Decides-like _ (key_at k is i l) (λ e. ap (node_of_key es ns) e ∙ sym (t.nodes i k l)) (same_decides (node_of_key es ns k) (get_or ns i []))))
+        same_from_decides (eq k (get_or ks i k)) (same_node (node_of_key es ns k) (get_or ns i []))
+        (decides k (get_or ks i k))
+        (Decides-like _ (key_at k is i l) (λ e. ap (node_of_key es ns) e ∙ sym (t.nodes i k l)) (same_decides (node_of_key es ns k) (get_or ns i []))))
 
     pub key_known : list_any (eq k) ks ≡ list_any (same_node (node_of_key es ns k)) ns
     key_known = list_any-answers (eq k) ks ∙ ap (list_any (λ b. b)) answers ∙ sym (list_any-answers (same_node (node_of_key es ns k)) ns)
@@ -151,18 +152,23 @@ module _ {es : List Entry} {ks : List NodeKey} {ns : List Node} (t : IsTable es 
     where
       n : Node
       n = node_of_key es ns k
+
       old : (i : ℕ) (d : NodeKey) → i < length ks → get_or (ks ++ k ∷ []) i d ≡ get_or ks i d
       old i d l = get_or_append_left ks (k ∷ []) d i l
+
       at_end : (i : ℕ) → length ks ≤ i → i < length (ks ++ k ∷ []) → length ks ≡ i
       at_end i l h = omega (arith, l, h, length-append ks (k ∷ []))
+
       parents : (i : ℕ) (d : NodeKey) → ((i < length ks) ⊎ (length ks ≤ i)) → i < length (ks ++ k ∷ []) → IsBefore (get_or (ks ++ k ∷ []) i d).parent i
       parents i d (inl l) h = subst (λ x. IsBefore x.parent i) (sym (old i d l)) (t.parents i d l)
       parents i d (inr l) h =
           let e = at_end i l h in
           subst (λ x. IsBefore x.parent i) (sym (get_or_push ks k d i e)) (subst (λ m. IsBefore k.parent m) (t.counted ∙ e) (place_before ns k.parent is.parent))
+
       entries : (i : ℕ) (d : NodeKey) → ((i < length ks) ⊎ (length ks ≤ i)) → i < length (ks ++ k ∷ []) → (get_or (ks ++ k ∷ []) i d).entry < length es
       entries i d (inl l) h = subst (λ x. x.entry < length es) (sym (old i d l)) (t.entries i d l)
       entries i d (inr l) h = subst (λ x. x.entry < length es) (sym (get_or_push ks k d i (at_end i l h))) is.entry
+
       nodes : (i : ℕ) (d : NodeKey) → ((i < length ks) ⊎ (length ks ≤ i)) → i < length (ks ++ k ∷ []) → get_or (ns ++ n ∷ []) i [] ≡ node_of_key es (ns ++ n ∷ []) (get_or (ks ++ k ∷ []) i d)
       nodes i d (inl l) h =
           let l' : i < length ns = omega (arith, l, t.counted) in
@@ -230,6 +236,7 @@ module _ {K : Type 0} {R : K → K → Ordering} (o : IsExactOrder R) where
       pushed : (b : Bool) → (e.0 ∷ (if b then keys_of es else keys_of es ++ k ∷ [])) ≡ (if b then e.0 ∷ keys_of es else e.0 ∷ (keys_of es ++ k ∷ []))
       pushed true = refl
       pushed false = refl
+
       by : (b : Bool) → keys_of (insert_entry (eq_by_cmp R) es k place) ≡ insert_key (eq_by_cmp R) (keys_of es) k
           → keys_of (if b then (e.0, place) ∷ es else e ∷ insert_entry (eq_by_cmp R) es k place) ≡ (if b || list_any (eq_by_cmp R k) (keys_of es) then e.0 ∷ keys_of es else e.0 ∷ (keys_of es ++ k ∷ []))
       by true rest = refl
@@ -241,6 +248,7 @@ module _ {K : Type 0} {R : K → K → Ordering} (o : IsExactOrder R) where
     where
       at : ℕ
       at = position_or_len (eq_by_cmp R k) xs
+
       by : (b : Bool) → (b ≡ true → at < length xs) → (b ≡ false → at ≡ length xs) → get_or (if b then xs else xs ++ k ∷ []) at d ≡ k
       by true found none = sym ((exact_decides o k (get_or xs at d)).0 (position_passes (eq_by_cmp R k) xs d (found refl)))
       by false found none = get_or_push xs k d at (sym (none refl))
@@ -250,6 +258,7 @@ module _ {K : Type 0} {R : K → K → Ordering} (o : IsExactOrder R) where
     where
       at : ℕ
       at = position_or_len (eq_by_cmp R k) xs
+
       by : (b : Bool) → (b ≡ true → at < length xs) → (b ≡ false → at ≡ length xs) → at < length (if b then xs else xs ++ k ∷ [])
       by true found none = found refl
       by false found none = omega (arith, none refl, length-append xs (k ∷ []))
@@ -260,6 +269,7 @@ module _ {K : Type 0} {R : K → K → Ordering} (o : IsExactOrder R) where
     where
       at : ℕ
       at = position_or_len (eq_by_cmp R k) xs
+
       by : (b : Bool) → (b ≡ true → at < length xs) → cond b (Some at) None ≡ Some i → (i < length xs) × (get_or xs i d ≡ k)
       by true l e =
           let is : at ≡ i = cc in
@@ -292,6 +302,7 @@ IsAt-with_node ns n = by (list_any (same_node n) ns) (position-any (same_node n)
   where
     at : ℕ
     at = position_or_len (same_node n) ns
+
     by : (b : Bool) → (b ≡ true → at < length ns) → (b ≡ false → at ≡ length ns) → (b ≡ false → position_or_len (same_node n) (ns ++ n ∷ []) ≡ length ns) → IsAt (if b then ns else ns ++ n ∷ []) n at
     by true found none push = record { within = found refl; first = refl }
     by false found none push = record { within = omega (arith, none refl, length-append ns (n ∷ [])); first = push refl ∙ sym (none refl) }
@@ -303,7 +314,7 @@ module _ {es : List Entry} {ks : List NodeKey} (t : IsTable es ks (nodes_of es k
   kept-key =
       let same = nodes_of-insert_key eq decides t k is in
       subst (λ l. IsTable es l (nodes_of es l) × (nodes_of es l ≡ with_node (nodes_of es ks) (node_of_key es (nodes_of es ks) k))) (sym put)
-        (subst (IsTable es (insert_key eq ks k)) (sym same) (IsTable-insert_key t k is eq decides), same)
+      (subst (IsTable es (insert_key eq ks k)) (sym same) (IsTable-insert_key t k is eq decides), same)
 
   pub grown-key : Grows (nodes_of es ks) (nodes_of es ks')
   grown-key = subst (Grows (nodes_of es ks)) (sym kept-key.1) (with_node-grows (nodes_of es ks) (node_of_key es (nodes_of es ks) k))
@@ -335,4 +346,4 @@ key_eq x y = option_eq nat_eq x.parent y.parent && nat_eq x.entry y.entry
 pub key_decides : (x y : NodeKey) → Decides (key_eq x y) (x ≡ y)
 key_decides x y =
     Decides-like (key_eq x y) (λ p. key_one x y p.0 p.1) (λ e. (ap (λ k. k.parent) e, ap (λ k. k.entry) e))
-      (Decides-and (option_eq nat_eq x.parent y.parent) (nat_eq x.entry y.entry) (option_decides x.parent y.parent) (Decides-eqb x.entry y.entry))
+    (Decides-and (option_eq nat_eq x.parent y.parent) (nat_eq x.entry y.entry) (option_decides x.parent y.parent) (Decides-eqb x.entry y.entry))

@@ -1,4 +1,4 @@
-use Rattle.std.specs.Prelude.{◌≡◌, ℕ, not, List, ◌∷◌}
+use Rattle.std.specs.Prelude.{◌≡◌, not, List, ◌∷◌}
 use Rattle.std.specs.List.{list_any}
 use Rattle.cal_value.specs.declared.attribute.Entry.{Entry}
 use Rattle.cal_write.specs.Nodes.{Node, same_node, with_node}

@@ -4,6 +4,6 @@ pub mod Written
 pub mod Places
 pub mod Added
 pub mod Table
-pub mod Board
+pub mod Kept
 pub mod Lines
 pub mod Steps

@@ -1,7 +1,7 @@
-use Rattle.std.specs.Prelude.{◌≡◌, ℕ, ◌<◌, Bool, true, not, List, [], ◌∷◌, ◌++◌, Option, Some, None, length, slice_index_or}
+use Rattle.std.specs.Prelude.{◌≡◌, ℕ, ◌<◌, true, List, [], ◌∷◌, ◌++◌, Option, Some, None, length, slice_index_or}
 use Rattle.std.specs.List.{list_any, position_or_len}
 use Rattle.cal_value.specs.declared.attribute.Attribute.{Attribute}
-use Rattle.cal_write.specs.Nodes.{Node, same_node, node_of_attribute, needed_by_attribute, with_node}
+use Rattle.cal_write.specs.Nodes.{Node, same_node, node_of_attribute, needed_by_attribute}
 
 -- a node has a place among the nodes, its first one
 pub record IsAt (ns : List Node) (n : Node) (place : ℕ) : Type 0 where

@@ -8,7 +8,9 @@ use std::alloc::Global;
 
 /// The places of the nodes of the attributes for names, kinds and properties.
 pub(crate) const NAME: usize = 8;
+
 pub(crate) const TYPE: usize = 9;
+
 pub(crate) const PROP: usize = 10;
 
 /// The nodes that every stream has, with the attributes of names, kinds and properties known.

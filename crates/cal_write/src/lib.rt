@@ -1,7 +1,8 @@
 //! The canonical text of records: the program's one way to write a `.cali` stream.
 //!
-//! The layer above lends a `Writer` one record after another, and its text is then the `canonical_text` of
-//! those records. Nothing is said of a writer that was refused memory.
+//! The layer above lends a `Writer` one record after another, and its text is then the
+//! `canonical_text` of those records; `write_records` makes that text whole before its first byte
+//! goes out. Nothing is said of a writer that was refused memory.
 #![tactic(auto)]
 
 mod built_in;

@@ -45,7 +45,7 @@ impl Model for Nodes {
 
     ghost Value = { List Node };
 
-    ghost use Rattle.cal_write.specs.Board.{known_nodes, IsKept};
+    ghost use Rattle.cal_write.specs.Kept.{known_nodes, IsKept};
 
     ghost view = { known_nodes };
 

@@ -96,7 +96,12 @@ fn profile(alloc: Global) -> Result<Records, OutOfMemory> {
     add(alloc, &mut rows, &[], &times(4, 0, 0, 0))?;
     add(alloc, &mut rows, &[main], &times(8, 48, 2, 10))?;
     add(alloc, &mut rows, &[main, steps], &times(20, 40, 0, 5))?;
-    add(alloc, &mut rows, &[main, steps, solve], &times(8, 200, 20, 30))?;
+    add(
+        alloc,
+        &mut rows,
+        &[main, steps, solve],
+        &times(8, 200, 20, 30),
+    )?;
     Ok(Records { rows })
 }
 
@@ -248,7 +253,10 @@ fn written_to_a_sink(rt: HostRuntime) -> Result<(), Fail> {
     assert_eq!(rt; sink.bytes(), MAIN.as_bytes());
 
     let mut narrow = MemSink::new(alloc, 20, Seq::new(alloc))?;
-    assert_eq!(rt; write_records(alloc, &mut narrow, &records), Err(WriteEnd::WriteFault));
+    assert_eq!(rt;
+        write_records(alloc, &mut narrow, &records),
+        Err(WriteEnd::WriteFault)
+    );
     assert_eq!(rt; narrow.bytes(), b"__rec=node,id=12,att".as_slice());
     Ok(())
 }

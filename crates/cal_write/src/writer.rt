@@ -125,12 +125,17 @@ impl Writer {
     /// Writes what an entry below a node needs, and gives the place of its node.
     fn need_entry(&mut self, parent: Option<usize>, entry: &Entry) -> Result<usize, OutOfMemory>
         requires { IsPlace self.old.nodes parent }
-        ensures {
-            let n = entry.now ∷ node_at self.old.nodes parent in
+        ensures { let n = entry.now ∷ node_at self.old.nodes parent in
             IfOk result (WritesTo self.old self.new (needed_by_attribute entry.now.attr ++ n ∷ []) n) }
     {
         if let Some(found) = self.nodes.add_known(parent, entry)? {
-            write_added(&mut self.text, found.added, found.attribute, &entry.value, parent)?;
+            write_added(
+                &mut self.text,
+                found.added,
+                found.attribute,
+                &entry.value,
+                parent,
+            )?;
             return Ok(found.added.place);
         }
         let attribute = self.need_attribute(&entry.attr)?;
@@ -155,8 +160,7 @@ impl Writer {
 
     /// Writes the node of an attribute's properties, and gives its place, or that of the attribute's kind.
     fn need_props(&mut self, kind: Kind, props: Props) -> Result<usize, OutOfMemory>
-        ensures {
-            let n = node_of_props props kind in
+        ensures { let n = node_of_props props kind in
             IfOk result (WritesTo self.old self.new (way_down n) n) }
     {
         let alloc = self.alloc;
@@ -178,8 +182,7 @@ impl Writer {
     ) -> Result<usize, OutOfMemory>
         requires parent { IsPlace self.old.nodes parent }
         requires attribute { KnowsAttribute self.old.nodes entry.now.attr attribute }
-        ensures {
-            let n = entry.now ∷ node_at self.old.nodes parent in
+        ensures { let n = entry.now ∷ node_at self.old.nodes parent in
             IfOk result (WritesTo self.old self.new (n ∷ []) n) }
     {
         let added = self

@@ -1,4 +1,4 @@
-use Rattle.std.proofs.Common.{◌<◌, arith}
+use Rattle.std.proofs.Common.{arith}
 use Rattle.cal_write.proofs.BuiltInLemmas.{kinds_step}
 use Rattle.cal_write.proofs.built_in.add_kinds.Goals as goal
 

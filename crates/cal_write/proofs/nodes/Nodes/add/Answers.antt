@@ -4,14 +4,12 @@ use Rattle.std.specs.Map.{keys_of}
 use Rattle.std.specs.Option.{ForSome}
 use Rattle.std.proofs.lemmas.Result.{err_from_is_err_and}
 use Rattle.cal_value.specs.OrderLaws.{entry_exact}
-use Rattle.cal_write.specs.declared.nodes.Nodes.TheInside.{Inside}
 use Rattle.cal_write.specs.Nodes.{Node}
 use Rattle.cal_write.specs.Added.{AddsNode}
-use Rattle.cal_write.specs.Board.{known_nodes, IsKept}
 use Rattle.cal_write.specs.Places.{IsPlace, node_at, KnowsAttribute}
 use Rattle.cal_write.specs.Table.{no_entry, nodes_of}
 use Rattle.cal_write.proofs.TableLemmas.{keys-insert_entry, at-insert_key, within-insert_key}
-use Rattle.cal_write.proofs.BoardLemmas.{kept-enter, kept-add, adds-node}
+use Rattle.cal_write.proofs.KeptLemmas.{kept-enter, kept-add, adds-node}
 use Rattle.cal_write.proofs.nodes.Nodes.add.Goals as goal
 
 pub invariant_of-self : goal.invariant_of-self
@@ -45,8 +43,8 @@ returns-clause-added c =
     let new = nodes_of (keys c.insert_full.new.self) c.insert_full-2.new.self.keys in
     let P : List Node → Type 0 = λ ns. AddsNode ns new (c.args.entry ∷ node_at ns c.args.parent) (record { place = c.in_ok-place-2.place; fresh = c.in_ok-place-2.fresh }) in
     subst P (entered.1 ∙ c.self.view_is)
-      (adds-node (record c.self.inside { entries = c.insert_full.new.self }) entered.0 c.insert_full-2.new.self (record { parent = c.args.parent; entry = c.in_ok-place.place }) (record { parent = parent; entry = within }) c.in_ok-place-2.ensures.keys
-        c.args.entry at _ c.in_ok-place-2.ensures.index c.in_ok-place-2.ensures.added)
+    (adds-node (record c.self.inside { entries = c.insert_full.new.self }) entered.0 c.insert_full-2.new.self (record { parent = c.args.parent; entry = c.in_ok-place.place }) (record { parent = parent; entry = within }) c.in_ok-place-2.ensures.keys
+    c.args.entry at _ c.in_ok-place-2.ensures.index c.in_ok-place-2.ensures.added)
 
 pub returns-in_err-place-2-clause-err : goal.returns-in_err-place-2-clause-err
 returns-in_err-place-2-clause-err c =

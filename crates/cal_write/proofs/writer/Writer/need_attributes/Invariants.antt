@@ -8,5 +8,5 @@ use Rattle.cal_write.proofs.writer.Writer.need_attributes.Given as goal
 abbrev pub invariant-loop-entry : goal.invariant-loop-entry
 invariant-loop-entry l = record {
   writes : Writes l.fn.self l.self (flat_map (λ e. needed_by_attribute e.attr) (take l.entry-index l.imms));
-  at : AreAt l.self.nodes (map (λ e. node_of_attribute e.attr) (take l.entry-index l.imms)) l.places.items
+  at : AreAt l.self.nodes (map (λ e. node_of_attribute e.attr) (take l.entry-index l.imms)) l.places.items;
 }

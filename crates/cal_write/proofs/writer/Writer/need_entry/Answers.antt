@@ -12,7 +12,7 @@ returns-in-Some c =
     let finds = rw c.in-Some.is at c.in_ok-found.ensures.known in
     let known = subst (λ w. KnowsAttribute w.nodes c.args.entry.now.attr c.in-Some.found.attribute) c.self.view_is finds.attribute in
     writes-found c.args.self.now (record { nodes = c.add_known.new.self; text = c.write_added.new.out }) c.args.entry.now.attr _ c.in-Some.found.added.place c.in-Some.found.attribute known
-      (Writes-added c.self.view_is _ c.args.parent c.args.entry.now c.in-Some.found.added c.in-Some.found.attribute c.requires known finds.added c.in_ok-write_added.ensures)
+    (Writes-added c.self.view_is _ c.args.parent c.args.entry.now c.in-Some.found.added c.in-Some.found.attribute c.requires known finds.added c.in_ok-write_added.ensures)
 
 pub add-requires-clause-parent : goal.add-requires-clause-parent
 add-requires-clause-parent c =

@@ -9,5 +9,5 @@ abbrev pub invariant-loop-entry : goal.invariant-loop-entry
 invariant-loop-entry l = record {
   writes : Writes l.initial.self l.self (needed_below [] (take l.entry-index l.path));
   place : IsPlace l.self.nodes l.parent;
-  node : node_at l.self.nodes l.parent ≡ reverse (take l.entry-index l.path)
+  node : node_at l.self.nodes l.parent ≡ reverse (take l.entry-index l.path);
 }

@@ -9,5 +9,5 @@ use Rattle.cal_write.proofs.writer.Writer.need_paths.Given as goal
 abbrev pub invariant-loop-path : goal.invariant-loop-path
 invariant-loop-path l = record {
   writes : Writes l.fn.self l.self (flat_map (needed_below []) (take l.path-index l.paths));
-  at : AreAt l.self.nodes (flat_map last_nodes (take l.path-index l.paths)) l.refs.items
+  at : AreAt l.self.nodes (flat_map last_nodes (take l.path-index l.paths)) l.refs.items;
 }

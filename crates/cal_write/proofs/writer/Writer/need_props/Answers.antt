@@ -25,4 +25,4 @@ pub returns : goal.returns
 returns c =
     let begins = subst (λ w. Grows built_in w.nodes) c.self.view_is c.self.invariant in
     writes-props c.args.self.now c.add.new.self begins c.args.props c.args.kind _ c.in_ok-place.place
-      (kind_place c.args.self.now.nodes begins c.args.kind c.node-parent.result c.node-parent.ensures).1 c.if-props-eq0.false c.in_ok-entry.entry c.in_ok-entry.ensures c.in_ok-place.ensures
+    (kind_place c.args.self.now.nodes begins c.args.kind c.node-parent.result c.node-parent.ensures).1 c.if-props-eq0.false c.in_ok-entry.entry c.in_ok-entry.ensures c.in_ok-place.ensures

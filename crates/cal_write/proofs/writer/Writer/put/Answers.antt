@@ -19,5 +19,5 @@ returns c = λ rs stands.
     let places = rw c.as_slice-2.ensures at c.in_ok-attributes.ensures.at in
     let line = rw (c.as_slice-3.ensures.value, c.as_slice-4.ensures.value, c.as_slice-5.ensures) at c.in_ok-write_record.ensures in
     let text : c.write_record.new.out ≡ c.need_attributes.new.self.text ++ record_line_of c.in_ok-refs.refs.items c.in_ok-attributes.attributes.items rec.imms =
-        line ∙ ap (λ w. w.text ++ record_line_of c.in_ok-refs.refs.items c.in_ok-attributes.attributes.items rec.imms) c.self.view_is in
+    line ∙ ap (λ w. w.text ++ record_line_of c.in_ok-refs.refs.items c.in_ok-attributes.attributes.items rec.imms) c.self.view_is in
     stands-put rs rec c.in_ok-refs.refs.items c.in_ok-attributes.attributes.items stands (Writes-then by_paths by_imms paths imms) refs places (ap (λ w. w.nodes) c.self.view_is) text

@@ -1,4 +1,4 @@
-use Rattle.std.proofs.Common.{◌≡◌, ℕ, ◌<◌, Bool, not, List, ◌∷◌, length, get_or, Some, Option, subst, sym, ap, ◌∙◌, slice_index_or}
+use Rattle.std.proofs.Common.{◌≡◌, ℕ, not, List, ◌∷◌, Some, Option, subst, sym, ap, ◌∙◌, slice_index_or}
 use Rattle.std.specs.HashMap.{keys, Updates}
 use Rattle.std.specs.Option.{ForSome}
 use Rattle.std.specs.Map.{keys_of}
@@ -13,10 +13,10 @@ use Rattle.cal_value.specs.declared.attribute.Entry.{Entry}
 use Rattle.cal_write.specs.declared.nodes.NodeKey.{NodeKey}
 use Rattle.cal_write.specs.declared.nodes.Added.{Added}
 use Rattle.cal_write.specs.declared.nodes.Nodes.TheInside.{Inside}
-use Rattle.cal_write.specs.Nodes.{Node, with_node}
+use Rattle.cal_write.specs.Nodes.{Node}
 use Rattle.cal_write.specs.Added.{AddsNode}
-use Rattle.cal_write.specs.Board.{known_nodes, IsKept}
-use Rattle.cal_write.specs.Places.{IsPlace, node_at, KnowsAttribute}
+use Rattle.cal_write.specs.Kept.{known_nodes, IsKept}
+use Rattle.cal_write.specs.Places.{node_at, KnowsAttribute}
 use Rattle.cal_write.specs.Table.{no_entry, nodes_of, AttributePlaces, EntryPlaces, KeySet, KnowsAttributes, KnowsEntries}
 use Rattle.cal_write.proofs.TableLemmas.{IsKey, kept-entry, keys-insert_entry, holds-updated, kept-key, grown-key, added-key, key_eq, key_decides, KnowsAttributes-grown, KnowsEntries-grown}
 
