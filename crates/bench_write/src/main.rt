@@ -105,6 +105,8 @@ fn main(rt: HostRuntime) -> Result<()> {
     let length = text.len();
     let copy_length = copy.len();
     let bytes_length = bytes.len();
-    println!(rt; "{length} bytes written in {written:?}, {copy_length} copied by characters in {copied:?}, {bytes_length} by bytes in {pushed:?}")?;
+    println!(rt;
+        "{length} bytes written in {written:?}, {copy_length} copied by characters in {copied:?}, {bytes_length} by bytes in {pushed:?}"
+    )?;
     Ok(())
 }
