@@ -13,7 +13,8 @@ type Line = ArrayString<96>;
 
 /// Puts the line that tells of a fault. It takes no memory, and a sink that fails changes nothing else.
 pub fn put_fault<E: Sink>(errors: &mut E, fault: &Fault)
-    ensures { Tells (E.written errors.old) (E.written errors.new) (E.faults errors.old) (E.faults errors.new) (fault_line fault.now) }
+    ensures { Tells (E.written errors.old) (E.written errors.new)
+        (E.faults errors.old) (E.faults errors.new) (fault_line fault.now) }
 {
     let line = fault_text(fault);
     let _ = errors.put(line.as_str().as_bytes());

@@ -37,26 +37,38 @@ pub fn run<S: Source, W: Sink, E: Sink>(
     errors: &mut E,
 ) -> Outcome
     ensures status { result.status ≡ status_of result.fault }
-    ensures told { Tells (E.written errors.old) (E.written errors.new) (E.faults errors.old) (E.faults errors.new) (report_of result.fault) }
+    ensures told { Tells (E.written errors.old) (E.written errors.new)
+        (E.faults errors.old) (E.faults errors.new) (report_of result.fault) }
 
     // The text of the run was written whole.
-    ensures written { result.fault ≡ None → IfSome (S.left input.old) (WritesRun (W.written output.old) (W.written output.new)) }
+    ensures written { result.fault ≡ None →
+        IfSome (S.left input.old) (WritesRun (W.written output.old) (W.written output.new)) }
 
     // What each fault says.
-    ensures usage { (word : ℕ) → (result.fault ≡ Some (Fault.Usage word)) ↔ (command_of (map string_bytes words.now) ≡ Err word) }
-    ensures bad_input { (line : ℕ) (kind : kinds.InputKind) → result.fault ≡ Some (Fault.BadInput line kind) → IfSome (S.left input.old) (IsInputFault line kind) }
-    ensures read_fault { result.fault ≡ Some Fault.ReadFault → Rose (S.faults input.old) (S.faults input.new) }
-    ensures too_long { result.fault ≡ Some Fault.TooLong → TakesOver input_limit (S.left input.old) (S.left input.new) }
-    ensures write_fault { result.fault ≡ Some Fault.WriteFault → Rose (W.faults output.old) (W.faults output.new) }
-    ensures front { result.fault ≡ Some Fault.WriteFault → IfSome (S.left input.old) (WritesFront (W.written output.old) (W.written output.new)) }
+    ensures usage { (word : ℕ) → (result.fault ≡ Some (Fault.Usage word))
+        ↔ (command_of (map string_bytes words.now) ≡ Err word) }
+    ensures bad_input { (line : ℕ) (kind : kinds.InputKind) →
+        result.fault ≡ Some (Fault.BadInput line kind) →
+        IfSome (S.left input.old) (IsInputFault line kind) }
+    ensures read_fault { result.fault ≡ Some Fault.ReadFault →
+        Rose (S.faults input.old) (S.faults input.new) }
+    ensures too_long { result.fault ≡ Some Fault.TooLong →
+        TakesOver input_limit (S.left input.old) (S.left input.new) }
+    ensures write_fault { result.fault ≡ Some Fault.WriteFault →
+        Rose (W.faults output.old) (W.faults output.new) }
+    ensures front { result.fault ≡ Some Fault.WriteFault →
+        IfSome (S.left input.old) (WritesFront (W.written output.old) (W.written output.new)) }
 
     // What is left.
     ensures read { TellsOfScript result.status → IsRead (S.left input.old) (S.left input.new) }
-    ensures unchanged { Contains (2 ∷ 3 ∷ 5 ∷ 7 ∷ 8 ∷ []) result.status → W.written output.new ≡ W.written output.old }
+    ensures unchanged { Contains (2 ∷ 3 ∷ 5 ∷ 7 ∷ 8 ∷ []) result.status →
+        W.written output.new ≡ W.written output.old }
 
     // Words, an input and streams without a fault leave want of memory alone.
-    ensures complete { IsOk (command_of (map string_bytes words.now)) → IsSomeAnd (S.left input.old) IsValidInput →
-        (Rose (S.faults input.old) (S.faults input.new) → ⊥) → (Rose (W.faults output.old) (W.faults output.new) → ⊥) →
+    ensures complete { IsOk (command_of (map string_bytes words.now)) →
+        IsSomeAnd (S.left input.old) IsValidInput →
+        (Rose (S.faults input.old) (S.faults input.new) → ⊥) →
+        (Rose (W.faults output.old) (W.faults output.new) → ⊥) →
         (result.status ≡ 0) ⊎ (result.status ≡ 7) }
 {
     let fault = match read_words(words) {
@@ -75,17 +87,26 @@ pub fn run<S: Source, W: Sink, E: Sink>(
 
 /// Reads a script, and writes the text of its run.
 fn serial<S: Source, W: Sink>(alloc: Global, input: &mut S, output: &mut W) -> Result<(), Fault>
-    ensures written { OnOk result (IfSome (S.left input.old) (WritesRun (W.written output.old) (W.written output.new))) }
+    ensures written { OnOk result
+        (IfSome (S.left input.old) (WritesRun (W.written output.old) (W.written output.new))) }
     ensures ok_read { OnOk result (IsRead (S.left input.old) (S.left input.new)) }
-    ensures bad_input { (line : ℕ) (kind : kinds.InputKind) → IsErrOf result (Fault.BadInput line kind) →
-        IfSome (S.left input.old) (IsInputFault line kind) × IsRead (S.left input.old) (S.left input.new) }
-    ensures read_fault { IsErrOf result Fault.ReadFault → Rose (S.faults input.old) (S.faults input.new) }
-    ensures too_long { IsErrOf result Fault.TooLong → TakesOver input_limit (S.left input.old) (S.left input.new) }
-    ensures write_fault { IsErrOf result Fault.WriteFault → Rose (W.faults output.old) (W.faults output.new) }
-    ensures front { IsErrOf result Fault.WriteFault → IfSome (S.left input.old) (WritesFront (W.written output.old) (W.written output.new)) }
-    ensures front_read { IsErrOf result Fault.WriteFault → IsRead (S.left input.old) (S.left input.new) }
+    ensures bad_input { (line : ℕ) (kind : kinds.InputKind) →
+        IsErrOf result (Fault.BadInput line kind) →
+        IfSome (S.left input.old) (IsInputFault line kind)
+        × IsRead (S.left input.old) (S.left input.new) }
+    ensures read_fault { IsErrOf result Fault.ReadFault →
+        Rose (S.faults input.old) (S.faults input.new) }
+    ensures too_long { IsErrOf result Fault.TooLong →
+        TakesOver input_limit (S.left input.old) (S.left input.new) }
+    ensures write_fault { IsErrOf result Fault.WriteFault →
+        Rose (W.faults output.old) (W.faults output.new) }
+    ensures front { IsErrOf result Fault.WriteFault →
+        IfSome (S.left input.old) (WritesFront (W.written output.old) (W.written output.new)) }
+    ensures front_read { IsErrOf result Fault.WriteFault →
+        IsRead (S.left input.old) (S.left input.new) }
     ensures no_usage { (word : ℕ) → IsErrOf result (Fault.Usage word) → ⊥ }
-    ensures unchanged { IfErr result (λ fault. fault ≢ Fault.WriteFault → W.written output.new ≡ W.written output.old) }
+    ensures unchanged { IfErr result (λ fault.
+        fault ≢ Fault.WriteFault → W.written output.new ≡ W.written output.old) }
 {
     let script = read_input(alloc, input)?;
     let Ok(text) = serial_text(alloc, &script) else {
@@ -99,13 +120,18 @@ fn serial<S: Source, W: Sink>(alloc: Global, input: &mut S, output: &mut W) -> R
 
 /// Reads the script that the input has left, and the error behind it.
 fn read_input<S: Source>(alloc: Global, input: &mut S) -> Result<Script, Fault>
-    ensures read { IfOk result (λ script. IfSome (S.left input.old) (λ bytes. meaning bytes ≡ Some script)) }
+    ensures read { IfOk result (λ script.
+        IfSome (S.left input.old) (λ bytes. meaning bytes ≡ Some script)) }
     ensures shape { IfOk result (λ script. IsScript script) }
     ensures whole { OnOk result (IsRead (S.left input.old) (S.left input.new)) }
-    ensures bad_input { (line : ℕ) (kind : kinds.InputKind) → IsErrOf result (Fault.BadInput line kind) →
-        IfSome (S.left input.old) (IsInputFault line kind) × IsRead (S.left input.old) (S.left input.new) }
-    ensures read_fault { IsErrOf result Fault.ReadFault → Rose (S.faults input.old) (S.faults input.new) }
-    ensures too_long { IsErrOf result Fault.TooLong → TakesOver input_limit (S.left input.old) (S.left input.new) }
+    ensures bad_input { (line : ℕ) (kind : kinds.InputKind) →
+        IsErrOf result (Fault.BadInput line kind) →
+        IfSome (S.left input.old) (IsInputFault line kind)
+        × IsRead (S.left input.old) (S.left input.new) }
+    ensures read_fault { IsErrOf result Fault.ReadFault →
+        Rose (S.faults input.old) (S.faults input.new) }
+    ensures too_long { IsErrOf result Fault.TooLong →
+        TakesOver input_limit (S.left input.old) (S.left input.new) }
     ensures no_other { (word : ℕ) → IsErrOf result (Fault.Usage word) → ⊥ }
     ensures no_write { IsErrOf result Fault.WriteFault → ⊥ }
 {
