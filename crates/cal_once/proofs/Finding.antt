@@ -1,5 +1,5 @@
 -- How a search ends.
-use Rattle.std.proofs.Common.{◌≡◌, ◌≢◌, ◌⊎◌, ℕ, ◌+◌, ◌-◌, ◌%◌, ◌<◌, ◌≤◌, Bool, false, true, cond, eqb, ◌&&◌, List, [], ◌∷◌, ◌++◌, sym, refl, ap, ◌∙◌, subst, inl, inr, ⊎_elim, arith, mod-eq_of_lt}
+use Rattle.std.proofs.Common.{◌≡◌, ℕ, ◌+◌, ◌-◌, ◌%◌, ◌<◌, ◌≤◌, false, true, List, [], ◌∷◌, ◌++◌, sym, ap, ◌∙◌, subst, ⊎_elim, arith, mod-eq_of_lt}
 use mathlib.Core.Logic.{dite}
 use native.Mathlib.Decide.{ℕ_discrete}
 use Rattle.std.proofs.lemmas.Bool.{cases_lt}
@@ -8,12 +8,12 @@ use Rattle.cal_once.specs.declared.shape.Shape.{Shape}
 use Rattle.cal_once.specs.declared.view.View.{View}
 use Rattle.cal_once.specs.declared.view.Plan.{Plan}
 use Rattle.cal_once.specs.Layout.{probe, start_in, times}
-use Rattle.cal_once.specs.Views.{Saw, Holds, HoldsOther, Knows, AllJoined, all_published, none_away, gathered, Learns, looked, read}
+use Rattle.cal_once.specs.Views.{Saw, HoldsOther, Knows, AllJoined, all_published, Learns, looked}
 use Rattle.cal_once.specs.Steps.{WasEmpty}
-use Rattle.cal_once.specs.Puts.{IsPlaced, AllHoldOthers}
+use Rattle.cal_once.specs.Puts.{AllHoldOthers}
 use Rattle.cal_once.specs.Finds.{FoundEmpty}
 use Rattle.cal_once.proofs.Seen.{seen_to_be, was_seen_from}
-use Rattle.cal_once.proofs.Learning.{learns_nothing, learns_then, learns_slot, other_later}
+use Rattle.cal_once.proofs.Learning.{learns_nothing, learns_slot, other_later}
 
 -- each place is at some distance from a home
 pub distance_to : (shape : Shape) (home place : ℕ) → home < shape.slots → place < shape.slots → (distance : ℕ) × (distance < shape.slots) × (place ≡ probe shape home distance)

@@ -1,22 +1,21 @@
 -- Steps that change the view of their own seat alone.
-use Rattle.std.proofs.Common.{◌≡◌, ◌≢◌, ◌⊎◌, ℕ, zero, suc, ◌+◌, ◌-◌, ◌*◌, ◌/◌, ◌%◌, ◌^◌, ◌<◌, ◌≤◌, Bool, true, false, cond, eqb, ◌&&◌, Option, Some, None, List, [], ◌∷◌, ◌++◌, length, get_or, set, take, drop, sym, refl, ap, ◌∙◌, subst, inl, inr, ⊎_elim, arith, length-set}
+use Rattle.std.proofs.Common.{◌≡◌, ◌≢◌, ◌⊎◌, ℕ, ◌+◌, ◌<◌, ◌≤◌, Bool, cond, Option, Some, List, ◌∷◌, length, get_or, set, sym, refl, ap, ◌∙◌, subst, inl, inr, ⊎_elim, arith, length-set}
 use mathlib.Core.Logic.{dite}
 use mathlib.Core.Option.{none, some}
 use native.Mathlib.Decide.{ℕ_discrete}
 use lib.ListN.{get_elem?}
 use lib.Seq.{set-get_or}
-use Rattle.std.proofs.lemmas.Bool.{cases_lt, eq-eqb, ne_eqb}
-use Rattle.atomic_table.specs.Table.{State, Me, step, keeps, stepped, Allows, Splits, Joins}
-use Rattle.atomic_table.proofs.Lists.{at_set, set_here, set_else}
+use Rattle.std.proofs.lemmas.Bool.{eq-eqb, ne_eqb}
+use Rattle.atomic_table.specs.Table.{State, Me, step, keeps, stepped, Allows}
+use Rattle.atomic_table.proofs.Lists.{at_set, set_here}
 use Rattle.cal_once.specs.declared.view.View.{View}
 use Rattle.cal_once.specs.declared.view.Plan.{Plan}
-use Rattle.cal_once.specs.Layout.{IsShape, IsWithin, AreApart, word_count, arena_start, size_in, start_in, slot_of, record_at, probe, times}
-use Rattle.cal_once.specs.Views.{Saw, Knows, Holds, HoldsOther, KnowsParent, IsParent, AllJoined, all_published, gathered, looked, read, drafted, offered}
+use Rattle.cal_once.specs.Layout.{IsWithin, size_in, start_in, slot_of}
+use Rattle.cal_once.specs.Views.{Saw, looked, read}
 use Rattle.cal_once.specs.Sound.{IsSound}
-use Rattle.cal_once.specs.Rule.{HasParent, HoldsAnother, IsFixed, Stands, IsLaid, Sits, Leads, Kept}
-use Rattle.cal_once.specs.Steps.{WasEmpty, Looked, Read, looks, reads}
+use Rattle.cal_once.specs.Rule.{IsLaid, Sits, Leads, Kept}
+use Rattle.cal_once.specs.Steps.{WasEmpty, Looked, looks, reads}
 use Rattle.cal_once.proofs.Seen.{at_below}
-use Rattle.cal_once.proofs.Regions.{one_region}
 use Rattle.cal_once.proofs.Sounds.{seen_slot, is_sound, was_empty}
 
 -- what is added to the words that were seen at a load of a slot

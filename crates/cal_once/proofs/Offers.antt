@@ -1,5 +1,5 @@
 -- An exchange of an empty slot for the draft.
-use Rattle.std.proofs.Common.{◌≡◌, ◌≢◌, ◌⊎◌, ℕ, zero, suc, ◌+◌, ◌-◌, ◌*◌, ◌/◌, ◌%◌, ◌^◌, ◌<◌, ◌≤◌, Bool, true, false, cond, eqb, Option, Some, None, List, [], ◌∷◌, ◌++◌, length, get_or, set, take, drop, sym, refl, ap, ◌∙◌, subst, inl, inr, ⊎_elim, arith, length-set, length-append, get_or-set_other, get_or-set_same}
+use Rattle.std.proofs.Common.{◌≡◌, ◌≢◌, ℕ, ◌+◌, ◌^◌, ◌<◌, ◌≤◌, Bool, cond, eqb, Some, List, [], ◌∷◌, ◌++◌, length, get_or, set, take, drop, sym, refl, ap, ◌∙◌, subst, inl, inr, ⊎_elim, arith, length-set, get_or-set_other, get_or-set_same}
 use mathlib.Core.Logic.{dite}
 use mathlib.Core.Option.{none, some}
 use native.Mathlib.Decide.{ℕ_discrete}
@@ -7,19 +7,18 @@ use lib.ListN.{get_elem?}
 use prog.Atomic.{either}
 use Rattle.std.proofs.lemmas.Bool.{cases_lt, eq-eqb, ne_eqb}
 use Rattle.atomic_table.specs.Table.{State, Me, step, keeps, stepped, Allows}
-use Rattle.cal_once.specs.declared.shape.Shape.{Shape}
 use Rattle.cal_once.specs.declared.view.View.{View}
 use Rattle.cal_once.specs.declared.view.Plan.{Plan}
-use Rattle.cal_once.specs.Layout.{IsShape, IsWithin, AreApart, word_count, arena_start, size_in, start_in, slot_for, slot_of, record_at, probe, times}
-use Rattle.cal_once.specs.Views.{Saw, HoldsOther, KnowsParent, placed, offered}
+use Rattle.cal_once.specs.Layout.{IsWithin, AreApart, arena_start, size_in, start_in, slot_for, slot_of, record_at, probe, times}
+use Rattle.cal_once.specs.Views.{placed, offered}
 use Rattle.cal_once.specs.Sound.{IsSound}
-use Rattle.cal_once.specs.Rule.{HasParent, HoldsAnother, IsFixed, Stands, IsLaid, Sits, Leads, Kept}
+use Rattle.cal_once.specs.Rule.{HasParent, HoldsAnother, IsFixed, Stands, IsLaid, Sits}
 use Rattle.cal_once.specs.Steps.{MayOffer, Offered, offers}
 use Rattle.cal_once.proofs.Seen.{Saw_either, at_below, placed_at, times-append}
 use Rattle.cal_once.proofs.Regions.{part_is, get_or-part, arena_inside, arena_before, size-slot_for, start-slot_for, probe_below}
-use Rattle.cal_once.proofs.Sounds.{inside, seen_slot, held_other, widened}
+use Rattle.cal_once.proofs.Sounds.{inside, seen_slot, held_other}
 use Rattle.cal_once.proofs.Moves.{Rule, sits_of, met, moved, unmoved, told, of_plan}
-use Rattle.cal_once.proofs.Stores.{KeepsRecords, record_at-set, stands_kept, unused_apart}
+use Rattle.cal_once.proofs.Stores.{KeepsRecords, record_at-set, stands_kept}
 
 -- one number's value is another
 abbrev pub changed : {A : Type 0} → (ℕ → A) → ℕ → A → ℕ → A

@@ -1,16 +1,14 @@
 -- The rule holds of a table of empty slots.
-use Rattle.std.proofs.Common.{◌≡◌, ◌≢◌, ◌⊎◌, ℕ, zero, suc, ◌+◌, ◌<◌, ◌≤◌, Option, Some, None, List, [], ◌∷◌, length, get_or, replicate, sym, refl, ap, ◌∙◌, subst, inr, arith}
+use Rattle.std.proofs.Common.{◌≡◌, ◌⊎◌, ℕ, zero, suc, ◌+◌, ◌<◌, None, List, [], ◌∷◌, get_or, replicate, refl, subst, inr, arith}
 use Rattle.std.proofs.Math.ListN.{length-replicate, get_or-replicate}
-use mathlib.Core.Logic.{dite}
-use mathlib.Core.Option.{none, some}
+use mathlib.Core.Option.{some}
 use lib.ListN.{get_elem?}
-use Rattle.std.proofs.lemmas.Bool.{cases_lt}
-use Rattle.atomic_table.specs.Table.{State, opening}
+use Rattle.atomic_table.specs.Table.{opening}
 use Rattle.cal_once.specs.declared.view.View.{View}
 use Rattle.cal_once.specs.declared.view.Plan.{Plan}
 use Rattle.cal_once.specs.Layout.{IsShape, word_count, slot_of}
 use Rattle.cal_once.specs.Views.{first_seat}
-use Rattle.cal_once.specs.Rule.{IsLaid, Sits, Leads, Kept}
+use Rattle.cal_once.specs.Rule.{Sits, Leads, Kept}
 
 module _ {S : Type 0} (IsRecord : S → List ℕ → Type 0) (home_of : ℕ → List ℕ → ℕ) (MayPublish : S → ℕ → List ℕ → Type 0) where
   pub opens : (plan : Plan S) → IsShape plan.shape → Kept IsRecord home_of MayPublish plan (opening (replicate (word_count plan.shape) 0) [] (first_seat plan))

@@ -1,16 +1,16 @@
 -- What an offered draft leaves.
-use Rattle.std.proofs.Common.{◌≡◌, ◌≢◌, ◌⊎◌, ℕ, ◌+◌, ◌-◌, ◌*◌, ◌%◌, ◌^◌, ◌<◌, ◌≤◌, Bool, false, true, cond, List, [], ◌∷◌, ◌++◌, length, get_or, sym, refl, ap, ◌∙◌, subst, inl, inr, ⊎_elim, arith}
+use Rattle.std.proofs.Common.{◌≡◌, ◌≢◌, ℕ, ◌+◌, ◌^◌, ◌<◌, ◌≤◌, Bool, cond, List, [], ◌∷◌, ◌++◌, length, get_or, sym, refl, ap, ◌∙◌, subst, inl, inr, ⊎_elim, arith}
 use Rattle.std.proofs.lemmas.Bool.{ne_eqb}
 use Rattle.cal_once.specs.declared.shape.Shape.{Shape}
 use Rattle.cal_once.specs.declared.view.View.{View}
 use Rattle.cal_once.specs.declared.view.Plan.{Plan}
-use Rattle.cal_once.specs.Layout.{IsShape, probe, arena_start, word_count, start_in, size_in, slot_for, times}
-use Rattle.cal_once.specs.Views.{Saw, Holds, HoldsOther, KnowsParent, Learns, placed, offered}
+use Rattle.cal_once.specs.Layout.{IsShape, probe, arena_start, start_in, slot_for}
+use Rattle.cal_once.specs.Views.{Saw, HoldsOther, KnowsParent, Learns, placed, offered}
 use Rattle.cal_once.specs.Steps.{MayOffer}
 use Rattle.cal_once.specs.Puts.{IsPlaced}
 use Rattle.cal_once.specs.Finds.{Publishes}
 use Rattle.cal_once.proofs.Seen.{Saw_left, Saw_right, Saw_placed}
-use Rattle.cal_once.proofs.Regions.{arena_inside, size-slot_for, start-slot_for}
+use Rattle.cal_once.proofs.Regions.{arena_inside, size-slot_for}
 use Rattle.cal_once.proofs.Learning.{other_later}
 
 -- the first unused word of an arena

@@ -1,10 +1,9 @@
 -- Regions of words, and the arenas in which they lie.
-use Rattle.std.proofs.Common.{◌≡◌, ◌≢◌, ◌⊎◌, ℕ, zero, suc, ◌+◌, ◌-◌, ◌*◌, ◌/◌, ◌%◌, ◌^◌, ◌<◌, ◌≤◌, min, List, [], ◌∷◌, ◌++◌, length, get_or, set, take, drop, sym, refl, ap, ◌∙◌, subst, inl, inr, ⊎_elim, arith, length-set, length-take, length-drop, get_or-set_other, get_or-set_same, get_or-take, get_or-drop, drop-cons, mod-lt}
-use Rattle.std.proofs.Math.Seq.{take-suc}
+use Rattle.std.proofs.Common.{◌≡◌, ℕ, zero, suc, ◌+◌, ◌*◌, ◌^◌, ◌<◌, ◌≤◌, List, [], ◌∷◌, length, get_or, take, drop, sym, refl, ap, ◌∙◌, ⊎_elim, arith, length-take, length-drop, get_or-take, get_or-drop, drop-cons, mod-lt}
 use Rattle.std.proofs.lemmas.Bool.{cases_lt}
 use Rattle.std.proofs.Math.Nat.{mul-le-mul_right, suc-mul}
 use Rattle.cal_once.specs.declared.shape.Shape.{Shape}
-use Rattle.cal_once.specs.Layout.{IsShape, IsWithin, word_count, arena_start, size_in, start_in, slot_for, slot_of, record_at, probe}
+use Rattle.cal_once.specs.Layout.{IsWithin, word_count, arena_start, size_in, start_in, slot_for, probe}
 
 -- a part of a list, word by word
 pub part_is : (words : List ℕ) (at : ℕ) (rec : List ℕ) → at + length rec ≤ length words → ((j : ℕ) → j < length rec → get_or words (at + j) 0 ≡ get_or rec j 0) → take (length rec) (drop at words) ≡ rec

@@ -1,13 +1,13 @@
 -- A seat is split off, and joined again.
-use Rattle.std.proofs.Common.{◌≡◌, ◌≢◌, ◌⊎◌, ℕ, zero, suc, ◌+◌, ◌-◌, ◌*◌, ◌<◌, ◌≤◌, Option, Some, None, List, [], ◌∷◌, ◌++◌, length, set, sym, refl, ap, ◌∙◌, subst, inl, inr, ⊎_elim, arith, length-set, length-append}
-use mathlib.Core.Option.{none, some}
+use Rattle.std.proofs.Common.{◌≡◌, ◌≢◌, ℕ, ◌+◌, ◌-◌, ◌<◌, ◌≤◌, Some, None, List, [], ◌∷◌, ◌++◌, length, set, sym, ap, ◌∙◌, subst, inl, inr, ⊎_elim, arith, length-set, length-append}
+use mathlib.Core.Option.{some}
 use lib.ListN.{get_elem?}
 use Rattle.atomic_table.specs.Table.{State, Splits, Joins}
 use Rattle.atomic_table.proofs.Lists.{at_set, at_longer, set_else}
 use Rattle.cal_once.specs.declared.view.View.{View}
 use Rattle.cal_once.specs.declared.view.Plan.{Plan}
-use Rattle.cal_once.specs.Views.{Saw, split_off, new_seat, joined, joined_with, spent}
-use Rattle.cal_once.specs.Rule.{IsLaid, Sits, Leads, Kept}
+use Rattle.cal_once.specs.Views.{split_off, new_seat, joined, joined_with, spent}
+use Rattle.cal_once.specs.Rule.{Sits, Leads}
 use Rattle.cal_once.proofs.Seen.{Saw_either, at_below, at_end, at_joined, joined_else, joined_here, length-joined}
 use Rattle.cal_once.proofs.Moves.{Rule, sits_of}
 

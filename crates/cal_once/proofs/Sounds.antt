@@ -1,16 +1,14 @@
 -- What a seat knows follows from the rule.
-use Rattle.std.proofs.Common.{◌≡◌, ◌≢◌, ◌⊎◌, ℕ, zero, suc, ◌+◌, ◌-◌, ◌*◌, ◌/◌, ◌%◌, ◌^◌, ◌<◌, ◌≤◌, Bool, true, false, Option, Some, None, List, [], ◌∷◌, ◌++◌, length, get_or, take, drop, sym, refl, ap, ◌∙◌, subst, inl, inr, ⊎_elim, arith}
+use Rattle.std.proofs.Common.{◌≡◌, ◌≢◌, ℕ, ◌+◌, ◌<◌, ◌≤◌, List, [], length, get_or, take, drop, sym, ap, ◌∙◌, subst, inl, inr, ⊎_elim, arith}
 use mathlib.Core.Logic.{dite}
-use mathlib.Core.Option.{some}
 use native.Mathlib.Decide.{ℕ_discrete}
-use lib.ListN.{get_elem?}
 use Rattle.std.proofs.lemmas.Bool.{cases_lt}
 use Rattle.cal_once.specs.declared.view.View.{View}
 use Rattle.cal_once.specs.declared.view.Plan.{Plan}
-use Rattle.cal_once.specs.Layout.{IsShape, IsWithin, AreApart, word_count, arena_start, size_in, start_in, slot_of, record_at, probe, times}
-use Rattle.cal_once.specs.Views.{Saw, Knows, Holds, HoldsOther, KnowsParent, IsParent, AllJoined, all_published, gathered}
+use Rattle.cal_once.specs.Layout.{IsWithin, AreApart, size_in, start_in, slot_of, record_at, probe, times}
+use Rattle.cal_once.specs.Views.{Saw, Knows, Holds, HoldsOther, AllJoined, all_published, gathered}
 use Rattle.cal_once.specs.Sound.{IsLawful, IsBelow, IsSound}
-use Rattle.cal_once.specs.Rule.{HasParent, HoldsAnother, IsFixed, Stands, IsLaid, Sits, Leads}
+use Rattle.cal_once.specs.Rule.{HoldsAnother, IsFixed, Stands, IsLaid, Sits, Leads}
 use Rattle.cal_once.specs.Steps.{WasEmpty}
 use Rattle.cal_once.proofs.Seen.{seen_to_be, times-append, sum_from, sum_from_none, sum_from_one, times-gathered}
 use Rattle.cal_once.proofs.Regions.{part_is, length-part, get_or-part, arena_inside, one_region}

@@ -1,5 +1,5 @@
 -- Where the words of a table lie.
-use Rattle.std.proofs.Common.{◌≡◌, ℕ, ◌+◌, ◌*◌, ◌<◌, ◌≤◌, ap, ◌∙◌, sym, arith}
+use Rattle.std.proofs.Common.{◌≡◌, ℕ, ◌+◌, ◌<◌, ap, ◌∙◌, arith}
 use Rattle.cal_once.specs.declared.shape.Shape.{Shape}
 use Rattle.cal_once.specs.declared.view.Plan.{Plan}
 use Rattle.cal_once.specs.Layout.{IsWithin, word_count, arena_start, start_in, size_in}

@@ -4,7 +4,7 @@ use Rattle.cal_once.specs.declared.found.Found.TheVariants.{Same, New, Empty, No
 use Rattle.cal_once.specs.declared.view.View.{View}
 use Rattle.cal_once.specs.declared.view.Plan.{Plan}
 use Rattle.cal_once.specs.Layout.{probe}
-use Rattle.cal_once.specs.Views.{Saw, Holds, HoldsOther, Learns}
+use Rattle.cal_once.specs.Views.{Saw, HoldsOther, Learns}
 use Rattle.cal_once.specs.Steps.{WasEmpty}
 use Rattle.cal_once.specs.Puts.{IsPlaced, AllHoldOthers}
 

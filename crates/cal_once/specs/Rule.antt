@@ -1,12 +1,12 @@
 -- The rule of write-once rows, which holds between any two steps of any seats. It speaks of the words and of what each
 -- seat knows, and says besides, for each number, how many words its seat published, and at which places.
-use Rattle.std.specs.Prelude.{◌≡◌, ◌≢◌, ◌⊎◌, ℕ, ◌+◌, ◌<◌, ◌≤◌, Option, Some, None, List, [], ◌∷◌, length, slice_index}
+use Rattle.std.specs.Prelude.{◌≡◌, ◌≢◌, ◌⊎◌, ℕ, ◌+◌, ◌<◌, ◌≤◌, Option, Some, None, List, [], length, slice_index}
 use mathlib.Core.Option.{some}
 use lib.ListN.{get_elem?}
 use Rattle.atomic_table.specs.Table.{State}
 use Rattle.cal_once.specs.declared.view.View.{View}
 use Rattle.cal_once.specs.declared.view.Plan.{Plan}
-use Rattle.cal_once.specs.Layout.{IsShape, IsWithin, AreApart, word_count, arena_start, start_in, probe, times, slot_of, record_at}
+use Rattle.cal_once.specs.Layout.{IsShape, IsWithin, AreApart, word_count, arena_start, probe, times, slot_of, record_at}
 use Rattle.cal_once.specs.Views.{Saw}
 
 -- the record's parent is the root and its depth 1, or its parent's slot is filled and its depth is one greater

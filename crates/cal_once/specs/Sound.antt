@@ -1,8 +1,8 @@
-use Rattle.std.specs.Prelude.{◌≡◌, ◌≢◌, ◌⊎◌, ℕ, ◌+◌, ◌<◌, ◌≤◌, Some, List, [], length, if◌then◌else◌}
+use Rattle.std.specs.Prelude.{◌≡◌, ◌≢◌, ◌⊎◌, ℕ, ◌+◌, ◌<◌, ◌≤◌, List, length}
 use Rattle.cal_once.specs.declared.view.View.{View}
 use Rattle.cal_once.specs.declared.view.Plan.{Plan}
 use Rattle.cal_once.specs.Layout.{IsWithin, AreApart, start_in, times}
-use Rattle.cal_once.specs.Views.{Saw, Knows, Holds, AllJoined, all_published, was_seen}
+use Rattle.cal_once.specs.Views.{Saw, Knows, Holds, AllJoined, all_published}
 
 -- a known record's parent is the root and its depth 1, or its parent's depth is one less
 abbrev pub IsBelow : {S : Type 0} → Plan S → View S → ℕ → ℕ → Type 0

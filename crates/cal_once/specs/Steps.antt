@@ -1,6 +1,6 @@
 -- What each kind of step tells its seat. What the seat knows afterwards is a function of what it knew, of the step and of
 -- the word that it met.
-use Rattle.std.specs.Prelude.{◌≡◌, ◌≢◌, ℕ, ◌+◌, ◌<◌, Bool, Some, List, length}
+use Rattle.std.specs.Prelude.{◌≡◌, ℕ, ◌+◌, ◌<◌, Bool, Some, List}
 use Rattle.atomic_table.specs.Table.{Me, Step}
 use Rattle.cal_once.specs.declared.view.View.{View}
 use Rattle.cal_once.specs.declared.view.Plan.{Plan}

@@ -4,7 +4,7 @@ ghost use Rattle.cal_once.specs.Layout.{IsShape};
 ghost use Rattle.cal_once.specs.Seats.{IsSeatOf, plan_of, view};
 ghost use Rattle.cal_once.specs.Views.{first_seat};
 
-use crate::{Put, RowSeat, Rows, Shape};
+use crate::{Put, RowSeat, Rows, Shape, known_for_good, one_place_each};
 use cal_value::{Text, Variant};
 use cal_words::{NodeId, NodeRec, NodeSort, know_node};
 use std::alloc::Global;
@@ -236,5 +236,27 @@ fn side_by_side_each_record_has_one_place(rt: HostRuntime) -> Result<(), Fail> {
             "{count} threads"
         );
     }
+    Ok(())
+}
+
+#[test]
+fn a_known_place_is_read(rt: HostRuntime) -> Result<(), Fail> {
+    let shape = Shape {
+        slots: 2,
+        homes: 1,
+        arena: 5,
+        arenas: 1,
+    };
+    let (rows, mut seat) = Rows::new(rt.alloc(), shape, NodeSort)?;
+    assert!(rt; !rows.look(&mut seat, 0));
+    let _ = put_child(&rows, &mut seat, 7, &Variant::Bool(true));
+    let is_known = rows.look(&mut seat, 0);
+    assert!(rt; is_known && !rows.look(&mut seat, 1));
+    if rows.look(&mut seat, 0) {
+        let size = rows.size(&mut seat, 0);
+        assert!(rt; size == 5 && rows.word(&mut seat, 0, 2) == 7);
+    }
+    known_for_good::<NodeSort>();
+    one_place_each::<NodeSort>();
     Ok(())
 }

@@ -1,4 +1,4 @@
-use Rattle.std.proofs.Common.{◌≡◌, ℕ, zero, suc, ◌+◌, ◌-◌, ◌*◌, ◌/◌, ◌%◌, ◌^◌, ◌<◌, ◌≤◌, Bool, true, false, cond, eqb, List, [], ◌∷◌, length, get_or, take, drop, map, sym, refl, ap, ◌∙◌, lit<, arith, get_or-drop, get_or-take}
+use Rattle.std.proofs.Common.{◌≡◌, ℕ, zero, suc, ◌+◌, ◌*◌, ◌/◌, ◌%◌, ◌^◌, ◌<◌, true, false, cond, eqb, List, [], ◌∷◌, length, get_or, take, drop, map, sym, refl, ap, ◌∙◌, lit<, arith, get_or-drop, get_or-take}
 use Rattle.std.specs.Int.{cast_signed, cast_unsigned, w128}
 use Rattle.std.specs.List.{range_with_len}
 use Rattle.std.proofs.lemmas.Int.{to_z-of_z}
@@ -9,8 +9,8 @@ use Rattle.cal_value.specs.declared.kind.Kind as kinds
 use Rattle.cal_value.specs.declared.kind.Kind.TheVariants as kind
 use Rattle.cal_value.specs.declared.variant.Variant as variants
 use Rattle.cal_value.specs.declared.variant.Variant.TheVariants as variant
-use Rattle.cal_words.specs.Records.{IsText, IsValue}
-use Rattle.cal_words.specs.Words.{byte_number, text_word, text_words, value_words, text_length, node_words}
+use Rattle.cal_words.specs.Records.{IsValue}
+use Rattle.cal_words.specs.Words.{byte_number, text_words, value_words, text_length}
 use Rattle.cal_words.proofs.Bytes.{AreBytes, AreBytes-take, AreBytes-drop, get_or-text_words}
 
 -- byte j of a word

@@ -1,4 +1,4 @@
-use Rattle.std.specs.Prelude.{ℕ, ◌+◌, ◌*◌, ◌/◌, ◌%◌, ◌^◌, List, [], ◌∷◌, ◌++◌, length, map, take, drop, if◌then◌else◌}
+use Rattle.std.specs.Prelude.{ℕ, ◌+◌, ◌*◌, ◌/◌, ◌%◌, ◌^◌, List, [], ◌∷◌, length, map, take, drop, if◌then◌else◌}
 use Rattle.std.specs.Int.{cast_unsigned, w128}
 use Rattle.std.specs.List.{range_with_len}
 use Rattle.cal_value.specs.Kinds.{kind_node}

@@ -1,4 +1,4 @@
-use Rattle.std.proofs.Common.{◌≡◌, ℕ, sym, subst}
+use Rattle.std.proofs.Common.{ℕ, subst}
 use Rattle.cal_once.specs.Views.{Holds}
 use Rattle.cal_once.proofs.laws.one_place_each.Goals as goal
 

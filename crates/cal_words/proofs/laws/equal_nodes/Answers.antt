@@ -1,4 +1,4 @@
-use Rattle.std.proofs.Common.{◌≡◌, ℕ, ◌+◌, ◌*◌, ◌^◌}
+use Rattle.std.proofs.Common.{◌≡◌, ◌+◌, ◌*◌, ◌^◌}
 use Rattle.cal_value.specs.Kinds.{kind_node}
 use Rattle.cal_value.specs.Values.{kind_of}
 use Rattle.cal_words.specs.Words.{text_length, value_words}

@@ -1,4 +1,4 @@
-use Rattle.std.proofs.Common.{◌≡◌, ap, ◌∙◌, sym, rules, arith}
+use Rattle.std.proofs.Common.{arith}
 use Rattle.std.proofs.lemmas.List.Sums.{fold_more}
 use Rattle.cal_words.specs.Homes.{mixed}
 use Rattle.cal_words.specs.Nodes.{words_of}

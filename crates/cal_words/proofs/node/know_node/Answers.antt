@@ -1,4 +1,4 @@
-use Rattle.std.proofs.Common.{refl, rules, arith}
+use Rattle.std.proofs.Common.{refl, arith}
 use Rattle.cal_words.proofs.node.know_node.Goals as goal
 
 pub returns : goal.returns

@@ -1,4 +1,4 @@
-use Rattle.std.proofs.Common.{◌≡◌, ℕ, ◌<◌, List, get_or, ◌∙◌, subst, arith}
+use Rattle.std.proofs.Common.{◌≡◌, ℕ, ◌<◌, List, get_or, ◌∙◌, subst}
 use Rattle.std.specs.Str.{IsUtf8}
 use Rattle.cal_words.proofs.value.know_text.Goals as goal
 

@@ -1,4 +1,4 @@
-use Rattle.std.proofs.Common.{sym, arith}
+use Rattle.std.proofs.Common.{arith}
 use Rattle.cal_words.proofs.Bytes.{length-text_words}
 use Rattle.cal_words.proofs.value.text_len.Goals as goal
 

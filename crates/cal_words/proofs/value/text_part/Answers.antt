@@ -1,6 +1,6 @@
-use Rattle.std.proofs.Common.{◌≡◌, ℕ, suc, ◌+◌, ◌-◌, ◌*◌, ◌/◌, ◌^◌, ◌<◌, ◌≤◌, min, List, length, get_or, take, drop, sym, ap, ◌∙◌, rules, arith}
-use Rattle.cal_words.specs.Words.{byte_number, text_word, text_words}
-use Rattle.cal_words.proofs.Bytes.{AreBytes, length-text_words, get_or-text_words, part_below, byte_number_step, byte_number_none}
+use Rattle.std.proofs.Common.{◌≡◌, ℕ, ◌+◌, ◌-◌, ◌*◌, ◌/◌, ◌^◌, ◌<◌, List, length, take, drop, sym, ap, ◌∙◌, arith}
+use Rattle.cal_words.specs.Words.{byte_number}
+use Rattle.cal_words.proofs.Bytes.{length-text_words, get_or-text_words, part_below, byte_number_step, byte_number_none}
 use Rattle.cal_words.proofs.value.text_part.Goals as goal
 use Rattle.cal_words.proofs.value.text_part.Goals.{After-as_bytes-bytes, In-loop-at, After-from}
 

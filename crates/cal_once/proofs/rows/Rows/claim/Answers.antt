@@ -1,4 +1,4 @@
-use Rattle.std.proofs.Common.{◌≡◌, ℕ, List, true, sym, ap, ◌∙◌, subst, arith}
+use Rattle.std.proofs.Common.{◌≡◌, ℕ, List, sym, ap, ◌∙◌, subst}
 use Rattle.cal_once.specs.declared.view.View.{View}
 use Rattle.cal_once.specs.Seats.{plan_of}
 use Rattle.cal_once.specs.Steps.{MayOffer}

@@ -1,4 +1,4 @@
-use Rattle.std.proofs.Common.{◌≡◌, ◌+◌, ◌%◌, ◌^◌, ◌<◌, ℕ, ap, ◌∙◌, sym, subst, refl, inl, inr, arith, below_more}
+use Rattle.std.proofs.Common.{◌+◌, ◌%◌, ◌^◌, ℕ, ap, ◌∙◌, sym, subst, refl, arith, below_more}
 use Rattle.cal_once.specs.Views.{Saw}
 use Rattle.cal_once.proofs.Learning.{learns_nothing, learns_read, learns_then, saw_read, from_same}
 use Rattle.cal_once.proofs.rows.Rows.compare.Goals as goal

@@ -1,8 +1,7 @@
-use Rattle.std.proofs.Common.{◌≡◌, ◌+◌, ◌<◌, ◌≤◌, ℕ, suc, false, length, sym, refl, ap, ◌∙◌, subst, arith}
+use Rattle.std.proofs.Common.{◌≡◌, ◌+◌, ◌<◌, ◌≤◌, ℕ, suc, false, sym, refl, ap, ◌∙◌, subst, arith}
 use Rattle.cal_once.specs.declared.view.View.{View}
 use Rattle.cal_once.specs.Layout.{times}
-use Rattle.cal_once.specs.Views.{AllJoined, Learns, all_published, known_count}
-use Rattle.cal_once.specs.Sound.{IsSound}
+use Rattle.cal_once.specs.Views.{AllJoined, all_published, known_count}
 use Rattle.cal_once.specs.Seats.{plan_of}
 use Rattle.cal_once.proofs.Seen.{sum_from, was_seen_from}
 use Rattle.cal_once.proofs.Learning.{learns_nothing, learns_then, learns_slot}

@@ -1,4 +1,4 @@
-use Rattle.std.proofs.Common.{◌≡◌, ◌<◌, ◌≤◌, ℕ}
+use Rattle.std.proofs.Common.{◌≡◌, ◌<◌, ◌≤◌}
 use Rattle.cal_once.specs.Layout.{times}
 use Rattle.cal_once.specs.Views.{AllJoined, Learns, all_published, known_count}
 use Rattle.cal_once.specs.Sound.{IsSound}

@@ -1,6 +1,5 @@
-use Rattle.std.proofs.Common.{◌≡◌, ◌+◌, ◌%◌, ◌<◌, ◌≤◌, ℕ, true, ap, ◌∙◌, sym, refl, mod-lt, arith}
+use Rattle.std.proofs.Common.{◌≡◌, ◌+◌, ◌%◌, ◌<◌, ℕ, true, ap, ◌∙◌, mod-lt, arith}
 use Rattle.cal_once.specs.Layout.{probe}
-use Rattle.cal_once.specs.Views.{HoldsOther}
 use Rattle.cal_once.specs.Seats.{plan_of}
 use Rattle.cal_once.proofs.Learning.{learns_then, learns_slot, other_later}
 use Rattle.cal_once.proofs.Finding.{empty_found, all_others, one_passed, learns_peek}

@@ -1,4 +1,4 @@
-use Rattle.std.proofs.Common.{◌≡◌, ◌+◌, ◌-◌, ◌<◌, length, ap, ◌∙◌, sym, arith}
+use Rattle.std.proofs.Common.{◌+◌, ◌-◌, length, ap, ◌∙◌, sym, arith}
 use Rattle.cal_once.proofs.Seen.{length-joined}
 use Rattle.cal_once.proofs.Seats.{allows_join}
 use Rattle.cal_once.proofs.Within.{words_are}

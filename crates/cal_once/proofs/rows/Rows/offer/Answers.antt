@@ -1,4 +1,4 @@
-use Rattle.std.proofs.Common.{◌≡◌, ◌+◌, ap, ◌∙◌, refl, arith}
+use Rattle.std.proofs.Common.{ap, ◌∙◌, refl}
 use Rattle.cal_once.proofs.Offers.{allows_offer}
 use Rattle.cal_once.proofs.Within.{words_are, slot_inside}
 use Rattle.cal_once.proofs.rows.Rows.offer.Goals as goal

@@ -1,4 +1,4 @@
-use Rattle.std.proofs.Common.{◌≡◌, ◌+◌, ◌%◌, ◌^◌, ◌<◌, ◌≤◌, ℕ, Bool, false, true, List, length, IsTrue, ap, ◌∙◌, sym, refl, subst, mod-lt, arith}
+use Rattle.std.proofs.Common.{◌≡◌, ◌+◌, ◌%◌, ◌<◌, ℕ, Bool, false, length, IsTrue, ap, ◌∙◌, sym, refl, subst, mod-lt, arith}
 use Rattle.atomic_table.specs.declared.shared.Seat.{Seat}
 use Rattle.cal_once.specs.declared.view.View.{View}
 use Rattle.cal_once.specs.Layout.{IsShape, probe, arena_start, slot_for}

@@ -1,4 +1,3 @@
-use Rattle.std.proofs.Common.{ap, ◌∙◌, arith}
 use Rattle.cal_once.proofs.Moves.{allows_read}
 use Rattle.cal_once.proofs.Within.{words_are, region_inside}
 use Rattle.cal_once.proofs.rows.Rows.read.Goals as goal

@@ -1,4 +1,4 @@
-use Rattle.std.proofs.Common.{◌≡◌, ◌+◌, ap, ◌∙◌, refl, arith}
+use Rattle.std.proofs.Common.{◌+◌, ap, ◌∙◌, arith}
 use Rattle.cal_once.specs.Seats.{plan_of}
 use Rattle.cal_once.proofs.Stores.{allows_store}
 use Rattle.cal_once.proofs.Within.{words_are, arena_word_inside}

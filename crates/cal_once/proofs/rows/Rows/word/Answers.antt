@@ -1,8 +1,8 @@
-use Rattle.std.proofs.Common.{◌≡◌, ◌+◌, ◌<◌, ◌≤◌, ◌%◌, ◌^◌, ℕ, false, sym, ap, ◌∙◌, subst, arith}
+use Rattle.std.proofs.Common.{◌+◌, ◌<◌, ℕ, false, ap, subst, arith}
 use mathlib.Core.Logic.{dite}
 use native.Mathlib.Decide.{ℕ_discrete}
 use Rattle.cal_once.specs.Layout.{size_in}
-use Rattle.cal_once.specs.Seats.{plan_of, view}
+use Rattle.cal_once.specs.Seats.{plan_of}
 use Rattle.cal_once.proofs.Seen.{seen_to_be}
 use Rattle.cal_once.proofs.Learning.{learns_slot}
 use Rattle.cal_once.proofs.rows.Rows.word.Goals as goal
