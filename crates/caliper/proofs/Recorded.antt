@@ -1,15 +1,11 @@
-use Rattle.std.proofs.Common.{◌≡◌, ℕ, ◌+◌, ◌<◌, List, [], ◌∷◌, ◌++◌, length, drop, get_or, append_assoc, append-nil, add-one, drop-cons, sym, ◌∙◌, ap}
+use Rattle.std.proofs.Common.{◌≡◌, ℕ, ◌+◌, ◌<◌, List, ◌++◌, length, drop, get_or, append_assoc, add-one, drop-cons}
 use Rattle.cal_value.specs.declared.record.Rec.{Rec}
 use Rattle.cal_script.specs.declared.script.Script.{Script}
 use Rattle.cal_script.specs.declared.script.Line.{Line}
-use Rattle.cal_write.specs.Written.{Written, StandsFor}
+use Rattle.cal_write.specs.Written.{Written}
 use Rattle.caliper.specs.Board.{Board, board_after}
 use Rattle.caliper.specs.Kept.{AreRecorded}
 use Rattle.caliper.specs.Runs.{snapshots_at, snapshots_from}
-
--- what is recorded after nothing happened
-pub recorded_nothing : (w : Written) → AreRecorded w w []
-recorded_nothing w before stands = rw append-nil stands
 
 -- what is recorded in two steps
 pub recorded_both : (w v u : Written) (xs ys : List Rec) → AreRecorded w v xs → AreRecorded v u ys → AreRecorded w u (xs ++ ys)

@@ -4,7 +4,7 @@ use Rattle.std.specs.List.{flat_map}
 use Rattle.cal_value.specs.declared.attribute.Entry.{Entry}
 use Rattle.cal_value.specs.declared.record.Rec.{Rec}
 use Rattle.cal_write.specs.Written.{Written, StandsFor}
-use Rattle.caliper.specs.Board.{Board, paths_of}
+use Rattle.caliper.specs.Board.{paths_of}
 
 -- the open values of the record that a snapshot of a board is
 abbrev pub open_values : Rec → List Entry

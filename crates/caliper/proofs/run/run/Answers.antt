@@ -1,7 +1,6 @@
-use Rattle.std.proofs.Common.{◌≡◌, Err, Some, Option, ap, sym, subst, ◌∙◌}
+use Rattle.std.proofs.Common.{Err, ap, sym, subst, ◌∙◌}
 use Rattle.cal_base.specs.Faults.{Rose}
-use Rattle.caliper.specs.Causes.{TellsOfScript, IsRead}
-use Rattle.caliper.specs.declared.fault.Fault.TheVariants.{Usage, BadInput, ReadFault, WriteFault, TooLong}
+use Rattle.caliper.specs.Causes.{TellsOfScript}
 use Rattle.caliper.proofs.Complete.{err_was, read_by_status, only_memory, valid_without_fault, valid_within, ok_not_err, status_along}
 use Rattle.caliper.proofs.run.run.Goals as goal
 use Rattle.caliper.proofs.run.run.Goals.{in-Ok-Serial, in-Err}

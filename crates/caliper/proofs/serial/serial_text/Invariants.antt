@@ -1,4 +1,4 @@
-use Rattle.std.proofs.Common.{List, take}
+use Rattle.std.proofs.Common.{take}
 use Rattle.std.specs.List.{flat_map}
 use Rattle.cal_write.specs.Written.{StandsFor}
 use Rattle.caliper.specs.Runs.{channel_records}
