@@ -1,4 +1,4 @@
-use Rattle.std.specs.Prelude.{ℕ, List, [], ◌∷◌, codes, Result, Ok, Err, if◌then◌else◌}
+use Rattle.std.specs.Prelude.{ℕ, Bool, false, ◌||◌, List, [], ◌∷◌, codes, Result, Ok, Err, if◌then◌else◌}
 use Rattle.std.specs.Str.{bytes_eq}
 use Rattle.caliper.specs.declared.words.Command.{Command}
 use Rattle.caliper.specs.declared.words.Command.TheVariants.{Serial}
@@ -13,3 +13,9 @@ alone command (word ∷ words) = Err 1
 abbrev pub command_of : List (List ℕ) → Result Command ℕ
 command_of [] = Err 0
 command_of (word ∷ words) = if bytes_eq word (codes "serial") then alone Serial words else Err 0
+
+-- A person asks about the program by `--help` or `--version`, as the only word (ours).
+abbrev pub asks_about : List (List ℕ) → Bool
+asks_about [] = false
+asks_about (word ∷ []) = bytes_eq word (codes "--help") || bytes_eq word (codes "--version")
+asks_about (word ∷ other ∷ words) = false

@@ -1,4 +1,5 @@
-ghost use Rattle.std.specs.Prelude.{◌≡◌, map, string_bytes};
+ghost use Rattle.std.specs.Prelude.{◌≡◌, is_some, map, string_bytes};
+ghost use Rattle.caliper.specs.Words.{asks_about};
 
 /// What `--help` tells.
 pub const HELP: &str = "\
@@ -21,13 +22,17 @@ proved with rattle-kit-13b logic dac8208d650f15bf
 ";
 
 /// The text for people that the only word asks for, if it asks for one.
-pub fn about(words: &[String]) -> Option<&'static str> {
-    match words {
-        [word] => match word.as_str() {
-            "--help" => Some(HELP),
-            "--version" => Some(VERSION),
-            _ => None,
-        },
-        _ => None,
+pub fn about(words: &[String]) -> Option<&'static str>
+    ensures { is_some result ≡ asks_about (map string_bytes words.now) }
+{
+    let [word] = words else {
+        return None;
+    };
+    if word.as_str() == "--help" {
+        return Some(HELP);
     }
+    if word.as_str() == "--version" {
+        return Some(VERSION);
+    }
+    None
 }
