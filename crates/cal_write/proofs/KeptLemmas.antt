@@ -1,9 +1,10 @@
-use Rattle.std.proofs.Common.{◌≡◌, ℕ, not, List, ◌∷◌, Some, Option, subst, sym, ap, ◌∙◌, slice_index_or}
-use Rattle.std.specs.HashMap.{keys, Updates}
-use Rattle.std.specs.Option.{ForSome}
+use Rattle.std.proofs.Common.{◌≡◌, ℕ, ◌<◌, not, List, ◌∷◌, Some, Option, refl, subst, sym, ap, ◌∙◌, length, slice_index_or}
+use Rattle.std.specs.HashMap.{get, keys, Updates}
+use Rattle.std.specs.Option.{ForSome, option_map}
 use Rattle.std.specs.Map.{keys_of}
-use Rattle.std.specs.List.{list_any, position_or_len}
+use Rattle.std.specs.List.{list_any, position_or_len, slice_get}
 use Rattle.std.specs.Ordering.{eq_by_cmp}
+use Rattle.std.proofs.lemmas.Option.{get_or_from_slice_get, slice_get-map, slice_get_within}
 use Rattle.indexmap.specs.IndexMap.{insert_entry}
 use Rattle.indexmap.specs.IndexSet.{insert_key}
 use Rattle.cal_value.specs.Order.{attribute_cmp, entry_cmp}
@@ -16,11 +17,23 @@ use Rattle.cal_write.specs.declared.nodes.Nodes.TheInside.{Inside}
 use Rattle.cal_write.specs.Nodes.{Node}
 use Rattle.cal_write.specs.Added.{AddsNode}
 use Rattle.cal_write.specs.Kept.{known_nodes, IsKept}
-use Rattle.cal_write.specs.Places.{node_at, KnowsAttribute}
-use Rattle.cal_write.specs.Table.{no_entry, nodes_of, AttributePlaces, EntryPlaces, KeySet, KnowsAttributes, KnowsEntries}
-use Rattle.cal_write.proofs.TableLemmas.{IsKey, kept-entry, keys-insert_entry, holds-updated, kept-key, grown-key, added-key, key_eq, key_decides, KnowsAttributes-grown, KnowsEntries-grown}
+use Rattle.cal_write.specs.Places.{node_at, IsAt, KnowsAttribute, KnowsNode}
+use Rattle.cal_write.specs.Table.{no_entry, node_of_key, nodes_of, AttributePlaces, EntryPlaces, KeySet, KnowsAttributes, KnowsEntries}
+use Rattle.cal_write.proofs.TableLemmas.{IsAt-apart, IsKey, kept-entry, keys-insert_entry, holds-updated, kept-key, grown-key, added-key, key_eq, key_decides, KnowsAttributes-grown, KnowsEntries-grown}
 
 module _ (t : Inside) (kept : IsKept t) where
+  -- the node of a known entry is at the place of its key
+  pub knows-node : (place : ℕ) (k : NodeKey) (e : Entry) (attribute : ℕ) → slice_get t.keys.keys place ≡ Some k → slice_get t.entries.entries k.entry ≡ Some (e, Some attribute)
+      → get (eq_by_cmp entry_cmp) t.entries e ≡ Some (Some attribute) → KnowsNode (known_nodes t) e (node_at (known_nodes t) k.parent) place
+  knows-node place k e attribute key entry known =
+      let within = slice_get_within t.keys.keys place k key in
+      let named = get_or_from_slice_get (keys t.entries) k.entry e no_entry (slice_get-map (λ (p : Entry × Option ℕ). p.0) t.entries.entries k.entry ∙ ap (option_map (λ (p : Entry × Option ℕ). p.0)) entry) in
+      let node = kept.table.nodes place k within ∙ ap (node_of_key (keys t.entries) (known_nodes t)) (get_or_from_slice_get t.keys.keys place k k key) ∙ ap (λ x. x ∷ node_at (known_nodes t) k.parent) named in
+      record {
+        at = subst (λ n. IsAt (known_nodes t) n place) node (IsAt-apart (known_nodes t) place kept.table.nodes_apart (subst (λ l. place < l) (sym kept.table.counted) within));
+        needed = (kept.entries e (Some attribute) known attribute refl).needed;
+      }
+
   -- an attribute that is noted
   pub kept-know : (m : AttributePlaces) (a : Attribute) (place : ℕ) → KnowsAttribute (known_nodes t) a place → Updates (eq_by_cmp attribute_cmp) t.attributes m a (Some place)
       → IsKept (record t { attributes = m })

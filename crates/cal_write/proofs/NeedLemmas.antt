@@ -11,7 +11,7 @@ use Rattle.cal_value.specs.declared.props.Props.{Props}
 use Rattle.cal_value.specs.declared.variant.Variant.TheVariants as value
 use Rattle.cal_write.specs.CanonicalText.{last_nodes}
 use Rattle.cal_write.specs.Nodes.{Node, with_node, built_in, node_of_kind, node_of_props, way_down, needed_by_attribute, needed_below, name_attribute, prop_attribute}
-use Rattle.cal_write.specs.Places.{IsAt, HasAll, KnowsAttribute, node_at, IsPlace, Grows}
+use Rattle.cal_write.specs.Places.{IsAt, HasAll, KnowsAttribute, KnowsNode, node_at, IsPlace, Grows}
 use Rattle.cal_write.specs.Steps.{Writes, WritesTo, AreAt}
 use Rattle.cal_write.specs.Written.{Written}
 use Rattle.cal_write.proofs.BuiltInLemmas.{knows_kind}
@@ -125,6 +125,13 @@ flat_map-take f xs i d h = ap (flat_map f) (take_more xs i d h) ∙ flat_map-app
 pub writes-found : (old new : Written) (a : Attribute) (n : Node) (place attribute : ℕ) → KnowsAttribute old.nodes a attribute → WritesTo old new (n ∷ []) n place → WritesTo old new (needed_by_attribute a ++ n ∷ []) n place
 writes-found old new a n place attribute known w =
     record { writes = Writes-then (needed_by_attribute a) (n ∷ []) (Writes-known old (needed_by_attribute a) known.needed) w.writes; at = w.at }
+
+-- a node that is known needs nothing
+pub writes-none : (w : Written) (e : Entry) (up : Node) (place : ℕ) → KnowsNode w.nodes e up place → WritesTo w w (needed_by_attribute e.attr ++ (e ∷ up) ∷ []) (e ∷ up) place
+writes-none w e up place known = record {
+  writes = Writes-then (needed_by_attribute e.attr) ((e ∷ up) ∷ []) (Writes-known w (needed_by_attribute e.attr) known.needed) (Writes-known w ((e ∷ up) ∷ []) (IsAt-has known.at, tt));
+  at = known.at;
+}
 
 -- and else first what its attribute needs
 pub writes-entry : {old w mid new : Written} (parent : Option ℕ) (e : Entry) (place : ℕ) → IsPlace old.nodes parent → w ≡ old → Writes w mid (needed_by_attribute e.attr)

@@ -11,7 +11,7 @@ use Rattle.cal_write.specs.Lines.{node_line_of}
 use Rattle.cal_write.specs.Places.{IsAt, HasAll, KnowsAttribute, node_at, IsPlace, Grows}
 use Rattle.cal_write.specs.Steps.{new_lines, Writes, WritesTo, AreAt}
 use Rattle.cal_write.specs.Written.{Written}
-use Rattle.cal_write.proofs.PlaceLemmas.{fold-grows, fold-known, IsAt-grown}
+use Rattle.cal_write.proofs.PlaceLemmas.{fold-grows, fold-known, IsAt-grown, with_node-grows}
 
 -- ---- lines, one list of nodes after another
 
@@ -81,6 +81,10 @@ Writes-one old text new parent e added attribute h known adds written = record {
         → (if added.fresh then node_line_of added.place attribute e.value parent else []) ≡ (if b then [] else node_line (old ++ n ∷ []) n)
     by true fresh at = rw fresh refl
     by false fresh at = rw fresh (line-at old parent e added.place attribute h known at)
+
+-- nodes grow by one that is added
+pub AddsNode-grows : {old new : List Node} {n : Node} {added : Added} → AddsNode old new n added → Grows old new
+AddsNode-grows {old} {new} {n} {added} adds = subst (Grows old) (sym adds.nodes) (with_node-grows old n)
 
 -- ---- many places
 

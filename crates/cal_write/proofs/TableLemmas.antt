@@ -307,6 +307,26 @@ IsAt-with_node ns n = by (list_any (same_node n) ns) (position-any (same_node n)
     by true found none push = record { within = found refl; first = refl }
     by false found none push = record { within = omega (arith, none refl, length-append ns (n ∷ [])); first = push refl ∙ sym (none refl) }
 
+-- where no two nodes are one, each is at its own place
+pub IsAt-apart : (ns : List Node) (place : ℕ) → Apart [] ns → place < length ns → IsAt ns (get_or ns place []) place
+IsAt-apart ns place apart h = record { within = h; first = apart at place found h (sym same) }
+  where
+    n : Node
+    n = get_or ns place []
+
+    at : ℕ
+    at = position_or_len (same_node n) ns
+
+    some : (b : Bool) → (b ≡ false → place < length ns → same_node n n ≡ false) → b ≡ true
+    some true none = refl
+    some false none = absurd (true≢false (sym ((same_decides n n).1 refl) ∙ none refl h))
+
+    found : at < length ns
+    found = position-any (same_node n) ns (some (list_any (same_node n) ns) (none-any (same_node n) ns place []))
+
+    same : n ≡ get_or ns at []
+    same = (same_decides n (get_or ns at [])).0 (position_passes (same_node n) ns [] found)
+
 module _ {es : List Entry} {ks : List NodeKey} (t : IsTable es ks (nodes_of es ks)) (k : NodeKey) (is : IsKey es (nodes_of es ks) k)
     (eq : NodeKey → NodeKey → Bool) (decides : (x y : NodeKey) → Decides (eq x y) (x ≡ y)) (ks' : List NodeKey) (put : ks' ≡ insert_key eq ks k) where
   -- a key that is inserted leaves a table, of nodes with one more
@@ -333,7 +353,7 @@ module _ {es : List Entry} {ks : List NodeKey} (t : IsTable es ks (nodes_of es k
 
 -- ---- keys, told apart
 
-option_decides : (x y : Option ℕ) → Decides (option_eq nat_eq x y) (x ≡ y)
+pub option_decides : (x y : Option ℕ) → Decides (option_eq nat_eq x y) (x ≡ y)
 option_decides None None = (λ _. refl, λ _. refl)
 option_decides None (Some y) = (λ e. absurd (true≢false (sym e)), λ e. cc)
 option_decides (Some x) None = (λ e. absurd (true≢false (sym e)), λ e. cc)

@@ -1,6 +1,7 @@
 use Rattle.std.specs.Prelude.{◌≡◌, ℕ, ◌<◌, true, List, [], ◌∷◌, ◌++◌, Option, Some, None, length, slice_index_or}
 use Rattle.std.specs.List.{list_any, position_or_len}
 use Rattle.cal_value.specs.declared.attribute.Attribute.{Attribute}
+use Rattle.cal_value.specs.declared.attribute.Entry.{Entry}
 use Rattle.cal_write.specs.Nodes.{Node, same_node, node_of_attribute, needed_by_attribute}
 
 -- a node has a place among the nodes, its first one
@@ -17,6 +18,11 @@ HasAll ns (n ∷ more) = (list_any (same_node n) ns ≡ true) × HasAll ns more
 pub record KnowsAttribute (ns : List Node) (a : Attribute) (place : ℕ) : Type 0 where
   pub at : IsAt ns (node_of_attribute a) place
   pub needed : HasAll ns (needed_by_attribute a)
+
+-- the node of an entry, below the node up, has this place, and all that its attribute needs is there
+pub record KnowsNode (ns : List Node) (e : Entry) (up : Node) (place : ℕ) : Type 0 where
+  pub at : IsAt ns (e ∷ up) place
+  pub needed : HasAll ns (needed_by_attribute e.attr)
 
 -- the node at a place, or the root at none
 abbrev pub node_at : List Node → Option ℕ → Node

@@ -15,6 +15,11 @@ pub record Writes (old new : Written) (needed : List Node) : Type 0 where
   pub nodes : new.nodes ≡ fold with_node old.nodes needed
   pub text : new.text ≡ old.text ++ new_lines old.nodes needed
 
+-- the nodes stay, and this line is put behind what was written
+pub record AddsLine (old new : Written) (line : List ℕ) : Type 0 where
+  pub nodes : new.nodes ≡ old.nodes
+  pub text : new.text ≡ old.text ++ line
+
 -- the needed nodes are there, the new ones are written, and a node has this place
 pub record WritesTo (old new : Written) (needed : List Node) (n : Node) (place : ℕ) : Type 0 where
   pub writes : Writes old new needed

@@ -5,8 +5,11 @@
 //! goes out. Nothing is said of a writer that was refused memory.
 #![tactic(auto)]
 
+mod attribute_field;
 mod built_in;
+mod hints;
 mod lines;
+mod node_writer;
 mod nodes;
 mod whole;
 mod writer;

@@ -4,6 +4,7 @@ ghost use Rattle.cal_line.specs.Escapes.{escaped};
 ghost use Rattle.cal_write.specs.CanonicalText.{field, written_value};
 ghost use Rattle.cal_write.specs.Lines.{node_line_of, record_line_of};
 
+use crate::attribute_field::AttributeField;
 use crate::nodes::Added;
 use cal_line::escape;
 use cal_value::{Entry, OutOfMemory, Text, Variant, print_value};
@@ -52,13 +53,14 @@ pub(crate) fn write_record(
     out: &mut Text,
     refs: &[usize],
     attributes: &[usize],
+    field: &mut AttributeField,
     imms: &[Entry],
 ) -> Result<(), OutOfMemory>
     ensures { OnOk result (out.new ≡ out.old ++ record_line_of refs.now attributes.now imms.now) }
 {
     out.push_str("__rec=ctx")?;
     write_ids(out, "ref", refs)?;
-    write_ids(out, "attr", attributes)?;
+    field.write(attributes, out)?;
     write_values(out, imms)?;
     out.push_str("\n")?;
     Ok(())
@@ -76,7 +78,7 @@ fn write_parent(out: &mut Text, parent: Option<usize>) -> Result<(), OutOfMemory
 }
 
 /// Appends a field of these ids, or none where there is no id.
-fn write_ids(out: &mut Text, key: &str, ids: &[usize]) -> Result<(), OutOfMemory>
+pub(crate) fn write_ids(out: &mut Text, key: &str, ids: &[usize]) -> Result<(), OutOfMemory>
     ensures { OnOk result (out.new ≡ out.old ++ field key.now (map decimal ids.now)) }
 {
     if ids.is_empty() {
@@ -85,7 +87,7 @@ fn write_ids(out: &mut Text, key: &str, ids: &[usize]) -> Result<(), OutOfMemory
     out.push_str(",")?;
     out.push_str(key)?;
     for id in ids {
-        out.push_str("=")?;
+        out.push('=')?;
         write_number(out, *id)?;
     }
     Ok(())
@@ -100,7 +102,7 @@ fn write_values(out: &mut Text, imms: &[Entry]) -> Result<(), OutOfMemory>
     }
     out.push_str(",data")?;
     for entry in imms {
-        out.push_str("=")?;
+        out.push('=')?;
         write_value(out, &entry.value)?;
     }
     Ok(())

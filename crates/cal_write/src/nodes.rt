@@ -1,12 +1,11 @@
-ghost use Rattle.std.specs.Prelude.{◌≡◌, ◌∷◌, [], IfOk, IfSome, IfNone, OnErr};
+ghost use Rattle.std.specs.Prelude.{◌≡◌, ◌∷◌, [], IfOk, IfSome, IfNone, OnErr, IsTrue};
 ghost use Rattle.std.specs.Option.{ForSome};
-ghost use Rattle.cal_write.specs.Places.{node_at, IsPlace, KnowsAttribute};
+ghost use Rattle.cal_write.specs.Places.{node_at, IsPlace, KnowsAttribute, KnowsNode};
 ghost use Rattle.cal_write.specs.Added.{AddsNode, FindsNode};
 
 use cal_value::{Attribute, Entry, OutOfMemory};
 use indexmap::{IndexMap, IndexSet};
 use std::alloc::Global;
-use std::collections::HashMap;
 use std::marker::Model;
 
 /// A node by numbers: its parent's place, and the place of its entry.
@@ -30,12 +29,19 @@ pub(crate) struct Found {
     pub(crate) attribute: usize,
 }
 
+/// An attribute whose node is there: its number among those that are known, and the place of its node.
+#[derive(Clone, Copy, Debug)]
+pub(crate) struct Known {
+    pub(crate) number: usize,
+    pub(crate) place: usize,
+}
+
 /// Nodes in the order in which they were added, each once. Each entry is kept once, beside the place of its
 /// attribute's node as soon as that is known.
 #[derive(Drop)]
 pub(crate) struct Nodes {
     entries: IndexMap<Entry, Option<usize>>,
-    attributes: HashMap<Attribute, usize>,
+    attributes: IndexMap<Attribute, usize>,
     keys: IndexSet<NodeKey>,
 }
 
@@ -59,26 +65,61 @@ impl Nodes {
     {
         Nodes {
             entries: IndexMap::new(alloc),
-            attributes: HashMap::new(alloc),
+            attributes: IndexMap::new(alloc),
             keys: IndexSet::new(alloc),
         }
     }
 
-    /// The place of an attribute's node, if the attribute is known.
-    pub(crate) fn attribute(&self, attribute: &Attribute) -> Option<usize>
-        ensures { IfSome result (λ place. KnowsAttribute self.now attribute.now place) }
+    /// An attribute that is known.
+    pub(crate) fn attribute(&self, attribute: &Attribute) -> Option<Known>
+        ensures { IfSome result (λ known. KnowsAttribute self.now attribute.now known.place) }
     {
         let _ = &self.keys;
-        self.attributes.get(attribute).copied()
+        let (number, _, place) = self.attributes.get_full(attribute)?;
+        Some(Known {
+            number,
+            place: *place,
+        })
     }
 
-    /// Notes the place of an attribute's node.
-    pub(crate) fn know(&mut self, attribute: Attribute, place: usize) -> Result<(), OutOfMemory>
+    /// The place of an attribute's node, if it is the known attribute of this number. Nothing is looked up.
+    pub(crate) fn attribute_numbered(&self, number: usize, attribute: &Attribute) -> Option<usize>
+        ensures { IfSome result (KnowsAttribute self.now attribute.now) }
+    {
+        let _ = &self.keys;
+        let (known, place) = self.attributes.get_index(number)?;
+        if *known == *attribute {
+            Some(*place)
+        } else {
+            None
+        }
+    }
+
+    /// Notes the place of an attribute's node, and gives the attribute's number.
+    pub(crate) fn know(&mut self, attribute: Attribute, place: usize) -> Result<usize, OutOfMemory>
         requires { KnowsAttribute self.old attribute place }
         ensures { self.new ≡ self.old }
     {
-        self.attributes.insert(attribute, place)?;
-        Ok(())
+        let (number, _) = self.attributes.insert_full(attribute, place)?;
+        Ok(number)
+    }
+
+    /// Whether the node of an entry, below this parent, is at this place, and the entry's attribute is known.
+    /// Nothing is looked up.
+    pub(crate) fn is_at(&self, place: usize, parent: Option<usize>, entry: &Entry) -> bool
+        ensures { IsTrue result → KnowsNode self.now entry.now (node_at self.now parent) place }
+    {
+        let _ = &self.attributes;
+        let Some(key) = self.keys.get_index(place) else {
+            return false;
+        };
+        if key.parent != parent {
+            return false;
+        }
+        match self.entries.get_index(key.entry) {
+            Some((known, Some(_))) => *known == *entry,
+            _ => false,
+        }
     }
 
     /// Adds the node of an entry whose attribute's node is known. `None` where it isn't, and then nothing is

@@ -3,12 +3,12 @@ use Rattle.std.specs.Prelude.{codes}
 use Rattle.std.proofs.lemmas.List.{length-map, take_all}
 use Rattle.std.proofs.lemmas.Bool.Decides.{nat_tests}
 use Rattle.cal_write.specs.CanonicalText.{written_value}
-use Rattle.cal_write.proofs.LineLemmas.{joined_more, field-some}
+use Rattle.cal_write.proofs.LineLemmas.{equals_sign, joined_more, field-some}
 use Rattle.cal_write.proofs.lines.write_values.Goals as goal
 
 pub loop-entry-preserved : goal.loop-entry-preserved
 loop-entry-preserved c =
-    rw (joined_more written_value c.args.imms.now c.loop-entry.entry-index c.entry-item.result c.loop-entry-test.true, ← c.entry-item.is, c.in_ok-write_value.ensures, c.in_ok-push_str-2.ensures.ok, c.loop-entry.invariant) (simp append_assoc)
+    rw (joined_more written_value c.args.imms.now c.loop-entry.entry-index c.entry-item.result c.loop-entry-test.true, ← c.entry-item.is, c.in_ok-write_value.ensures, c.in_ok-push.ensures.ok, equals_sign, c.loop-entry.invariant) (simp append_assoc)
 
 pub returns : goal.returns
 returns c =

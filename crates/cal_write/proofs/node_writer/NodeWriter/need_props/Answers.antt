@@ -4,7 +4,7 @@ use Rattle.cal_write.proofs.NeedLemmas.{writes-no_props, kind_place, writes-prop
 use Rattle.cal_write.specs.Nodes.{built_in}
 use Rattle.cal_write.specs.Places.{Grows}
 use Rattle.std.proofs.Common.{subst}
-use Rattle.cal_write.proofs.writer.Writer.need_props.Goals as goal
+use Rattle.cal_write.proofs.node_writer.NodeWriter.need_props.Goals as goal
 
 pub returns-then-props-eq0 : goal.returns-then-props-eq0
 returns-then-props-eq0 c =

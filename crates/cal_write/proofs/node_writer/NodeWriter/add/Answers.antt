@@ -1,5 +1,5 @@
 use Rattle.cal_write.proofs.StepLemmas.{Writes-added}
-use Rattle.cal_write.proofs.writer.Writer.add.Goals as goal
+use Rattle.cal_write.proofs.node_writer.NodeWriter.add.Goals as goal
 
 pub returns : goal.returns
 returns c =

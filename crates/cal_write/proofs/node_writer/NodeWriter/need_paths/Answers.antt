@@ -6,16 +6,16 @@ use Rattle.cal_write.specs.Nodes.{needed_below}
 use Rattle.cal_write.specs.Steps.{AreAt}
 use Rattle.cal_write.proofs.StepLemmas.{Writes-grows}
 use Rattle.cal_write.proofs.NeedLemmas.{writes-more, places-more}
-use Rattle.cal_write.proofs.writer.Writer.need_paths.Goals as goal
-use Rattle.cal_write.proofs.writer.Writer.need_paths.Goals.{in-Some+in_ok-push, in_default}
+use Rattle.cal_write.proofs.node_writer.NodeWriter.need_paths.Goals as goal
+use Rattle.cal_write.proofs.node_writer.NodeWriter.need_paths.Goals.{in-Some+in_ok-push, in_default}
 
 pub loop-path-preserved : goal.loop-path-preserved
 loop-path-preserved c =
     let before = c.loop-path.invariant in
     let writes = rw c.as_slice.ensures at c.in_ok-place.ensures.writes in
     let at = rw c.as_slice.ensures at c.in_ok-place.ensures.at in
-    let refs : c.loop-path.refs.items ++ option_to_list c.in_ok-place.field-0 ≡ c.match-branch-3.refs.items =
-    elim c.match-branch-3.branch [
+    let refs : c.loop-path.refs.items ++ option_to_list c.in_ok-place.field-0 ≡ c.match-branch-2.refs.items =
+    elim c.match-branch-2.branch [
       | in-Some+in_ok-push w ↦ rw (w.in-Some.is, w.refs-is, w.in_ok-push.ensures.items) refl
       | in_default w ↦ rw (w.in_default.is, w.refs-is) (append-nil c.loop-path.refs.items)
     ] in

@@ -6,11 +6,11 @@ use Rattle.cal_write.proofs.BuiltInLemmas.{knows_name}
 use Rattle.cal_write.proofs.PlaceLemmas.{KnowsAttribute-grown}
 use Rattle.cal_write.proofs.StepLemmas.{Writes-known}
 use Rattle.cal_write.proofs.NeedLemmas.{props_place, writes-attribute}
-use Rattle.cal_write.proofs.writer.Writer.need_attribute.Goals as goal
+use Rattle.cal_write.proofs.node_writer.NodeWriter.find_attribute.Goals as goal
 
 pub returns-in-Some-clause-writes : goal.returns-in-Some-clause-writes
 returns-in-Some-clause-writes c =
-    let known = subst (λ w. KnowsAttribute w.nodes c.args.attribute.now c.in-Some.place) c.self.view_is c.in-Some.ensures in
+    let known = subst (λ w. KnowsAttribute w.nodes c.args.attribute.now c.in-Some.known.place) c.self.view_is c.in-Some.ensures in
     Writes-known c.args.self.now (needed_by_attribute c.args.attribute.now) known.needed
 
 pub add-requires-clause-parent : goal.add-requires-clause-parent

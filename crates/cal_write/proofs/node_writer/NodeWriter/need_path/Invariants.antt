@@ -2,7 +2,7 @@ use Rattle.std.proofs.Common.{◌≡◌, [], take, reverse}
 use Rattle.cal_write.specs.Nodes.{needed_below}
 use Rattle.cal_write.specs.Places.{node_at, IsPlace}
 use Rattle.cal_write.specs.Steps.{Writes}
-use Rattle.cal_write.proofs.writer.Writer.need_path.Given as goal
+use Rattle.cal_write.proofs.node_writer.NodeWriter.need_path.Given as goal
 
 -- what the entries so far need is written, and the parent is the last one's node
 abbrev pub invariant-loop-entry : goal.invariant-loop-entry

@@ -3,7 +3,7 @@ use Rattle.std.specs.List.{flat_map}
 use Rattle.cal_write.specs.CanonicalText.{last_nodes}
 use Rattle.cal_write.specs.Nodes.{needed_below}
 use Rattle.cal_write.specs.Steps.{Writes, AreAt}
-use Rattle.cal_write.proofs.writer.Writer.need_paths.Given as goal
+use Rattle.cal_write.proofs.node_writer.NodeWriter.need_paths.Given as goal
 
 -- what the paths so far need is written, and the places are of the nodes that they lead to
 abbrev pub invariant-loop-path : goal.invariant-loop-path

@@ -2,7 +2,7 @@ use Rattle.cal_write.specs.Nodes.{needed_by_attribute, node_of_attribute}
 use Rattle.cal_value.specs.declared.attribute.Entry.{Entry}
 use Rattle.cal_write.proofs.StepLemmas.{Writes-grows}
 use Rattle.cal_write.proofs.NeedLemmas.{writes-more, place-more}
-use Rattle.cal_write.proofs.writer.Writer.need_attributes.Goals as goal
+use Rattle.cal_write.proofs.node_writer.NodeWriter.need_attributes.Goals as goal
 
 pub loop-entry-preserved : goal.loop-entry-preserved
 loop-entry-preserved c =

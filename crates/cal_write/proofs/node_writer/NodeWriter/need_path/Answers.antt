@@ -2,7 +2,7 @@ use Rattle.std.proofs.Common.{[], sym, ◌∙◌, arith}
 use Rattle.cal_write.specs.Places.{node_at}
 use Rattle.cal_write.proofs.PlaceLemmas.{IsAt-node}
 use Rattle.cal_write.proofs.NeedLemmas.{writes-step, at-place}
-use Rattle.cal_write.proofs.writer.Writer.need_path.Goals as goal
+use Rattle.cal_write.proofs.node_writer.NodeWriter.need_path.Goals as goal
 
 pub loop-entry-preserved : goal.loop-entry-preserved
 loop-entry-preserved c =

@@ -1,0 +1,63 @@
+ghost use Rattle.std.specs.Prelude.{◌≡◌, ◌++◌, OnOk, codes, decimal, map};
+ghost use Rattle.cal_write.specs.CanonicalText.{field};
+
+use crate::lines::write_ids;
+use cal_value::{OutOfMemory, Text};
+use std::alloc::Global;
+use std::marker::Model;
+use std::mem;
+
+/// The field of the ids of the immediates' attributes, as it was written last. Most records have the attributes
+/// of the one before, and then the field is copied and not written anew.
+#[derive(Drop)]
+pub(crate) struct AttributeField {
+    ids: Vec<usize>,
+    text: Text,
+}
+
+impl Model for AttributeField {
+    ghost use Rattle.std.specs.Prelude.{◌≡◌, ℕ, List, codes, decimal, map};
+    ghost use Rattle.cal_write.specs.CanonicalText.{field};
+
+    ghost Value = { List ℕ };
+
+    ghost view = { λ kept. kept.ids.items };
+
+    ghost invariant = { λ kept. kept.text ≡ field (codes "attr") (map decimal kept.ids.items) };
+}
+
+impl AttributeField {
+    /// The field of no id, which is no text.
+    pub(crate) fn new(alloc: Global) -> AttributeField {
+        AttributeField {
+            ids: Vec::new(alloc),
+            text: Text::new(alloc),
+        }
+    }
+
+    /// Appends the field of these ids.
+    pub(crate) fn write(&mut self, ids: &[usize], out: &mut Text) -> Result<(), OutOfMemory>
+        ensures { OnOk result (out.new ≡ out.old ++ field (codes "attr") (map decimal ids.now)) }
+    {
+        if self.ids.as_slice() != ids {
+            self.rewrite(out.allocator(), ids)?;
+        }
+        out.push_str(self.text.as_str())
+    }
+
+    /// Keeps the field of these ids, in the room of the one before. After an `Err` it is that of no id.
+    fn rewrite(&mut self, alloc: Global, ids: &[usize]) -> Result<(), OutOfMemory>
+        ensures { OnOk result (self.new ≡ ids.now) }
+    {
+        let AttributeField {
+            ids: mut kept,
+            mut text,
+        } = mem::replace(self, AttributeField::new(alloc));
+        kept.clear();
+        kept.extend_from_slice(ids)?;
+        text.truncate(0);
+        write_ids(&mut text, "attr", ids)?;
+        *self = AttributeField { ids: kept, text };
+        Ok(())
+    }
+}

@@ -1,0 +1,241 @@
+ghost use Rattle.std.specs.Prelude.{◌≡◌, [], ◌∷◌, ◌++◌, map, option_to_list, IfOk, OnOk};
+ghost use Rattle.std.specs.List.{flat_map};
+ghost use Rattle.cal_write.specs.CanonicalText.{last_nodes};
+ghost use Rattle.cal_write.specs.Lines.{record_line_of};
+ghost use Rattle.cal_write.specs.Nodes.{built_in, needed_below, needed_by_attribute, node_of_attribute, node_of_props, way_down};
+ghost use Rattle.cal_write.specs.Places.{node_at, IsPlace, KnowsAttribute};
+ghost use Rattle.cal_write.specs.Steps.{AddsLine, AreAt, Writes, WritesTo};
+
+use crate::attribute_field::AttributeField;
+use crate::built_in::{NAME, PROP, built_in_nodes, name_entry, props_entry};
+use crate::hints::Hints;
+use crate::lines::{write_added, write_record};
+use crate::nodes::{Known, Nodes};
+use cal_value::{Attribute, Entry, Kind, OutOfMemory, Props, Seq, Text, TryCopy};
+use std::alloc::Global;
+use std::marker::Model;
+
+/// Writes the nodes that records need, each where it is first needed, and the lines of records. What the record
+/// before needed is tried first, so that most nodes are found without a look-up.
+#[derive(Drop)]
+pub(crate) struct NodeWriter {
+    alloc: Global,
+    nodes: Nodes,
+    node_hints: Hints,
+    attribute_hints: Hints,
+    text: Text,
+}
+
+impl Model for NodeWriter {
+    ghost use Rattle.cal_write.specs.Nodes.{built_in};
+    ghost use Rattle.cal_write.specs.Places.{Grows};
+    ghost use Rattle.cal_write.specs.Written.{Written};
+
+    ghost Value = { Written };
+
+    ghost view = { λ w. record { nodes = w.nodes; text = w.text } };
+
+    ghost invariant = { λ w. Grows built_in w.nodes };
+}
+
+impl NodeWriter {
+    /// The built-in nodes, and no text.
+    pub(crate) fn new(alloc: Global) -> Result<NodeWriter, OutOfMemory>
+        ensures { IfOk result (λ writer. writer ≡ record { nodes = built_in; text = [] }) }
+    {
+        Ok(NodeWriter {
+            alloc,
+            nodes: built_in_nodes(alloc)?,
+            node_hints: Hints::new(alloc),
+            attribute_hints: Hints::new(alloc),
+            text: Text::new(alloc),
+        })
+    }
+
+    pub(crate) fn text(&self) -> &str
+        ensures { result.now ≡ self.now.text }
+    {
+        self.text.as_str()
+    }
+
+    pub(crate) fn into_text(self) -> Text
+        ensures { result ≡ self.text }
+    {
+        self.text
+    }
+
+    /// Writes the line of a record, by the ids of its paths' last nodes and of its immediates' attributes.
+    pub(crate) fn write_record(
+        &mut self,
+        refs: &[usize],
+        attributes: &[usize],
+        field: &mut AttributeField,
+        imms: &[Entry],
+    ) -> Result<(), OutOfMemory>
+        ensures { OnOk result
+            (AddsLine self.old self.new (record_line_of refs.now attributes.now imms.now)) }
+    {
+        let _ = &self.nodes;
+        write_record(&mut self.text, refs, attributes, field, imms)
+    }
+
+    /// Writes what a record's paths need, and puts the places of the nodes that they lead to into `refs`.
+    pub(crate) fn need_paths(
+        &mut self,
+        paths: &[Seq<Entry>],
+        refs: &mut Vec<usize>,
+    ) -> Result<(), OutOfMemory>
+        ensures writes { OnOk result
+            (Writes self.old self.new (flat_map (needed_below []) paths.now)) }
+        ensures at { OnOk result
+            (AreAt self.new.nodes (flat_map last_nodes paths.now) refs.new.items) }
+    {
+        self.node_hints.restart();
+        refs.clear();
+        for path in paths {
+            if let Some(place) = self.need_path(path.as_slice())? {
+                refs.push(place)?;
+            }
+        }
+        Ok(())
+    }
+
+    /// Writes what a record's immediates need, and puts the places of their attributes' nodes into `places`.
+    pub(crate) fn need_attributes(
+        &mut self,
+        imms: &[Entry],
+        places: &mut Vec<usize>,
+    ) -> Result<(), OutOfMemory>
+        ensures writes { OnOk result
+            (Writes self.old self.new (flat_map (λ e. needed_by_attribute e.attr) imms.now)) }
+        ensures at { OnOk result
+            (AreAt self.new.nodes (map (λ e. node_of_attribute e.attr) imms.now) places.new.items) }
+    {
+        self.attribute_hints.restart();
+        places.clear();
+        for entry in imms {
+            let place = self.need_attribute(&entry.attr)?;
+            places.push(place)?;
+        }
+        Ok(())
+    }
+
+    /// Writes what a path needs, and gives the place of the node that it leads to, if it has an entry.
+    fn need_path(&mut self, path: &[Entry]) -> Result<Option<usize>, OutOfMemory>
+        ensures writes { OnOk result (Writes self.old self.new (needed_below [] path.now)) }
+        ensures at { IfOk result (λ o.
+            AreAt self.new.nodes (last_nodes path.now) (option_to_list o)) }
+    {
+        let mut parent = None;
+        for entry in path {
+            let place = self.need_entry(parent, entry)?;
+            parent = Some(place);
+        }
+        Ok(parent)
+    }
+
+    /// Writes what an entry below a node needs, and gives the place of its node.
+    fn need_entry(&mut self, parent: Option<usize>, entry: &Entry) -> Result<usize, OutOfMemory>
+        requires { IsPlace self.old.nodes parent }
+        ensures { let n = entry.now ∷ node_at self.old.nodes parent in
+            IfOk result (WritesTo self.old self.new (needed_by_attribute entry.now.attr ++ n ∷ []) n) }
+    {
+        if let Some(place) = self.node_hints.next()
+            && self.nodes.is_at(place, parent, entry)
+        {
+            return Ok(place);
+        }
+        let place = self.find_entry(parent, entry)?;
+        self.node_hints.note(place)?;
+        Ok(place)
+    }
+
+    /// Writes what an attribute needs, and gives the place of its node.
+    fn need_attribute(&mut self, attribute: &Attribute) -> Result<usize, OutOfMemory>
+        ensures writes { OnOk result (Writes self.old self.new (needed_by_attribute attribute.now)) }
+        ensures at { IfOk result (KnowsAttribute self.new.nodes attribute.now) }
+    {
+        if let Some(number) = self.attribute_hints.next()
+            && let Some(place) = self.nodes.attribute_numbered(number, attribute)
+        {
+            return Ok(place);
+        }
+        let known = self.find_attribute(attribute)?;
+        self.attribute_hints.note(known.number)?;
+        Ok(known.place)
+    }
+
+    /// The same as `need_entry`, by a look-up. It stays out of line: where a hint was right, its locals cost
+    /// nothing.
+    #[inline(never)]
+    fn find_entry(&mut self, parent: Option<usize>, entry: &Entry) -> Result<usize, OutOfMemory>
+        requires { IsPlace self.old.nodes parent }
+        ensures { let n = entry.now ∷ node_at self.old.nodes parent in
+            IfOk result (WritesTo self.old self.new (needed_by_attribute entry.now.attr ++ n ∷ []) n) }
+    {
+        if let Some(found) = self.nodes.add_known(parent, entry)? {
+            write_added(
+                &mut self.text,
+                found.added,
+                found.attribute,
+                &entry.value,
+                parent,
+            )?;
+            return Ok(found.added.place);
+        }
+        let attribute = self.find_attribute(&entry.attr)?;
+        let place = self.add(parent, entry, attribute.place)?;
+        Ok(place)
+    }
+
+    /// The same as `need_attribute`, by a look-up, and out of line too.
+    #[inline(never)]
+    fn find_attribute(&mut self, attribute: &Attribute) -> Result<Known, OutOfMemory>
+        ensures writes { OnOk result (Writes self.old self.new (needed_by_attribute attribute.now)) }
+        ensures at { IfOk result (λ known.
+            KnowsAttribute self.new.nodes attribute.now known.place) }
+    {
+        if let Some(known) = self.nodes.attribute(attribute) {
+            return Ok(known);
+        }
+        let parent = self.need_props(attribute.kind, attribute.props)?;
+        let entry = name_entry(self.alloc, attribute.name.as_str())?;
+        let place = self.add(Some(parent), &entry, NAME)?;
+        let number = self.nodes.know(attribute.copy(self.alloc)?, place)?;
+        Ok(Known { number, place })
+    }
+
+    /// Writes the node of an attribute's properties, and gives its place, or that of the attribute's kind.
+    fn need_props(&mut self, kind: Kind, props: Props) -> Result<usize, OutOfMemory>
+        ensures { let n = node_of_props props kind in
+            IfOk result (WritesTo self.old self.new (way_down n) n) }
+    {
+        let alloc = self.alloc;
+        let parent = kind.node() as usize;
+        if props.0 == 0 {
+            return Ok(parent);
+        }
+        let entry = props_entry(alloc, props)?;
+        let place = self.add(Some(parent), &entry, PROP)?;
+        Ok(place)
+    }
+
+    /// Writes the node of an entry whose attribute's node is at this place, and gives its place.
+    fn add(
+        &mut self,
+        parent: Option<usize>,
+        entry: &Entry,
+        attribute: usize,
+    ) -> Result<usize, OutOfMemory>
+        requires parent { IsPlace self.old.nodes parent }
+        requires attribute { KnowsAttribute self.old.nodes entry.now.attr attribute }
+        ensures { let n = entry.now ∷ node_at self.old.nodes parent in
+            IfOk result (WritesTo self.old self.new (n ∷ []) n) }
+    {
+        let added = self
+            .nodes
+            .add(parent, entry.copy(self.alloc)?, Some(attribute))?;
+        write_added(&mut self.text, added, attribute, &entry.value, parent)?;
+        Ok(added.place)
+    }
+}
