@@ -4,55 +4,38 @@
 //! safe.
 #![tactic(auto)]
 
+mod copying;
+mod records;
+
 use anyhow::Result;
-use cal_value::{Attribute, Entry, Kind, Props, Rec, Seq, Text, Variant};
+use cal_value::{Rec, Text};
 use cal_write::Writer;
 use std::alloc::Global;
 use std::rt::{Clock, Env};
-use std::time::Instant;
+use std::time::{Duration, Instant};
 
 const RECORDS: u64 = 1_000_000;
 
-const FRAMES: [&str; 4] = ["main", "steps", "solve", "exchange"];
+const ROUNDS: u32 = 5;
 
-const RESULTS: [&str; 10] = [
-    "count",
-    "sum#time.duration.ns",
-    "min#time.duration.ns",
-    "max#time.duration.ns",
-    "sum#bytes",
-    "min#bytes",
-    "max#bytes",
-    "sum#iterations",
-    "min#iterations",
-    "max#iterations",
-];
-
-fn entry(alloc: Global, name: &str, kind: Kind, props: u32, value: Variant) -> Result<Entry> {
-    Ok(Entry {
-        attr: Attribute {
-            name: Text::from_str(alloc, name)?,
-            kind,
-            props: Props(props),
-        },
-        value,
-    })
+/// The times of a round, or the shortest of some rounds.
+#[derive(Clone, Copy)]
+struct Times {
+    written: Duration,
+    characters: Duration,
+    bytes: Duration,
+    buffer: Duration,
 }
 
-fn record(alloc: Global, variant: usize) -> Result<Rec> {
-    let mut path = Seq::new(alloc);
-    for name in FRAMES {
-        let value = Variant::Text(Text::from_str(alloc, name)?);
-        path.push(entry(alloc, "function", Kind::Str, 276, value)?)?;
+impl Times {
+    fn least(self, other: Times) -> Times {
+        Times {
+            written: self.written.min(other.written),
+            characters: self.characters.min(other.characters),
+            bytes: self.bytes.min(other.bytes),
+            buffer: self.buffer.min(other.buffer),
+        }
     }
-    let mut imms = Seq::new(alloc);
-    for (place, name) in RESULTS.iter().enumerate() {
-        let number = 1000i128 * place as i128 + variant as i128;
-        imms.push(entry(alloc, name, Kind::Int, 65, Variant::Int(number))?)?;
-    }
-    let mut paths = Seq::new(alloc);
-    paths.push(path)?;
-    Ok(Rec { paths, imms })
 }
 
 fn write_all(alloc: Global, one: &Rec, other: &Rec) -> Result<Text> {
@@ -63,27 +46,57 @@ fn write_all(alloc: Global, one: &Rec, other: &Rec) -> Result<Text> {
     Ok(writer.into_text())
 }
 
-fn copy_all(alloc: Global, text: &str) -> Result<String> {
-    let mut out = String::new(alloc);
-    for character in text.chars() {
-        match character {
-            '\\' => out.push('\\')?,
-            _ => (),
-        }
-        out.push(character)?;
-    }
-    Ok(out)
+/// One round: the text is written, and copied in three ways.
+fn measure<R: Clock>(rt: &R, alloc: Global, one: &Rec, other: &Rec) -> Result<(Times, usize)> {
+    let start = Instant::now(rt)?;
+    let text = write_all(alloc, one, other)?;
+    let written = start.elapsed(rt)?;
+    let start = Instant::now(rt)?;
+    let by_characters = copying::by_characters(alloc, text.as_str())?;
+    let characters = start.elapsed(rt)?;
+    let start = Instant::now(rt)?;
+    let by_bytes = copying::by_bytes(alloc, text.as_str())?;
+    let bytes = start.elapsed(rt)?;
+    let start = Instant::now(rt)?;
+    let through_a_buffer = copying::through_a_buffer(alloc, text.as_str())?;
+    let buffer = start.elapsed(rt)?;
+    let times = Times {
+        written,
+        characters,
+        bytes,
+        buffer,
+    };
+    let copied = by_characters
+        .len()
+        .min(by_bytes.len())
+        .min(through_a_buffer);
+    Ok((times, copied))
 }
 
-fn copy_bytes(alloc: Global, text: &str) -> Result<Vec<u8>> {
-    let mut out = Vec::new(alloc);
-    for byte in text.as_bytes() {
-        if *byte == b'\\' {
-            out.push(b'\\')?;
-        }
-        out.push(*byte)?;
+/// Prints the shortest times of some rounds, for records that come in turn.
+fn report<R: Clock + Print>(
+    rt: &R,
+    alloc: Global,
+    what: &str,
+    one: &Rec,
+    other: &Rec,
+) -> Result<()> {
+    let (mut best, length) = measure(rt, alloc, one, other)?;
+    for _round in 1..ROUNDS {
+        let (times, _length) = measure(rt, alloc, one, other)?;
+        best = best.least(times);
     }
-    Ok(out)
+    let Times {
+        written,
+        characters,
+        bytes,
+        buffer,
+    } = best;
+    println!(rt; "{what}: {length} bytes written in {written:?}")?;
+    println!(rt;
+        "    copied by characters in {characters:?}, by bytes in {bytes:?}, by bytes through a buffer in {buffer:?}"
+    )?;
+    Ok(())
 }
 
 fn main(rt: HostRuntime) -> Result<()> {
@@ -91,22 +104,9 @@ fn main(rt: HostRuntime) -> Result<()> {
         return Ok(());
     }
     let alloc = rt.alloc();
-    let one = record(alloc, 1)?;
-    let other = record(alloc, 2)?;
-    let start = Instant::now(&rt)?;
-    let text = write_all(alloc, &one, &other)?;
-    let written = start.elapsed(&rt)?;
-    let start = Instant::now(&rt)?;
-    let copy = copy_all(alloc, text.as_str())?;
-    let copied = start.elapsed(&rt)?;
-    let start = Instant::now(&rt)?;
-    let bytes = copy_bytes(alloc, text.as_str())?;
-    let pushed = start.elapsed(&rt)?;
-    let length = text.len();
-    let copy_length = copy.len();
-    let bytes_length = bytes.len();
-    println!(rt;
-        "{length} bytes written in {written:?}, {copy_length} copied by characters in {copied:?}, {bytes_length} by bytes in {pushed:?}"
-    )?;
-    Ok(())
+    let one = records::record(alloc, &records::SOLVING, 1)?;
+    let next = records::record(alloc, &records::SOLVING, 2)?;
+    let other = records::record(alloc, &records::WRITING, 2)?;
+    report(&rt, alloc, "the same attributes", &one, &next)?;
+    report(&rt, alloc, "attributes in turn", &one, &other)
 }

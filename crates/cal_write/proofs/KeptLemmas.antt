@@ -1,4 +1,4 @@
-use Rattle.std.proofs.Common.{◌≡◌, ℕ, ◌<◌, not, List, ◌∷◌, Some, Option, refl, subst, sym, ap, ◌∙◌, length, slice_index_or}
+use Rattle.std.proofs.Common.{◌≡◌, ℕ, ◌<◌, not, List, ◌∷◌, Some, Option, refl, subst, sym, ap, ◌∙◌, slice_index_or}
 use Rattle.std.specs.HashMap.{get, keys, Updates}
 use Rattle.std.specs.Option.{ForSome, option_map}
 use Rattle.std.specs.Map.{keys_of}

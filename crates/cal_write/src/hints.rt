@@ -1,41 +1,48 @@
 use cal_value::OutOfMemory;
 use std::alloc::Global;
 
-/// What the steps of the last record found, to be tried first at the same steps of the next one. A hint may be
+/// What was found behind each node or attribute the last time, to be tried first the next time. A hint may be
 /// wrong: nothing rests on it but speed.
 #[derive(Drop)]
 pub(crate) struct Hints {
-    found: Vec<usize>,
-    step: usize,
+    // at 0 what a record began with, and at n + 1 what came behind n
+    after: Vec<usize>,
+    at: usize,
 }
 
 impl Hints {
     /// No hint yet.
     pub(crate) fn new(alloc: Global) -> Hints {
         Hints {
-            found: Vec::new(alloc),
-            step: 0,
+            after: Vec::new(alloc),
+            at: 0,
         }
     }
 
     /// Begins the next record.
     pub(crate) fn restart(&mut self) {
-        self.step = 0;
+        self.at = 0;
     }
 
-    /// Goes to the next step, and gives what was found at it last, if anything was.
-    pub(crate) fn next(&mut self) -> Option<usize> {
-        let hint = self.found.get(self.step).copied();
-        self.step = self.step.saturating_add(1);
-        hint
+    /// What may come next.
+    pub(crate) fn next(&self) -> Option<usize> {
+        self.after.get(self.at).copied()
     }
 
-    /// Notes what was found at the step, where its hint was wrong or missing.
+    /// Goes on behind what was found.
+    pub(crate) fn pass(&mut self, found: usize) {
+        self.at = found.saturating_add(1);
+    }
+
+    /// Notes what was found where the hint was wrong or missing, and goes on behind it.
     pub(crate) fn note(&mut self, found: usize) -> Result<(), OutOfMemory> {
-        match self.found.get_mut(self.step.saturating_sub(1)) {
-            Some(hint) => *hint = found,
-            None => self.found.push(found)?,
+        if self.after.len() <= self.at {
+            self.after.resize(self.at.saturating_add(1), 0)?;
         }
+        if let Some(hint) = self.after.get_mut(self.at) {
+            *hint = found;
+        }
+        self.pass(found);
         Ok(())
     }
 }

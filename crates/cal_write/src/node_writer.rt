@@ -15,6 +15,9 @@ use cal_value::{Attribute, Entry, Kind, OutOfMemory, Props, Seq, Text, TryCopy};
 use std::alloc::Global;
 use std::marker::Model;
 
+// properties without a node of their own
+const NO_PROPS: u32 = 0;
+
 /// Writes the nodes that records need, each where it is first needed, and the lines of records. What the record
 /// before needed is tried first, so that most nodes are found without a look-up.
 #[derive(Drop)]
@@ -143,6 +146,7 @@ impl NodeWriter {
         if let Some(place) = self.node_hints.next()
             && self.nodes.is_at(place, parent, entry)
         {
+            self.node_hints.pass(place);
             return Ok(place);
         }
         let place = self.find_entry(parent, entry)?;
@@ -158,6 +162,7 @@ impl NodeWriter {
         if let Some(number) = self.attribute_hints.next()
             && let Some(place) = self.nodes.attribute_numbered(number, attribute)
         {
+            self.attribute_hints.pass(number);
             return Ok(place);
         }
         let known = self.find_attribute(attribute)?;
@@ -212,7 +217,7 @@ impl NodeWriter {
     {
         let alloc = self.alloc;
         let parent = kind.node() as usize;
-        if props.0 == 0 {
+        if props.0 == NO_PROPS {
             return Ok(parent);
         }
         let entry = props_entry(alloc, props)?;

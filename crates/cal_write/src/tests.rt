@@ -156,6 +156,33 @@ fn mixed(alloc: Global) -> Result<Records, OutOfMemory> {
     Ok(Records { rows })
 }
 
+/// Paths that part, and attributes that change and come back.
+fn in_turn(alloc: Global) -> Result<Records, OutOfMemory> {
+    let solve = [function("main"), function("solve")];
+    let write = [function("main"), function("write")];
+    let mut rows = Seq::new(alloc);
+    add(
+        alloc,
+        &mut rows,
+        &solve,
+        &[result("count", 1), result("sum#x", 2)],
+    )?;
+    add(
+        alloc,
+        &mut rows,
+        &write,
+        &[result("writes", 3), result("sum#x", 4)],
+    )?;
+    add(
+        alloc,
+        &mut rows,
+        &solve,
+        &[result("count", 5), result("sum#x", 6)],
+    )?;
+    add(alloc, &mut rows, &solve, &[result("sum#x", 7)])?;
+    Ok(Records { rows })
+}
+
 const MAIN: &str = "\
 __rec=node,id=12,attr=10,data=276,parent=3
 __rec=node,id=13,attr=8,data=function,parent=12
@@ -227,6 +254,22 @@ __rec=ctx,attr=15=12,data=v=w
 __rec=ctx
 ";
 
+const IN_TURN: &str = "\
+__rec=node,id=12,attr=10,data=276,parent=3
+__rec=node,id=13,attr=8,data=function,parent=12
+__rec=node,id=14,attr=13,data=main
+__rec=node,id=15,attr=13,data=solve,parent=14
+__rec=node,id=16,attr=10,data=65,parent=1
+__rec=node,id=17,attr=8,data=count,parent=16
+__rec=node,id=18,attr=8,data=sum#x,parent=16
+__rec=ctx,ref=15,attr=17=18,data=1=2
+__rec=node,id=19,attr=13,data=write,parent=14
+__rec=node,id=20,attr=8,data=writes,parent=16
+__rec=ctx,ref=19,attr=20=18,data=3=4
+__rec=ctx,ref=15,attr=17=18,data=5=6
+__rec=ctx,ref=15,attr=18,data=7
+";
+
 #[test]
 fn canonical_texts(rt: HostRuntime) -> Result<(), Fail> {
     let alloc = rt.alloc();
@@ -237,6 +280,7 @@ fn canonical_texts(rt: HostRuntime) -> Result<(), Fail> {
         (limits(alloc)?, LIMITS),
         (events(alloc)?, EVENTS),
         (mixed(alloc)?, MIXED),
+        (in_turn(alloc)?, IN_TURN),
     ];
     for (records, expected) in table {
         assert_eq!(rt; cali_text(alloc, &records)?.as_str(), expected);

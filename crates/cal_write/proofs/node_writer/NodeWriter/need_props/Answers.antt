@@ -6,10 +6,10 @@ use Rattle.cal_write.specs.Places.{Grows}
 use Rattle.std.proofs.Common.{subst}
 use Rattle.cal_write.proofs.node_writer.NodeWriter.need_props.Goals as goal
 
-pub returns-then-props-eq0 : goal.returns-then-props-eq0
-returns-then-props-eq0 c =
+pub returns-then-props-eq-NO_PROPS : goal.returns-then-props-eq-NO_PROPS
+returns-then-props-eq-NO_PROPS c =
     let begins = subst (λ w. Grows built_in w.nodes) c.self.view_is c.self.invariant in
-    writes-no_props c.args.self.now begins c.args.props c.args.kind c.node-parent.result c.node-parent.ensures c.if-props-eq0.true
+    writes-no_props c.args.self.now begins c.args.props c.args.kind c.node-parent.result c.node-parent.ensures c.if-props-eq-NO_PROPS.true
 
 pub add-requires-clause-parent : goal.add-requires-clause-parent
 add-requires-clause-parent c =
@@ -25,4 +25,4 @@ pub returns : goal.returns
 returns c =
     let begins = subst (λ w. Grows built_in w.nodes) c.self.view_is c.self.invariant in
     writes-props c.args.self.now c.add.new.self begins c.args.props c.args.kind _ c.in_ok-place.place
-    (kind_place c.args.self.now.nodes begins c.args.kind c.node-parent.result c.node-parent.ensures).1 c.if-props-eq0.false c.in_ok-entry.entry c.in_ok-entry.ensures c.in_ok-place.ensures
+    (kind_place c.args.self.now.nodes begins c.args.kind c.node-parent.result c.node-parent.ensures).1 c.if-props-eq-NO_PROPS.false c.in_ok-entry.entry c.in_ok-entry.ensures c.in_ok-place.ensures
