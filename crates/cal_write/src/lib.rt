@@ -5,7 +5,7 @@
 //! goes out. Nothing is said of a writer that was refused memory.
 #![tactic(auto)]
 
-mod attribute_field;
+mod attribute_fields;
 mod built_in;
 mod hints;
 mod lines;

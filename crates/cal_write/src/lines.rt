@@ -4,7 +4,7 @@ ghost use Rattle.cal_line.specs.Escapes.{escaped};
 ghost use Rattle.cal_write.specs.CanonicalText.{field, written_value};
 ghost use Rattle.cal_write.specs.Lines.{node_line_of, record_line_of};
 
-use crate::attribute_field::AttributeField;
+use crate::attribute_fields::AttributeFields;
 use crate::nodes::Added;
 use cal_line::escape;
 use cal_value::{Entry, OutOfMemory, Text, Variant, print_value};
@@ -53,14 +53,14 @@ pub(crate) fn write_record(
     out: &mut Text,
     refs: &[usize],
     attributes: &[usize],
-    field: &mut AttributeField,
+    fields: &mut AttributeFields,
     imms: &[Entry],
 ) -> Result<(), OutOfMemory>
     ensures { OnOk result (out.new ≡ out.old ++ record_line_of refs.now attributes.now imms.now) }
 {
     out.push_str("__rec=ctx")?;
     write_ids(out, "ref", refs)?;
-    field.write(attributes, out)?;
+    fields.write(attributes, out)?;
     write_values(out, imms)?;
     out.push_str("\n")?;
     Ok(())

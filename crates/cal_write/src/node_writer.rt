@@ -6,7 +6,7 @@ ghost use Rattle.cal_write.specs.Nodes.{built_in, needed_below, needed_by_attrib
 ghost use Rattle.cal_write.specs.Places.{node_at, IsPlace, KnowsAttribute};
 ghost use Rattle.cal_write.specs.Steps.{AddsLine, AreAt, Writes, WritesTo};
 
-use crate::attribute_field::AttributeField;
+use crate::attribute_fields::AttributeFields;
 use crate::built_in::{NAME, PROP, built_in_nodes, name_entry, props_entry};
 use crate::hints::Hints;
 use crate::lines::{write_added, write_record};
@@ -72,14 +72,14 @@ impl NodeWriter {
         &mut self,
         refs: &[usize],
         attributes: &[usize],
-        field: &mut AttributeField,
+        fields: &mut AttributeFields,
         imms: &[Entry],
     ) -> Result<(), OutOfMemory>
         ensures { OnOk result
             (AddsLine self.old self.new (record_line_of refs.now attributes.now imms.now)) }
     {
         let _ = &self.nodes;
-        write_record(&mut self.text, refs, attributes, field, imms)
+        write_record(&mut self.text, refs, attributes, fields, imms)
     }
 
     /// Writes what a record's paths need, and puts the places of the nodes that they lead to into `refs`.

@@ -2,7 +2,7 @@ ghost use Rattle.std.specs.Prelude.{◌≡◌, List, [], ◌∷◌, ◌++◌, If
 ghost use Rattle.cal_value.specs.declared.record.Rec.{Rec};
 ghost use Rattle.cal_write.specs.Written.{StandsFor};
 
-use crate::attribute_field::AttributeField;
+use crate::attribute_fields::AttributeFields;
 use crate::node_writer::NodeWriter;
 use cal_value::{OutOfMemory, Rec, Text};
 use std::alloc::Global;
@@ -14,7 +14,7 @@ pub struct Writer {
     nodes: NodeWriter,
     refs: Vec<usize>,
     attributes: Vec<usize>,
-    field: AttributeField,
+    fields: AttributeFields,
 }
 
 impl Model for Writer {
@@ -34,7 +34,7 @@ impl Writer {
             nodes: NodeWriter::new(alloc)?,
             refs: Vec::new(alloc),
             attributes: Vec::new(alloc),
-            field: AttributeField::new(alloc),
+            fields: AttributeFields::new(alloc)?,
         })
     }
 
@@ -51,7 +51,7 @@ impl Writer {
         self.nodes.write_record(
             self.refs.as_slice(),
             self.attributes.as_slice(),
-            &mut self.field,
+            &mut self.fields,
             imms,
         )?;
         Ok(())

@@ -7,10 +7,41 @@ use std::alloc::Global;
 use std::marker::Model;
 use std::mem;
 
-/// The field of the ids of the immediates' attributes, as it was written last. Most records have the attributes
-/// of the one before, and then the field is copied and not written anew.
+// how many fields are kept: an event's begin, end and set have attributes of their own, and come in turn
+const KEPT: usize = 16;
+
+/// The fields of the ids of immediates' attributes that were written last, each in a slot by its first id. Most
+/// records have the attributes of one shortly before, and then the field is copied and not written anew.
 #[derive(Drop)]
-pub(crate) struct AttributeField {
+pub(crate) struct AttributeFields {
+    slots: Vec<AttributeField>,
+}
+
+impl AttributeFields {
+    /// No field yet.
+    pub(crate) fn new(alloc: Global) -> Result<AttributeFields, OutOfMemory> {
+        let mut slots = Vec::with_capacity(alloc, KEPT)?;
+        for _slot in 0..KEPT {
+            slots.push(AttributeField::new(alloc))?;
+        }
+        Ok(AttributeFields { slots })
+    }
+
+    /// Appends the field of these ids.
+    pub(crate) fn write(&mut self, ids: &[usize], out: &mut Text) -> Result<(), OutOfMemory>
+        ensures { OnOk result (out.new ≡ out.old ++ field (codes "attr") (map decimal ids.now)) }
+    {
+        let first = ids.first().copied().unwrap_or(0);
+        match self.slots.get_mut(first % KEPT) {
+            Some(kept) => kept.write(ids, out),
+            None => write_ids(out, "attr", ids),
+        }
+    }
+}
+
+/// A field of ids, as it was written last.
+#[derive(Drop)]
+struct AttributeField {
     ids: Vec<usize>,
     text: Text,
 }
@@ -28,7 +59,7 @@ impl Model for AttributeField {
 
 impl AttributeField {
     /// The field of no id, which is no text.
-    pub(crate) fn new(alloc: Global) -> AttributeField {
+    fn new(alloc: Global) -> AttributeField {
         AttributeField {
             ids: Vec::new(alloc),
             text: Text::new(alloc),
@@ -36,7 +67,7 @@ impl AttributeField {
     }
 
     /// Appends the field of these ids.
-    pub(crate) fn write(&mut self, ids: &[usize], out: &mut Text) -> Result<(), OutOfMemory>
+    fn write(&mut self, ids: &[usize], out: &mut Text) -> Result<(), OutOfMemory>
         ensures { OnOk result (out.new ≡ out.old ++ field (codes "attr") (map decimal ids.now)) }
     {
         if self.ids.as_slice() != ids {
