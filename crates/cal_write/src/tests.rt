@@ -141,6 +141,18 @@ fn events(alloc: Global) -> Result<Records, OutOfMemory> {
     Ok(Records { rows })
 }
 
+/// Attributes of three kinds with the same properties.
+fn kinds(alloc: Global) -> Result<Records, OutOfMemory> {
+    let imms = [
+        event("event.begin#function", "main"),
+        nanoseconds("time.duration.ns", 0),
+        result("count", 1),
+    ];
+    let mut rows = Seq::new(alloc);
+    add(alloc, &mut rows, &[], &imms)?;
+    Ok(Records { rows })
+}
+
 /// An attribute without properties, one of the same name with some, a path twice, an escape, and nothing.
 fn mixed(alloc: Global) -> Result<Records, OutOfMemory> {
     let plain = Said("x", Kind::Str, 0, Shown::Text("a,b=c\\d\ne"));
@@ -243,6 +255,16 @@ __rec=node,id=20,attr=8,data=time.inclusive.duration.ns,parent=14
 __rec=ctx,ref=18,attr=19=15=20,data=main=5=5
 ";
 
+const KINDS: &str = "\
+__rec=node,id=12,attr=10,data=65,parent=3
+__rec=node,id=13,attr=8,data=event.begin#function,parent=12
+__rec=node,id=14,attr=10,data=65,parent=2
+__rec=node,id=15,attr=8,data=time.duration.ns,parent=14
+__rec=node,id=16,attr=10,data=65,parent=1
+__rec=node,id=17,attr=8,data=count,parent=16
+__rec=ctx,attr=13=15=17,data=main=0=1
+";
+
 const MIXED: &str = "\
 __rec=node,id=12,attr=8,data=x,parent=3
 __rec=node,id=13,attr=12,data=a\\,b\\=c\\\\d\\ne
@@ -279,6 +301,7 @@ fn canonical_texts(rt: HostRuntime) -> Result<(), Fail> {
         (phases(alloc)?, PHASES),
         (limits(alloc)?, LIMITS),
         (events(alloc)?, EVENTS),
+        (kinds(alloc)?, KINDS),
         (mixed(alloc)?, MIXED),
         (in_turn(alloc)?, IN_TURN),
     ];

@@ -2,6 +2,7 @@ use crate::{Fault, Outcome, put_fault, run};
 use cal_base::{MemSink, MemSource};
 use cal_value::Seq;
 use std::alloc::Global;
+use std::process::Abort;
 use std::test::Fail;
 
 const FIRST: &str = "\
@@ -18,6 +19,48 @@ __rec=node,id=12,attr=10,data=276,parent=3
 __rec=node,id=13,attr=8,data=function,parent=12
 __rec=node,id=14,attr=13,data=main
 __rec=ctx,ref=14
+";
+
+const ESCAPES: &str = "\
+attribute function string 276
+channel t trace
+thread
+begin function a,b=c\\\\d\\ne
+snapshot
+end function
+";
+
+const ESCAPES_TEXT: &str = "\
+__rec=node,id=12,attr=10,data=276,parent=3
+__rec=node,id=13,attr=8,data=function,parent=12
+__rec=node,id=14,attr=13,data=a\\,b\\=c\\\\d\\ne
+__rec=ctx,ref=14
+";
+
+const NESTED: &str = "\
+attribute a string 276
+channel t trace
+thread
+begin a x
+begin a y
+snapshot
+end a
+begin a y
+snapshot
+end a
+begin a x
+snapshot
+";
+
+const NESTED_TEXT: &str = "\
+__rec=node,id=12,attr=10,data=276,parent=3
+__rec=node,id=13,attr=8,data=a,parent=12
+__rec=node,id=14,attr=13,data=x
+__rec=node,id=15,attr=13,data=y,parent=14
+__rec=ctx,ref=15
+__rec=ctx,ref=15
+__rec=node,id=16,attr=13,data=x,parent=14
+__rec=ctx,ref=16
 ";
 
 /// What a call left.
@@ -65,142 +108,159 @@ fn one(alloc: Global, number: u64) -> Result<Seq<u64>, Fail> {
     Ok(Seq::from_vec(vec![in alloc; number]?))
 }
 
-#[test]
-fn answers_the_rows(rt: HostRuntime) -> Result<(), Fail> {
+/// A call with these words over a script, and what it leaves.
+#[derive(Clone, Copy)]
+struct Row {
+    words: &'static [&'static str],
+    script: &'static str,
+    text: &'static str,
+    told: &'static str,
+    status: u8,
+}
+
+/// A row of `serial` that writes a text.
+fn written(script: &'static str, text: &'static str) -> Row {
+    Row {
+        words: &["serial"],
+        script,
+        text,
+        told: "",
+        status: 0,
+    }
+}
+
+/// A row that is refused.
+fn refused(
+    words: &'static [&'static str],
+    script: &'static str,
+    told: &'static str,
+    status: u8,
+) -> Row {
+    Row {
+        words,
+        script,
+        text: "",
+        told,
+        status,
+    }
+}
+
+/// Asserts that the calls of these rows leave what the rows say.
+fn assert_rows(rt: &(impl Abort + AllocGlobal), rows: &[Row]) -> Result<(), Fail> {
     let alloc = rt.alloc();
-    let serial: &[&str] = &["serial"];
-    let rows: [(&[&str], &str, &str, &str, u8); 13] = [
-        (serial, FIRST, FIRST_TEXT, "", 0),
-        (serial, "attribute function string 276\n", "", "", 0),
-        (serial, "", "", "", 0),
-        (
-            serial,
-            "channel t trace\n",
-            "",
-            "caliper: line 1: NotYet\n",
-            3,
-        ),
-        (
-            serial,
-            "\n# a comment\nattribute count string 276\n",
-            "",
-            "caliper: line 3: NotYet\n",
-            3,
-        ),
-        (
-            serial,
-            "attribute a string 276\nchannel t trace\nthread\nend a\nend b\n",
-            "",
-            "caliper: line 4: NotYet\n",
-            3,
-        ),
-        (
-            serial,
-            "attribute a string 276\nchannel t trace\nthread\nsnapshot",
-            "__rec=ctx\n",
-            "",
-            0,
-        ),
-        (
-            serial,
-            "attribute function string 276\nchannel t trace\nthread\nbegin function a,b=c\\\\d\\ne\nsnapshot\nend function\n",
-            "__rec=node,id=12,attr=10,data=276,parent=3\n__rec=node,id=13,attr=8,data=function,parent=12\n__rec=node,id=14,attr=13,data=a\\,b\\=c\\\\d\\ne\n__rec=ctx,ref=14\n",
-            "",
-            0,
-        ),
-        (
-            serial,
-            "attribute a string 276\nchannel t trace\nthread\nbegin a x\nbegin a y\nsnapshot\nend a\nbegin a y\nsnapshot\nend a\nbegin a x\nsnapshot\n",
-            "__rec=node,id=12,attr=10,data=276,parent=3\n__rec=node,id=13,attr=8,data=a,parent=12\n__rec=node,id=14,attr=13,data=x\n__rec=node,id=15,attr=13,data=y,parent=14\n__rec=ctx,ref=15\n__rec=ctx,ref=15\n__rec=node,id=16,attr=13,data=x,parent=14\n__rec=ctx,ref=16\n",
-            "",
-            0,
-        ),
-        (&[], FIRST, "", "caliper: usage: word 1\n", 2),
-        (&["replay"], FIRST, "", "caliper: usage: word 1\n", 2),
-        (&["--help"], FIRST, "", "caliper: usage: word 1\n", 2),
-        (
-            &["serial", "--clock=script"],
-            "channel",
-            "",
-            "caliper: usage: word 2\n",
-            2,
-        ),
-    ];
-    for (place, (words, script, text, told, status)) in rows.iter().enumerate() {
+    for (place, row) in rows.iter().enumerate() {
         let ran = call(
             alloc,
-            words,
-            script,
+            row.words,
+            row.script,
             Seq::new(alloc),
             sink(alloc, 1000)?,
             sink(alloc, 100)?,
         )?;
         assert_eq!(rt;
             ran.output.bytes(),
-            text.as_bytes(),
+            row.text.as_bytes(),
             "the output of row {place}"
         );
         assert_eq!(rt;
             ran.errors.bytes(),
-            told.as_bytes(),
+            row.told.as_bytes(),
             "what is told in row {place}"
         );
-        assert_eq!(rt; ran.outcome.status, *status, "the status of row {place}");
+        assert_eq!(rt; ran.outcome.status, row.status, "the status of row {place}");
     }
     Ok(())
 }
 
 #[test]
-fn faults_of_the_outside_are_told(rt: HostRuntime) -> Result<(), Fail> {
+fn scripts_are_written(rt: HostRuntime) -> Result<(), Fail> {
+    let rows = [
+        written(FIRST, FIRST_TEXT),
+        written("attribute function string 276\n", ""),
+        written("", ""),
+        written(
+            "attribute a string 276\nchannel t trace\nthread\nsnapshot",
+            "__rec=ctx\n",
+        ),
+        written(ESCAPES, ESCAPES_TEXT),
+        written(NESTED, NESTED_TEXT),
+    ];
+    assert_rows(&rt, &rows)
+}
+
+#[test]
+fn faults_are_told(rt: HostRuntime) -> Result<(), Fail> {
+    let serial = &["serial"];
+    let first = "caliper: usage: word 1\n";
+    let rows = [
+        refused(serial, "channel t trace\n", "caliper: line 1: NotYet\n", 3),
+        refused(
+            serial,
+            "\n# a comment\nattribute count string 276\n",
+            "caliper: line 3: NotYet\n",
+            3,
+        ),
+        refused(
+            serial,
+            "attribute a string 276\nchannel t trace\nthread\nend a\nend b\n",
+            "caliper: line 4: NotYet\n",
+            3,
+        ),
+        refused(&[], FIRST, first, 2),
+        refused(&["replay"], FIRST, first, 2),
+        refused(&["--help"], FIRST, first, 2),
+        refused(
+            &["serial", "--clock=script"],
+            "channel",
+            "caliper: usage: word 2\n",
+            2,
+        ),
+    ];
+    assert_rows(&rt, &rows)
+}
+
+/// A call over the first script, whose reads of these numbers fail.
+fn call_with_reads(alloc: Global, reads: Seq<u64>, output: MemSink) -> Result<Ran, Fail> {
+    call(alloc, &["serial"], FIRST, reads, output, sink(alloc, 100)?)
+}
+
+#[test]
+fn a_failed_read_is_told(rt: HostRuntime) -> Result<(), Fail> {
     let alloc = rt.alloc();
     for read in 1..4u64 {
-        let ran = call(
-            alloc,
-            &["serial"],
-            FIRST,
-            one(alloc, read)?,
-            sink(alloc, 1000)?,
-            sink(alloc, 100)?,
-        )?;
+        let ran = call_with_reads(alloc, one(alloc, read)?, sink(alloc, 1000)?)?;
         // the script comes with the first read, and its end with the second
         let status = if read < 3 { 5 } else { 0 };
         assert_eq!(rt; ran.outcome.status, status, "read {read}");
         assert_eq!(rt; ran.output.bytes().is_empty(), read < 3, "read {read}");
     }
+    Ok(())
+}
+
+#[test]
+fn a_failed_write_is_told(rt: HostRuntime) -> Result<(), Fail> {
+    let alloc = rt.alloc();
     let text = FIRST_TEXT.as_bytes();
     for put in 1..3u64 {
         let output = MemSink::new(alloc, 1000, one(alloc, put)?)?;
-        let ran = call(
-            alloc,
-            &["serial"],
-            FIRST,
-            Seq::new(alloc),
-            output,
-            sink(alloc, 100)?,
-        )?;
-        assert_eq!(rt;
-            ran.outcome.status,
-            if put == 1 { 6 } else { 0 },
-            "put {put}"
-        );
+        let ran = call_with_reads(alloc, Seq::new(alloc), output)?;
+        let status = if put == 1 { 6 } else { 0 };
+        assert_eq!(rt; ran.outcome.status, status, "put {put}");
         assert!(rt; text.starts_with(ran.output.bytes()), "put {put}");
     }
+    Ok(())
+}
+
+#[test]
+fn a_sink_without_room_keeps_a_front(rt: HostRuntime) -> Result<(), Fail> {
+    let alloc = rt.alloc();
+    let text = FIRST_TEXT.as_bytes();
+    let told = b"caliper: write failed\n".as_slice();
     for room in 0..text.len() {
-        let ran = call(
-            alloc,
-            &["serial"],
-            FIRST,
-            Seq::new(alloc),
-            sink(alloc, room as u64)?,
-            sink(alloc, 100)?,
-        )?;
+        let ran = call_with_reads(alloc, Seq::new(alloc), sink(alloc, room as u64)?)?;
         assert_eq!(rt; ran.outcome.fault, Some(Fault::WriteFault), "room {room}");
         assert_eq!(rt; ran.output.bytes(), &text[..room], "room {room}");
-        assert_eq!(rt;
-            ran.errors.bytes(),
-            b"caliper: write failed\n".as_slice(),
-            "room {room}"
-        );
+        assert_eq!(rt; ran.errors.bytes(), told, "room {room}");
     }
     Ok(())
 }
