@@ -1,4 +1,4 @@
-ghost use Rattle.std.specs.Prelude.{◌≡◌, ◌++◌, OnOk, codes, decimal, map};
+ghost use Rattle.std.specs.Prelude.{◌≡◌, [], ◌++◌, OnOk, OnErr, codes, decimal, map};
 ghost use Rattle.cal_write.specs.CanonicalText.{field};
 
 use crate::lines::write_ids;
@@ -59,7 +59,9 @@ impl Model for AttributeField {
 
 impl AttributeField {
     /// The field of no id, which is no text.
-    fn new(alloc: Global) -> AttributeField {
+    fn new(alloc: Global) -> AttributeField
+        ensures { result ≡ [] }
+    {
         AttributeField {
             ids: Vec::new(alloc),
             text: Text::new(alloc),
@@ -78,7 +80,8 @@ impl AttributeField {
 
     /// Keeps the field of these ids, in the room of the one before. After an `Err` it is that of no id.
     fn rewrite(&mut self, alloc: Global, ids: &[usize]) -> Result<(), OutOfMemory>
-        ensures { OnOk result (self.new ≡ ids.now) }
+        ensures ok { OnOk result (self.new ≡ ids.now) }
+        ensures err { OnErr result (self.new ≡ []) }
     {
         let AttributeField {
             ids: mut kept,
