@@ -9,6 +9,7 @@ mod attribute_fields;
 mod built_in;
 mod hints;
 mod lines;
+mod needs;
 mod node_writer;
 mod nodes;
 mod whole;

@@ -1,17 +1,15 @@
-ghost use Rattle.std.specs.Prelude.{◌≡◌, [], ◌∷◌, ◌++◌, map, option_to_list, IfOk, OnOk};
-ghost use Rattle.std.specs.List.{flat_map};
-ghost use Rattle.cal_write.specs.CanonicalText.{last_nodes};
+ghost use Rattle.std.specs.Prelude.{◌≡◌, [], ◌∷◌, ◌++◌, IfOk, OnOk};
 ghost use Rattle.cal_write.specs.Lines.{record_line_of};
-ghost use Rattle.cal_write.specs.Nodes.{built_in, needed_below, needed_by_attribute, node_of_attribute, node_of_props, way_down};
+ghost use Rattle.cal_write.specs.Nodes.{built_in, needed_by_attribute, node_of_props, way_down};
 ghost use Rattle.cal_write.specs.Places.{node_at, IsPlace, KnowsAttribute};
-ghost use Rattle.cal_write.specs.Steps.{AddsLine, AreAt, Writes, WritesTo};
+ghost use Rattle.cal_write.specs.Steps.{AddsLine, Writes, WritesTo};
 
 use crate::attribute_fields::AttributeFields;
 use crate::built_in::{NAME, PROP, built_in_nodes, name_entry, props_entry};
 use crate::hints::Hints;
 use crate::lines::{write_added, write_record};
 use crate::nodes::{Known, Nodes};
-use cal_value::{Attribute, Entry, Kind, OutOfMemory, Props, Seq, Text, TryCopy};
+use cal_value::{Attribute, Entry, Kind, OutOfMemory, Props, Text, TryCopy};
 use std::alloc::Global;
 use std::marker::Model;
 
@@ -23,9 +21,9 @@ const NO_PROPS: u32 = 0;
 #[derive(Drop)]
 pub(crate) struct NodeWriter {
     alloc: Global,
-    nodes: Nodes,
-    node_hints: Hints,
-    attribute_hints: Hints,
+    pub(crate) nodes: Nodes,
+    pub(crate) node_hints: Hints,
+    pub(crate) attribute_hints: Hints,
     text: Text,
 }
 
@@ -82,98 +80,15 @@ impl NodeWriter {
         write_record(&mut self.text, refs, attributes, fields, imms)
     }
 
-    /// Writes what a record's paths need, and puts the places of the nodes that they lead to into `refs`.
-    pub(crate) fn need_paths(
-        &mut self,
-        paths: &[Seq<Entry>],
-        refs: &mut Vec<usize>,
-    ) -> Result<(), OutOfMemory>
-        ensures writes { OnOk result
-            (Writes self.old self.new (flat_map (needed_below []) paths.now)) }
-        ensures at { OnOk result
-            (AreAt self.new.nodes (flat_map last_nodes paths.now) refs.new.items) }
-    {
-        self.node_hints.restart();
-        refs.clear();
-        for path in paths {
-            if let Some(place) = self.need_path(path.as_slice())? {
-                refs.push(place)?;
-            }
-        }
-        Ok(())
-    }
-
-    /// Writes what a record's immediates need, and puts the places of their attributes' nodes into `places`.
-    pub(crate) fn need_attributes(
-        &mut self,
-        imms: &[Entry],
-        places: &mut Vec<usize>,
-    ) -> Result<(), OutOfMemory>
-        ensures writes { OnOk result
-            (Writes self.old self.new (flat_map (λ e. needed_by_attribute e.attr) imms.now)) }
-        ensures at { OnOk result
-            (AreAt self.new.nodes (map (λ e. node_of_attribute e.attr) imms.now) places.new.items) }
-    {
-        self.attribute_hints.restart();
-        places.clear();
-        for entry in imms {
-            let place = self.need_attribute(&entry.attr)?;
-            places.push(place)?;
-        }
-        Ok(())
-    }
-
-    /// Writes what a path needs, and gives the place of the node that it leads to, if it has an entry.
-    fn need_path(&mut self, path: &[Entry]) -> Result<Option<usize>, OutOfMemory>
-        ensures writes { OnOk result (Writes self.old self.new (needed_below [] path.now)) }
-        ensures at { IfOk result (λ o.
-            AreAt self.new.nodes (last_nodes path.now) (option_to_list o)) }
-    {
-        let mut parent = None;
-        for entry in path {
-            let place = self.need_entry(parent, entry)?;
-            parent = Some(place);
-        }
-        Ok(parent)
-    }
-
-    /// Writes what an entry below a node needs, and gives the place of its node.
-    fn need_entry(&mut self, parent: Option<usize>, entry: &Entry) -> Result<usize, OutOfMemory>
-        requires { IsPlace self.old.nodes parent }
-        ensures { let n = entry.now ∷ node_at self.old.nodes parent in
-            IfOk result (WritesTo self.old self.new (needed_by_attribute entry.now.attr ++ n ∷ []) n) }
-    {
-        if let Some(place) = self.node_hints.next()
-            && self.nodes.is_at(place, parent, entry)
-        {
-            self.node_hints.pass(place);
-            return Ok(place);
-        }
-        let place = self.find_entry(parent, entry)?;
-        self.node_hints.note(place)?;
-        Ok(place)
-    }
-
-    /// Writes what an attribute needs, and gives the place of its node.
-    fn need_attribute(&mut self, attribute: &Attribute) -> Result<usize, OutOfMemory>
-        ensures writes { OnOk result (Writes self.old self.new (needed_by_attribute attribute.now)) }
-        ensures at { IfOk result (KnowsAttribute self.new.nodes attribute.now) }
-    {
-        if let Some(number) = self.attribute_hints.next()
-            && let Some(place) = self.nodes.attribute_numbered(number, attribute)
-        {
-            self.attribute_hints.pass(number);
-            return Ok(place);
-        }
-        let known = self.find_attribute(attribute)?;
-        self.attribute_hints.note(known.number)?;
-        Ok(known.place)
-    }
-
-    /// The same as `need_entry`, by a look-up. It stays out of line: where a hint was right, its locals cost
-    /// nothing.
+    /// Looks the node of an entry below a node up, and gives its place. What isn't there is written: first what the
+    /// entry's attribute needs, and then the node. It stays out of line, so that its locals cost nothing where a
+    /// hint was right.
     #[inline(never)]
-    fn find_entry(&mut self, parent: Option<usize>, entry: &Entry) -> Result<usize, OutOfMemory>
+    pub(crate) fn find_entry(
+        &mut self,
+        parent: Option<usize>,
+        entry: &Entry,
+    ) -> Result<usize, OutOfMemory>
         requires { IsPlace self.old.nodes parent }
         ensures { let n = entry.now ∷ node_at self.old.nodes parent in
             IfOk result (WritesTo self.old self.new (needed_by_attribute entry.now.attr ++ n ∷ []) n) }
@@ -193,9 +108,10 @@ impl NodeWriter {
         Ok(place)
     }
 
-    /// The same as `need_attribute`, by a look-up, and out of line too.
+    /// Looks the node of an attribute up, and gives the attribute's number and the place. What isn't there is
+    /// written. It stays out of line too.
     #[inline(never)]
-    fn find_attribute(&mut self, attribute: &Attribute) -> Result<Known, OutOfMemory>
+    pub(crate) fn find_attribute(&mut self, attribute: &Attribute) -> Result<Known, OutOfMemory>
         ensures writes { OnOk result (Writes self.old self.new (needed_by_attribute attribute.now)) }
         ensures at { IfOk result (λ known.
             KnowsAttribute self.new.nodes attribute.now known.place) }
