@@ -1,9 +1,9 @@
-use Rattle.std.proofs.Common.{◌≡◌, ℕ, zero, suc, ◌+◌, ◌<◌, List, get_or, map, take, Some, refl, arith}
+use Rattle.std.proofs.Common.{◌≡◌, ℕ, zero, suc, ◌+◌, ◌<◌, List, get_or, map, take, refl, arith}
 use Rattle.cal_value.specs.Kinds.{kind_node}
 use Rattle.cal_value.specs.declared.kind.Kind as kinds
 use Rattle.cal_value.specs.declared.kind.Kind.TheVariants as kind
 use Rattle.cal_write.specs.Nodes.{Node, with_node, node_of_kind, node_of_attribute, first_kinds, built_in, name_attribute, type_attribute, prop_attribute}
-use Rattle.cal_write.specs.Places.{IsAt, KnowsAttribute, IsPlace}
+use Rattle.cal_write.specs.Places.{IsAt, KnowsAttribute}
 
 -- the kinds that come first are put one after another
 pub kinds_step : (i : ℕ) → i < 8 → with_node (map node_of_kind (take i first_kinds)) (node_of_kind (get_or first_kinds i kind.Usr)) ≡ map node_of_kind (take (i + 1) first_kinds)
@@ -30,15 +30,6 @@ with_prop = with_node with_type (node_of_attribute prop_attribute)
 pub built_in-laid : with_node with_prop (node_of_kind kind.Ptr) ≡ built_in
 unfolding built_in
 built_in-laid = refl
-
-pub below_string : IsPlace (map node_of_kind first_kinds) (Some 3)
-below_string = (record { within = omega arith; first = refl }, omega arith)
-
-pub below_type : IsPlace with_name (Some 7)
-below_type = (record { within = omega arith; first = refl }, omega arith)
-
-pub below_int : IsPlace with_type (Some 1)
-below_int = (record { within = omega arith; first = refl }, omega arith)
 
 pub knows_name : KnowsAttribute built_in name_attribute 8
 unfolding built_in

@@ -1,7 +1,7 @@
-use Rattle.std.proofs.Common.{◌≡◌, ◌≢◌, ℕ, ◌+◌, ◌<◌, Bool, true, false, List, [], ◌∷◌, ◌++◌, length, get_or, take, map, reverse, cond, pos, Option, Some, None, option_to_list, refl, sym, ap, ◌∙◌, subst, arith, fold, eqb, append_assoc}
+use Rattle.std.proofs.Common.{◌≡◌, ◌≢◌, ℕ, ◌+◌, ◌<◌, Bool, true, false, List, [], ◌∷◌, ◌++◌, length, get_or, take, map, reverse, cond, pos, Option, Some, refl, sym, ap, ◌∙◌, subst, arith, fold, eqb, append_assoc}
 use Rattle.std.specs.List.{flat_map}
 use Rattle.std.proofs.lemmas.Bool.Decides.{nat_tests}
-use Rattle.std.proofs.lemmas.List.{append-nil, take_more, map_more, reverse-append, length-append}
+use Rattle.std.proofs.lemmas.List.{append-nil, take_more, map_more, reverse-append}
 use Rattle.std.proofs.lemmas.List.Concat.{flat_map-append}
 use Rattle.cal_value.specs.Kinds.{kind_node}
 use Rattle.cal_value.specs.declared.attribute.Attribute.{Attribute}
@@ -9,7 +9,6 @@ use Rattle.cal_value.specs.declared.attribute.Entry.{Entry}
 use Rattle.cal_value.specs.declared.kind.Kind as kinds
 use Rattle.cal_value.specs.declared.props.Props.{Props}
 use Rattle.cal_value.specs.declared.variant.Variant.TheVariants as value
-use Rattle.cal_write.specs.CanonicalText.{last_nodes}
 use Rattle.cal_write.specs.Nodes.{Node, with_node, built_in, node_of_kind, node_of_props, way_down, needed_by_attribute, needed_below, name_attribute, prop_attribute}
 use Rattle.cal_write.specs.Places.{IsAt, HasAll, KnowsAttribute, KnowsNode, node_at, IsPlace, Grows}
 use Rattle.cal_write.specs.Steps.{Writes, WritesTo, AreAt}
@@ -107,13 +106,6 @@ writes-step {old} {mid} {new} path i e up place h is turned g w =
     let all = needed_below-push [] (take i path) e ∙ ap (λ r. needed_below [] (take i path) ++ (needed_by_attribute e.attr ++ (e ∷ r) ∷ [])) here in
     (rw (front, all) (Writes-then (needed_below [] (take i path)) (needed_by_attribute e.attr ++ (e ∷ up) ∷ []) g w.writes), way ∙ ap (λ r. e ∷ r) (sym turned))
 
--- a path leads to the node at its end
-pub path-end : (ns : List Node) (path : List Entry) (parent : Option ℕ) → IsPlace ns parent → node_at ns parent ≡ reverse path → AreAt ns (last_nodes path) (option_to_list parent)
-path-end ns [] None h e = tt
-path-end ns [] (Some p) h e = absurd (omega (arith, h.1, ap length e))
-path-end ns (d ∷ path) None h e = absurd (omega (arith, ap length (e ∙ reverse-append (d ∷ []) path), length-append (reverse path) (d ∷ [])))
-path-end ns (d ∷ path) (Some p) h e = (subst (λ n. IsAt ns n p) e h.0, tt)
-
 -- ---- lists, one more element
 
 pub flat_map-take : {X A : Type 0} (f : X → List A) (xs : List X) (i : ℕ) (d : X) → i < length xs → flat_map f (take (i + 1) xs) ≡ flat_map f (take i xs) ++ f (get_or xs i d)
@@ -127,8 +119,8 @@ writes-found old new a n place attribute known w =
     record { writes = Writes-then (needed_by_attribute a) (n ∷ []) (Writes-known old (needed_by_attribute a) known.needed) w.writes; at = w.at }
 
 -- a node that is known needs nothing
-pub writes-none : (w : Written) (e : Entry) (up : Node) (place : ℕ) → KnowsNode w.nodes e up place → WritesTo w w (needed_by_attribute e.attr ++ (e ∷ up) ∷ []) (e ∷ up) place
-writes-none w e up place known = record {
+pub writes-nothing : (w : Written) (e : Entry) (up : Node) (place : ℕ) → KnowsNode w.nodes e up place → WritesTo w w (needed_by_attribute e.attr ++ (e ∷ up) ∷ []) (e ∷ up) place
+writes-nothing w e up place known = record {
   writes = Writes-then (needed_by_attribute e.attr) ((e ∷ up) ∷ []) (Writes-known w (needed_by_attribute e.attr) known.needed) (Writes-known w ((e ∷ up) ∷ []) (IsAt-has known.at, tt));
   at = known.at;
 }

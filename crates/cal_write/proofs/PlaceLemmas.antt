@@ -1,6 +1,7 @@
 use Rattle.std.proofs.Common.{◌≡◌, ℕ, zero, suc, ◌+◌, ◌<◌, Bool, true, false, cond, not, ◌||◌, List, [], ◌∷◌, ◌++◌, length, get_or, Option, Some, None, refl, sym, ap, ◌∙◌, subst, arith, true≢false, fold, if◌then◌else◌}
 use Rattle.std.specs.Bool.{Decides}
 use Rattle.std.specs.List.{list_any, position_or_len}
+use Rattle.std.proofs.lemmas.Bool.{not-false}
 use Rattle.std.proofs.lemmas.List.{length-append, get_or_append_left, append_assoc, append-nil}
 use Rattle.std.proofs.lemmas.List.Folds.{list_any-append}
 use Rattle.std.proofs.lemmas.List.Sums.{prefix_len_stops}
@@ -18,11 +19,7 @@ same_decides m n = exact_decides path_exact m n
 module _ {X : Type 0} (p : X → Bool) where
   -- a place that is found is one where the test passes
   pub position_passes : (xs : List X) (d : X) → position_or_len p xs < length xs → p (get_or xs (position_or_len p xs) d) ≡ true
-  position_passes xs d h = by (p (get_or xs (position_or_len p xs) d)) (prefix_len_stops (λ x. not (p x)) xs d h)
-    where
-      by : (b : Bool) → not b ≡ false → b ≡ true
-      by true e = refl
-      by false e = absurd (true≢false e)
+  position_passes xs d h = not-false (p (get_or xs (position_or_len p xs) d)) (prefix_len_stops (λ x. not (p x)) xs d h)
 
   -- more elements leave the first place
   pub position-append : (xs ys : List X) → position_or_len p xs < length xs → position_or_len p (xs ++ ys) ≡ position_or_len p xs
@@ -138,12 +135,6 @@ with_node-known ns n h = rw h refl
 pub fold-known : (ns needed : List Node) → HasAll ns needed → fold with_node ns needed ≡ ns
 fold-known ns [] h = refl
 fold-known ns (n ∷ needed) h = ap (λ l. fold with_node l needed) (with_node-known ns n h.0) ∙ fold-known ns needed h.1
-
--- a node below the root can be a parent
-pub IsPlace-node : {ns : List Node} {n : Node} {i : ℕ} → IsAt ns n i → 0 < length n → IsPlace ns (Some i)
-IsPlace-node {ns} {n} {i} at some =
-    let is = IsAt-node [] at in
-    (subst (λ m. IsAt ns m i) (sym is) at, subst (λ m. 0 < length m) (sym is) some)
 
 pub node_at-grown : {old new : List Node} (parent : Option ℕ) → Grows old new → IsPlace old parent → node_at new parent ≡ node_at old parent
 node_at-grown None g h = refl

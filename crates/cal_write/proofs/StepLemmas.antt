@@ -26,9 +26,6 @@ pub new_lines-known : (ns needed : List Node) → HasAll ns needed → new_lines
 new_lines-known ns [] h = refl
 new_lines-known ns (n ∷ needed) h = rw (h.0, new_lines-known ns needed h.1) refl
 
-pub Writes-none : (w : Written) → Writes w w []
-Writes-none w = record { nodes = refl; text = sym (append-nil w.text) }
-
 pub Writes-then : {a b c : Written} (xs ys : List Node) → Writes a b xs → Writes b c ys → Writes a c (xs ++ ys)
 Writes-then {a} {b} {c} xs ys g h = record {
   nodes = h.nodes ∙ ap (λ ns. fold with_node ns ys) g.nodes ∙ sym (fold-append with_node a.nodes xs ys);

@@ -1,8 +1,9 @@
-use Rattle.std.specs.Prelude.{◌≡◌, ℕ, List, [], ◌∷◌, ◌++◌, fold, if◌then◌else◌}
+use Rattle.std.specs.Prelude.{◌≡◌, ℕ, List, [], ◌∷◌, ◌++◌, Option, fold, if◌then◌else◌}
 use Rattle.std.specs.List.{list_any}
-use Rattle.cal_write.specs.Nodes.{Node, same_node, with_node}
+use Rattle.cal_value.specs.declared.attribute.Entry.{Entry}
+use Rattle.cal_write.specs.Nodes.{Node, same_node, needed_by_attribute, with_node}
 use Rattle.cal_write.specs.CanonicalText.{node_line}
-use Rattle.cal_write.specs.Places.{IsAt}
+use Rattle.cal_write.specs.Places.{IsAt, node_at}
 use Rattle.cal_write.specs.Written.{Written}
 
 -- the lines of those of the needed nodes that are new, each over the nodes up to it
@@ -24,6 +25,11 @@ pub record AddsLine (old new : Written) (line : List ℕ) : Type 0 where
 pub record WritesTo (old new : Written) (needed : List Node) (n : Node) (place : ℕ) : Type 0 where
   pub writes : Writes old new needed
   pub at : IsAt new.nodes n place
+
+-- what an entry below a parent needs is there, the new of it is written, and the entry's node has this place
+abbrev pub WritesEntry : Written → Written → Option ℕ → Entry → ℕ → Type 0
+WritesEntry old new parent e =
+    let n = e ∷ node_at old.nodes parent in WritesTo old new (needed_by_attribute e.attr ++ n ∷ []) n
 
 -- these nodes have these places
 abbrev pub AreAt : List Node → List Node → List ℕ → Type 0

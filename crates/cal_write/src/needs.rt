@@ -1,9 +1,9 @@
-ghost use Rattle.std.specs.Prelude.{[], ◌∷◌, ◌++◌, map, option_to_list, IfOk, OnOk};
+ghost use Rattle.std.specs.Prelude.{[], map, option_to_list, IfOk, OnOk};
 ghost use Rattle.std.specs.List.{flat_map};
 ghost use Rattle.cal_write.specs.CanonicalText.{last_nodes};
 ghost use Rattle.cal_write.specs.Nodes.{needed_below, needed_by_attribute, node_of_attribute};
-ghost use Rattle.cal_write.specs.Places.{node_at, IsPlace, KnowsAttribute};
-ghost use Rattle.cal_write.specs.Steps.{AreAt, Writes, WritesTo};
+ghost use Rattle.cal_write.specs.Places.{IsPlace, KnowsAttribute};
+ghost use Rattle.cal_write.specs.Steps.{AreAt, Writes, WritesEntry};
 
 use crate::node_writer::NodeWriter;
 use cal_value::{Attribute, Entry, OutOfMemory, Seq};
@@ -68,8 +68,7 @@ impl NodeWriter {
     /// Writes what an entry below a node needs, and gives the place of its node.
     fn need_entry(&mut self, parent: Option<usize>, entry: &Entry) -> Result<usize, OutOfMemory>
         requires { IsPlace self.old.nodes parent }
-        ensures { let n = entry.now ∷ node_at self.old.nodes parent in
-            IfOk result (WritesTo self.old self.new (needed_by_attribute entry.now.attr ++ n ∷ []) n) }
+        ensures { IfOk result (WritesEntry self.old self.new parent entry.now) }
     {
         if let Some(place) = self.node_hints.next()
             && self.nodes.is_at(place, parent, entry)

@@ -1,8 +1,8 @@
-ghost use Rattle.std.specs.Prelude.{◌≡◌, [], ◌∷◌, ◌++◌, IfOk, OnOk};
+ghost use Rattle.std.specs.Prelude.{◌≡◌, [], ◌∷◌, IfOk, OnOk};
 ghost use Rattle.cal_write.specs.Lines.{record_line_of};
 ghost use Rattle.cal_write.specs.Nodes.{built_in, needed_by_attribute, node_of_props, way_down};
 ghost use Rattle.cal_write.specs.Places.{node_at, IsPlace, KnowsAttribute};
-ghost use Rattle.cal_write.specs.Steps.{AddsLine, Writes, WritesTo};
+ghost use Rattle.cal_write.specs.Steps.{AddsLine, Writes, WritesEntry, WritesTo};
 
 use crate::attribute_fields::AttributeFields;
 use crate::built_in::{NAME, PROP, built_in_nodes, name_entry, props_entry};
@@ -16,8 +16,8 @@ use std::marker::Model;
 // properties without a node of their own
 const NO_PROPS: u32 = 0;
 
-/// Writes the nodes that records need, each where it is first needed, and the lines of records. What the record
-/// before needed is tried first, so that most nodes are found without a look-up.
+/// Writes the nodes that records need, each where it is first needed, and the lines of records. What came behind
+/// the same node or attribute the last time is tried first, so that most are found without a look-up.
 #[derive(Drop)]
 pub(crate) struct NodeWriter {
     alloc: Global,
@@ -90,8 +90,7 @@ impl NodeWriter {
         entry: &Entry,
     ) -> Result<usize, OutOfMemory>
         requires { IsPlace self.old.nodes parent }
-        ensures { let n = entry.now ∷ node_at self.old.nodes parent in
-            IfOk result (WritesTo self.old self.new (needed_by_attribute entry.now.attr ++ n ∷ []) n) }
+        ensures { IfOk result (WritesEntry self.old self.new parent entry.now) }
     {
         if let Some(found) = self.nodes.add_known(parent, entry)? {
             write_added(

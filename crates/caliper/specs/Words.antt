@@ -1,4 +1,4 @@
-use Rattle.std.specs.Prelude.{ℕ, Bool, false, ◌||◌, List, [], ◌∷◌, codes, Result, Ok, Err, if◌then◌else◌}
+use Rattle.std.specs.Prelude.{ℕ, List, [], ◌∷◌, codes, Option, None, Some, Result, Ok, Err, if◌then◌else◌}
 use Rattle.std.specs.Str.{bytes_eq}
 use Rattle.caliper.specs.declared.words.Command.{Command}
 use Rattle.caliper.specs.declared.words.Command.TheVariants.{Serial}
@@ -14,8 +14,10 @@ abbrev pub command_of : List (List ℕ) → Result Command ℕ
 command_of [] = Err 0
 command_of (word ∷ words) = if bytes_eq word (codes "serial") then alone Serial words else Err 0
 
--- A person asks about the program by `--help` or `--version`, as the only word (ours).
-abbrev pub asks_about : List (List ℕ) → Bool
-asks_about [] = false
-asks_about (word ∷ []) = bytes_eq word (codes "--help") || bytes_eq word (codes "--version")
-asks_about (word ∷ other ∷ words) = false
+-- What a person is told, of a help and a version: each is asked for by its word, alone (ours).
+abbrev pub told_about : List ℕ → List ℕ → List (List ℕ) → Option (List ℕ)
+told_about help version [] = None
+told_about help version (word ∷ []) =
+    if bytes_eq word (codes "--help") then Some help
+    else (if bytes_eq word (codes "--version") then Some version else None)
+told_about help version (word ∷ other ∷ words) = None

@@ -1,5 +1,6 @@
-ghost use Rattle.std.specs.Prelude.{◌≡◌, is_some, map, string_bytes};
-ghost use Rattle.caliper.specs.Words.{asks_about};
+ghost use Rattle.std.specs.Prelude.{◌≡◌, map, string_bytes};
+ghost use Rattle.std.specs.Option.{option_copied};
+ghost use Rattle.caliper.specs.Words.{told_about};
 
 /// What `--help` tells.
 pub const HELP: &str = "\
@@ -24,7 +25,8 @@ proved with Rattle, logic dac8208d650f15bf
 
 /// The text for people that the only word asks for, if it asks for one.
 pub fn about(words: &[String]) -> Option<&'static str>
-    ensures { is_some result ≡ asks_about (map string_bytes words.now) }
+    ensures { option_copied result
+        ≡ told_about HELP.now VERSION.now (map string_bytes words.now) }
 {
     let [word] = words else {
         return None;
