@@ -3,6 +3,8 @@
 //! With no argument it does nothing and writes nothing, as the gate runs it. It promises no more than that it is safe.
 #![tactic(auto)]
 
+ghost use Rattle.std.specs.Prelude.{◌≡◌, ◌≤◌};
+
 use anyhow::Result;
 use cal_value::{Kind, Text, Variant, parse_value, print_value};
 use std::alloc::Global;
@@ -60,11 +62,15 @@ fn compare_all(one: &Variant, other: &Variant) -> u64 {
     below
 }
 
-fn equal_all(one: &Variant, other: &Variant) -> u64 {
+/// How often a value is equal, compared with itself and the other in turn.
+fn equal_all(one: &Variant, other: &Variant) -> u64
+    ensures all { one.now ≡ other.now → result ≡ ROUNDS }
+    ensures most { result ≤ ROUNDS }
+{
     let mut same = 0u64;
     for round in 0..ROUNDS {
         let right = if round % 2 == 0 { one } else { other };
-        same = same.wrapping_add(u64::from(*one == *right));
+        same += u64::from(*one == *right);
     }
     same
 }

@@ -1,24 +1,18 @@
+ghost use Rattle.std.specs.Prelude.{◌≡◌, IfOk};
+ghost use Rattle.bench_write.specs.Copies.{with_escapes};
+
 use anyhow::Result;
 use std::alloc::Global;
 
 const BUFFER: usize = 65_536;
 
-/// Copies a text with a backslash before each backslash, character by character.
-pub fn by_characters(alloc: Global, text: &str) -> Result<String> {
-    let mut out = String::new(alloc);
-    for character in text.chars() {
-        if character == '\\' {
-            out.push('\\')?;
-        }
-        out.push(character)?;
-    }
-    Ok(out)
-}
-
-/// The same byte by byte.
-pub fn by_bytes(alloc: Global, text: &str) -> Result<Vec<u8>> {
+/// A copy of a text with a backslash before each backslash, byte by byte.
+pub fn by_bytes(alloc: Global, text: &str) -> Result<Vec<u8>>
+    ensures { IfOk result (λ copied. copied.items ≡ with_escapes text.now) }
+{
+    let bytes = text.as_bytes();
     let mut out = Vec::new(alloc);
-    for byte in text.as_bytes() {
+    for byte in bytes {
         if *byte == b'\\' {
             out.push(b'\\')?;
         }

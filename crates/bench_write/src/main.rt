@@ -1,8 +1,12 @@
 //! Times the writing of a million records, beside the copying of their text with escapes.
 //!
-//! With no argument it does nothing and writes nothing, as the gate runs it. It promises no more than that it is
-//! safe.
+//! With no argument it does nothing and writes nothing, as the gate runs it. What is timed is proved to be the
+//! canonical text of the records, and a copy of that text; of the times nothing is promised.
 #![tactic(auto)]
+
+ghost use Rattle.std.specs.Prelude.{◌≡◌, IfOk};
+ghost use Rattle.cal_write.specs.CanonicalText.{canonical_text};
+ghost use Rattle.bench_write.specs.InTurn.{in_turn};
 
 mod copying;
 mod records;
@@ -22,7 +26,6 @@ const ROUNDS: u32 = 5;
 #[derive(Clone, Copy)]
 struct Times {
     written: Duration,
-    characters: Duration,
     bytes: Duration,
     buffer: Duration,
 }
@@ -31,29 +34,28 @@ impl Times {
     fn least(self, other: Times) -> Times {
         Times {
             written: self.written.min(other.written),
-            characters: self.characters.min(other.characters),
             bytes: self.bytes.min(other.bytes),
             buffer: self.buffer.min(other.buffer),
         }
     }
 }
 
-fn write_all(alloc: Global, one: &Rec, other: &Rec) -> Result<Text> {
+/// The text of so many records, of which every second one is the other.
+fn write_all(alloc: Global, one: &Rec, other: &Rec, count: u64) -> Result<Text>
+    ensures { IfOk result (λ text. text ≡ canonical_text (in_turn one.now other.now count)) }
+{
     let mut writer = Writer::new(alloc)?;
-    for round in 0..RECORDS {
+    for round in 0..count {
         writer.put(if round % 2 == 0 { one } else { other })?;
     }
     Ok(writer.into_text())
 }
 
-/// One round: the text is written, and copied in three ways.
+/// One round: the text is written, and copied in two ways.
 fn measure<R: Clock>(rt: &R, alloc: Global, one: &Rec, other: &Rec) -> Result<(Times, usize)> {
     let start = Instant::now(rt)?;
-    let text = write_all(alloc, one, other)?;
+    let text = write_all(alloc, one, other, RECORDS)?;
     let written = start.elapsed(rt)?;
-    let start = Instant::now(rt)?;
-    let by_characters = copying::by_characters(alloc, text.as_str())?;
-    let characters = start.elapsed(rt)?;
     let start = Instant::now(rt)?;
     let by_bytes = copying::by_bytes(alloc, text.as_str())?;
     let bytes = start.elapsed(rt)?;
@@ -62,14 +64,10 @@ fn measure<R: Clock>(rt: &R, alloc: Global, one: &Rec, other: &Rec) -> Result<(T
     let buffer = start.elapsed(rt)?;
     let times = Times {
         written,
-        characters,
         bytes,
         buffer,
     };
-    let copied = by_characters
-        .len()
-        .min(by_bytes.len())
-        .min(through_a_buffer);
+    let copied = by_bytes.len().min(through_a_buffer);
     Ok((times, copied))
 }
 
@@ -88,14 +86,11 @@ fn report<R: Clock + Print>(
     }
     let Times {
         written,
-        characters,
         bytes,
         buffer,
     } = best;
     println!(rt; "{what}: {length} bytes written in {written:?}")?;
-    println!(rt;
-        "    copied by characters in {characters:?}, by bytes in {bytes:?}, by bytes through a buffer in {buffer:?}"
-    )?;
+    println!(rt; "    copied in {bytes:?}, and through a buffer in {buffer:?}")?;
     Ok(())
 }
 
