@@ -1,0 +1,18 @@
+//! Tests of the layers below the program that speak of values, contexts, scripts and streams.
+//!
+//! Each file is one layer's table of worked rows and hand-written answers. It promises nothing
+//! that a contract says; it shows what no clause can say, that calls succeed with ample memory.
+#![tactic(auto)]
+
+#[cfg(test)]
+mod bytes;
+#[cfg(test)]
+mod context;
+#[cfg(test)]
+mod line;
+#[cfg(test)]
+mod script;
+#[cfg(test)]
+mod values;
+#[cfg(test)]
+mod writer;
