@@ -1,2 +1,2 @@
 pub mod Taking
-pub mod Appending
+pub mod Growing

@@ -1,12 +1,9 @@
-use Rattle.std.proofs.Common.{ℕ, ◌+◌, ◌<◌, ◌≤◌, List, [], ◌++◌, length, Option, None, Some, IfSome, Result, Ok, Err, IfOk, OnOk, IsErr, Vec, Global, vec_len, refl, sym, ap, ◌∙◌, append_assoc, length-append, arith}
+use Rattle.std.proofs.Common.{◌≡◌, ℕ, ◌+◌, ◌<◌, ◌≤◌, List, ◌++◌, length, Option, None, Some, IfSome, Result, Ok, Err, IfOk, IsErr, Vec, Global, refl, sym, ap, ◌∙◌, append_assoc, append-nil, length-append, arith}
 use Rattle.std.specs.Io.KnownBytes.{IsAtEnd}
 use Rattle.cal_base.specs.declared.reading.ReadEnd.{ReadEnd}
+use Rattle.cal_base.specs.Change.{Change}
+use Rattle.cal_base.specs.ReadEnds.{ReadsAll}
 use Rattle.cal_base.specs.Told.{Takes, TakesUpTo, TakesOver}
-
--- nothing was taken from what stays as it is
-pub Takes-none : (told : Option (List ℕ)) → Takes told told []
-Takes-none None = tt
-Takes-none (Some left) = refl
 
 -- what was taken first, and then more
 pub Takes-append : (a b c : Option (List ℕ)) (xs ys : List ℕ) → Takes a b xs → Takes b c ys → Takes a c (xs ++ ys)
@@ -27,16 +24,24 @@ pub TakesOver-read : (limit : ℕ) (a b c : Option (List ℕ)) (xs ys : List ℕ
 TakesOver-read limit a b c xs ys first then over =
     (xs ++ ys, omega (arith, length-append xs ys), Takes-append a b c xs ys first then)
 
--- where all was taken, and that is within the limit, no more was left
-pub Takes-all : (limit : ℕ) (old new : Option (List ℕ)) (bytes : List ℕ) → Takes old new bytes → IsAtEnd new → length bytes ≤ limit → IfSome old (λ left. limit < length left → ⊥)
-Takes-all limit None new bytes taken end within = tt
-Takes-all limit (Some old) None bytes taken end within = absurd taken
-Takes-all limit (Some old) (Some new) bytes taken end within = λ over.
-    omega (arith, ap length taken, length-append bytes new, ap length end)
+-- what was taken to the end was all that was left
+Takes-left : (old new : Option (List ℕ)) (bytes : List ℕ) → Takes old new bytes → IsAtEnd new → IfSome old (λ left. left ≡ bytes)
+Takes-left None new bytes taken ended = tt
+Takes-left (Some old) None bytes taken ended = absurd taken
+Takes-left (Some old) (Some new) bytes taken ended = taken ∙ ap (λ rest. bytes ++ rest) ended ∙ append-nil bytes
 
--- what was given whole, within the limit, was no more than the limit
-pub Takes-refused : (limit : ℕ) (old new : Option (List ℕ)) (given : Result (Vec ℕ Global) ReadEnd) → IfOk given (λ bytes. Takes old new bytes.items) → OnOk given (IsAtEnd new) → IfOk given (λ bytes. vec_len bytes ≤ limit) → IfSome old (λ left. limit < length left → IsErr given)
-Takes-refused limit None new given taken end within = tt
-Takes-refused limit (Some old) new (Ok bytes) taken end within =
-    λ over. absurd (Takes-all limit (Some old) new bytes.items taken end (omega (arith, bytes.ok.0)) over)
-Takes-refused limit (Some old) new (Err e) taken end within = λ over. refl
+pub ReadsAll-left : (limit : ℕ) (input : Change) (bytes : List ℕ) → ReadsAll limit input bytes → IfSome input.old (λ left. left ≡ bytes)
+ReadsAll-left limit input bytes reads = Takes-left input.old input.new bytes reads.taken reads.ended
+
+-- what is longer than the limit isn't given whole
+more_refused : (limit : ℕ) (old : Option (List ℕ)) (bytes : List ℕ) → IfSome old (λ left. left ≡ bytes) → length bytes ≤ limit → IfSome old (λ left. limit < length left → ⊥)
+more_refused limit None bytes left within = tt
+more_refused limit (Some old) bytes left within = λ over. omega (arith, ap length left)
+
+pub ReadsAll-refused : (limit : ℕ) (input : Change) (given : Result (Vec ℕ Global) ReadEnd) → IfOk given (λ bytes. ReadsAll limit input bytes.items) → IfSome input.old (λ left. limit < length left → IsErr given)
+ReadsAll-refused limit input (Ok bytes) reads =
+    elim input.old as (λ (old : Option (List ℕ)). IfSome old (λ left. left ≡ bytes.items) → IfSome old (λ left. limit < length left → IsErr {E = ReadEnd} (Ok bytes))) [
+      | None ↦ λ left. tt
+      | Some old ↦ λ left over. absurd (more_refused limit (Some old) bytes.items left reads.within over)
+    ] (ReadsAll-left limit input bytes.items reads)
+ReadsAll-refused limit input (Err e) reads = elim input.old as (λ (old : Option (List ℕ)). IfSome old (λ left. limit < length left → IsErr {T = Vec ℕ Global} (Err e))) [ None ↦ tt | Some old ↦ λ over. refl ]

@@ -1,5 +1,6 @@
 pub mod Faults
 pub mod Told
+pub mod Change
 pub mod InMemory
 pub mod Standard
 pub mod ReadEnds

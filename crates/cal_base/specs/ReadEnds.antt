@@ -1,11 +1,20 @@
-use Rattle.std.specs.Prelude.{ℕ, List, Option}
-use Rattle.cal_base.specs.Told.{TakesUpTo, TakesOver}
+-- How reading a source to its end comes out.
+use Rattle.std.specs.Prelude.{ℕ, ◌≤◌, List, length}
+use Rattle.std.specs.Io.KnownBytes.{IsAtEnd}
+use Rattle.cal_base.specs.Change.{Change, HasFailed}
+use Rattle.cal_base.specs.Told.{Takes, TakesUpTo, TakesOver}
 use Rattle.cal_base.specs.declared.reading.ReadEnd.{ReadEnd}
 use Rattle.cal_base.specs.declared.reading.ReadEnd.TheVariants.{ReadFault, TooLong, OutOfMemory}
 
--- How much was taken where reading ended so: more than the limit where the input is too long, and
--- else at most the limit (ours).
-abbrev pub TakesBefore : ReadEnd → ℕ → Option (List ℕ) → Option (List ℕ) → Type 0
-TakesBefore ReadFault limit = TakesUpTo limit
-TakesBefore TooLong limit = TakesOver limit
-TakesBefore OutOfMemory limit = TakesUpTo limit
+-- These bytes were all that the source had left, and they are within the limit.
+pub record ReadsAll (limit : ℕ) (input : Change) (bytes : List ℕ) : Type 0 where
+  pub taken : Takes input.old input.new bytes
+  pub ended : IsAtEnd input.new
+  pub within : length bytes ≤ limit
+
+-- Why the source wasn't read to its end, and how much was taken then: more than the limit where it is
+-- too long, and else at most the limit (ours).
+abbrev pub StopsAt : ReadEnd → ℕ → Change → Type 0
+StopsAt ReadFault limit input = HasFailed input × TakesUpTo limit input.old input.new
+StopsAt TooLong limit input = TakesOver limit input.old input.new
+StopsAt OutOfMemory limit input = TakesUpTo limit input.old input.new

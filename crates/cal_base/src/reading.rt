@@ -1,8 +1,6 @@
-ghost use Rattle.std.specs.Prelude.{◌≡◌, ◌<◌, ◌≤◌, IfOk, IfErr, IfSome, OnOk, IsErr, IsErrOf, length, vec_len};
-ghost use Rattle.std.specs.Io.KnownBytes.{IsAtEnd};
-ghost use Rattle.cal_base.specs.Faults.{Rose};
-ghost use Rattle.cal_base.specs.Told.{Takes};
-ghost use Rattle.cal_base.specs.ReadEnds.{TakesBefore};
+ghost use Rattle.std.specs.Prelude.{◌<◌, ◌≤◌, IfOk, IfErr, IfSome, IsErr, length};
+ghost use Rattle.cal_base.specs.Change.{change_of};
+ghost use Rattle.cal_base.specs.ReadEnds.{ReadsAll, StopsAt};
 
 use crate::{Failed, Source};
 use std::alloc::{AllocError, Global};
@@ -48,15 +46,12 @@ const PIECE: usize = 65_536;
 /// number, and 64 KiB beside them.
 pub fn read_all<S: Source>(alloc: Global, input: &mut S, limit: u64) -> Result<Vec<u8>, ReadEnd>
     // All that was left, to the end.
-    ensures ok { IfOk result (λ bytes. Takes (S.left input.old) (S.left input.new) bytes.items) }
-    ensures end { OnOk result (IsAtEnd (S.left input.new)) }
-    ensures within { IfOk result (λ bytes. vec_len bytes ≤ limit) }
+    ensures all { IfOk result (λ bytes.
+        ReadsAll limit (change_of S.left S.faults input.old input.new) bytes.items) }
 
-    // What a refusal says, and how much was taken then.
-    ensures fault { IsErrOf result ReadEnd.ReadFault
-        → Rose (S.faults input.old) (S.faults input.new) }
-    ensures taken { IfErr result (λ end.
-        TakesBefore end limit (S.left input.old) (S.left input.new)) }
+    // Why it isn't given, and how much was taken then.
+    ensures refused { IfErr result (λ end.
+        StopsAt end limit (change_of S.left S.faults input.old input.new)) }
 
     // More than the limit is never given.
     ensures over { IfSome (S.left input.old) (λ left. limit < length left → IsErr result) }
@@ -74,13 +69,10 @@ fn take_all<S: Source>(
     buffer: &mut [u8],
 ) -> Result<Vec<u8>, ReadEnd>
     requires { 0 < length buffer.old }
-    ensures ok { IfOk result (λ bytes. Takes (S.left input.old) (S.left input.new) bytes.items) }
-    ensures end { OnOk result (IsAtEnd (S.left input.new)) }
-    ensures within { IfOk result (λ bytes. vec_len bytes ≤ limit) }
-    ensures fault { IsErrOf result ReadEnd.ReadFault
-        → Rose (S.faults input.old) (S.faults input.new) }
-    ensures taken { IfErr result (λ end.
-        TakesBefore end limit (S.left input.old) (S.left input.new)) }
+    ensures all { IfOk result (λ bytes.
+        ReadsAll limit (change_of S.left S.faults input.old input.new) bytes.items) }
+    ensures refused { IfErr result (λ end.
+        StopsAt end limit (change_of S.left S.faults input.old input.new)) }
     ensures later { S.faults input.old ≤ S.faults input.new }
 {
     let mut taken = Vec::new(alloc);

@@ -14,11 +14,12 @@ pub struct StdSource<R> {
 }
 
 impl<R: Read + Drop> StdSource<R> {
-    ghost use Rattle.cal_base.specs.Standard.{reader_of};
+    ghost use Rattle.cal_base.specs.Standard.{reader_of, faults_read};
 
     /// A source over this reader, without a fault.
     pub fn new(reader: R) -> Self
-        ensures { reader_of result ≡ reader }
+        ensures over { reader_of result ≡ reader }
+        ensures faults { faults_read result ≡ 0 }
     {
         StdSource { reader, faults: 0 }
     }
@@ -29,16 +30,16 @@ impl<R: Read + Drop> Source for StdSource<R> {
     ghost use Rattle.std.specs.Io.{ReadsAtMost};
     ghost use Rattle.std.specs.Io.KnownBytes.{ReadConsumes};
     ghost use Rattle.cal_base.specs.Faults.{HasCause};
-    ghost use Rattle.cal_base.specs.Standard.{reader_of};
+    ghost use Rattle.cal_base.specs.Standard.{reader_of, faults_read};
 
     ghost left = { λ _. None };
 
-    ghost faults = { λ s. s.faults };
+    ghost faults = { λ s. faults_read s };
 
     fn read(&mut self, buf: &mut [u8]) -> Result<usize, Failed>
         requires { 0 < length buf.old }
         ensures bound { ReadsAtMost result buf.new }
-        ensures cause { HasCause self.old.faults self.new.faults result }
+        ensures cause { HasCause (faults_read self.old) (faults_read self.new) result }
 
         // What the reader tells of its bytes holds here too.
         ensures told { ReadConsumes (R.remaining (reader_of self.old))

@@ -4,14 +4,14 @@ use Rattle.cal_base.proofs.Taking.{TakesUpTo-read, TakesOver-read}
 use Rattle.cal_base.proofs.reading.take_all.Goals as goal
 
 -- what was taken before this read, and what this one took
-pub returns-then-count-limit-clause-taken : goal.returns-then-count-limit-clause-taken
-returns-then-count-limit-clause-taken g c =
+pub returns-then-count-limit-clause-refused : goal.returns-then-count-limit-clause-refused
+returns-then-count-limit-clause-refused g c =
     let now = length-take c.in_ok-count.count c.read.new.buf in
     TakesOver-read _ _ _ _ _ _ c.loop-taken.invariant.taken c.in_ok-count.ensures.taken
     (omega (arith, now, c.loop-taken.taken.ok.0, c.in_ok-count.ensures.bound))
 
-pub returns-in_err-extend_from_slice-clause-taken : goal.returns-in_err-extend_from_slice-clause-taken
-returns-in_err-extend_from_slice-clause-taken g c =
+pub returns-in_err-extend_from_slice-clause-refused : goal.returns-in_err-extend_from_slice-clause-refused
+returns-in_err-extend_from_slice-clause-refused g c =
     let p = err_from_is_err_and c.from_residual-in_err-extend_from_slice.result c.from_residual-in_err-extend_from_slice.ensures.1 in
     let now = length-take c.in_ok-count.count c.read.new.buf in
     rw (p.1, p.2) (TakesUpTo-read _ _ _ _ _ _ c.loop-taken.invariant.taken c.in_ok-count.ensures.taken
