@@ -1,2 +1,2 @@
 pub mod Recorded
-pub mod Complete
+pub mod Deciding

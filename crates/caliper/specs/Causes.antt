@@ -1,48 +1,60 @@
--- What a call says of the streams that it was lent, where they tell of their bytes.
-use Rattle.std.specs.Prelude.{◌≡◌, ℕ, ◌≤◌, ◌⊎◌, List, length, Option, IsSome}
-use Rattle.std.specs.Option.{IsSomeAnd}
-use Rattle.std.specs.Io.KnownBytes.{IsAtEnd}
-use Rattle.cal_base.specs.Faults.{Rose}
+-- What a call answers, and why, by what it did to the input and the output that it was lent.
+use Rattle.std.specs.Prelude.{◌≡◌, ◌≢◌, ℕ, ◌<◌, ◌≤◌, ◌↔◌, List, length, Option, None, Some, IfSome, Result, Ok, Err}
+use Rattle.cal_base.specs.Change.{Change, HasFailed}
+use Rattle.cal_base.specs.ReadEnds.{ReadsAll, StopsAt}
 use Rattle.cal_base.specs.Told.{Appends, AppendsFront, TakesUpTo}
-use Rattle.cal_script.specs.Faults.{IsFirstFault}
-use Rattle.cal_script.specs.Lines.{lines_of}
-use Rattle.cal_script.specs.Reading.{meaning}
-use Rattle.cal_script.specs.declared.kind.ScriptKind.TheVariants.{NotYet}
-use Rattle.caliper.specs.Runs.{text_of}
+use Rattle.cal_base.specs.declared.reading.ReadEnd.TheVariants as end
+use Rattle.caliper.specs.Inputs.{IsFaultOf, IsTextOf}
+use Rattle.caliper.specs.declared.fault.Fault as faults
+use Rattle.caliper.specs.declared.fault.Fault.TheVariants as fault
 use Rattle.caliper.specs.declared.fault.InputKind.{InputKind}
-use Rattle.caliper.specs.declared.fault.InputKind.TheVariants.{Script}
-
--- A text was put behind what a sink has: whole, or a front of it where its count of faults rose.
-pub record Tells (old new : Option (List ℕ)) (before now : ℕ) (text : List ℕ) : Type 0 where
-  pub whole : (Rose before now → ⊥) → Appends old new text
-  pub front : AppendsFront old new text
-  pub later : before ≤ now
+use Rattle.caliper.specs.declared.words.Command.{Command}
 
 -- the most bytes that an input may have (ours)
 abbrev pub input_limit : ℕ
 input_limit = 268435456
 
--- the input was read to its end, and is no longer than allowed
-pub record IsRead (old new : Option (List ℕ)) : Type 0 where
-  pub within : TakesUpTo input_limit old new
-  pub ended : IsAtEnd new
+-- the input was read to its end, within the limit, and this holds of its bytes
+abbrev pub ReadsInput : Change → (List ℕ → Type 0) → Type 0
+ReadsInput input P = (bytes : List ℕ) × ReadsAll input_limit input bytes × P bytes
 
--- the bytes mean a script, and the text of its run was put behind what the output has
-abbrev pub WritesRun : Option (List ℕ) → Option (List ℕ) → List ℕ → Type 0
-WritesRun old new bytes = IsSomeAnd (meaning bytes) (λ script. Appends old new (text_of script))
+-- the text of the input was put behind what the output has
+abbrev pub Writes : Command → Change → Change → Type 0
+Writes command input output = ReadsInput input (λ bytes.
+    (text : List ℕ) × IsTextOf command bytes text × Appends output.old output.new text)
 
--- the bytes mean a script, and a front of the text of its run was put behind what the output has
-abbrev pub WritesFront : Option (List ℕ) → Option (List ℕ) → List ℕ → Type 0
-WritesFront old new bytes = IsSomeAnd (meaning bytes) (λ script. AppendsFront old new (text_of script))
+-- some front of the text of the input was put behind what the output has
+abbrev pub WritesFront : Command → Change → Change → Type 0
+WritesFront command input output = ReadsInput input (λ bytes.
+    (text : List ℕ) × IsTextOf command bytes text × AppendsFront output.old output.new text)
 
--- the first fault of a script's bytes
-abbrev pub IsInputFault : ℕ → InputKind → List ℕ → Type 0
-IsInputFault line kind bytes = IsFirstFault (lines_of bytes) line × (kind ≡ Script NotYet)
+-- Which fault of a command has which cause (ours). The words of a command are no fault, and want of
+-- memory has no cause but that the input is no longer than the limit so far.
+abbrev pub Causes : Command → Change → Change → faults.Fault → Type 0
+Causes command input output (fault.Usage word) = ⊥
+Causes command input output (fault.BadInput line kind) = ReadsInput input (λ bytes. IsFaultOf command bytes line kind)
+Causes command input output fault.ReadFault = StopsAt end.ReadFault input_limit input
+Causes command input output fault.WriteFault = HasFailed output × WritesFront command input output
+Causes command input output fault.OutOfMemory = StopsAt end.OutOfMemory input_limit input
+Causes command input output fault.TooLong = StopsAt end.TooLong input_limit input
 
--- bytes that mean a script, no more of them than allowed
-abbrev pub IsValidInput : List ℕ → Type 0
-IsValidInput bytes = (length bytes ≤ input_limit) × IsSome (meaning bytes)
+-- What is answered to words that ask for a command, or break the word rule at a place: that place; and
+-- else nothing where the text was written whole, or a fault that has its cause.
+abbrev pub Answers : Result Command ℕ → Change → Change → Option faults.Fault → Type 0
+Answers (Err place) input output answer = answer ≡ Some (fault.Usage place)
+Answers (Ok command) input output None = Writes command input output
+Answers (Ok command) input output (Some f) = Causes command input output f
 
--- with this status the input was read to its end: all is written, the script is faulty, or the output failed
-abbrev pub TellsOfScript : ℕ → Type 0
-TellsOfScript status = (status ≡ 0) ⊎ ((status ≡ 3) ⊎ (status ≡ 6))
+-- The answer is the one that these bytes call for: too many of them, their first fault, or their text,
+-- which is written whole unless the output fails.
+pub record IsDue (command : Command) (bytes : List ℕ) (output : Change) (answer : Option faults.Fault) : Type 0 where
+  pub too_long : (answer ≡ Some fault.TooLong) ↔ (input_limit < length bytes)
+  pub bad_input : (line : ℕ) (kind : InputKind) → (answer ≡ Some (fault.BadInput line kind)) ↔ ((length bytes ≤ input_limit) × IsFaultOf command bytes line kind)
+  pub written : (HasFailed output → ⊥) → (answer ≡ None) ↔ ((length bytes ≤ input_limit) × (text : List ℕ) × IsTextOf command bytes text)
+
+-- Where a command is asked for, the input doesn't fail and memory doesn't run out, the bytes of an
+-- input that tells them decide the answer.
+abbrev pub BytesDecide : Result Command ℕ → Change → Change → Option faults.Fault → Type 0
+BytesDecide (Err place) input output answer = Unit {0}
+BytesDecide (Ok command) input output answer =
+    (HasFailed input → ⊥) → answer ≢ Some fault.OutOfMemory → IfSome input.old (λ bytes. IsDue command bytes output answer)

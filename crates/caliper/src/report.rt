@@ -1,6 +1,7 @@
 ghost use Rattle.std.specs.Prelude.{◌≡◌, ◌+◌, ◌≤◌, ◌++◌, length, codes, decimal};
 ghost use Rattle.arrayvec.specs.ArrayString.{array_string_len};
-ghost use Rattle.caliper.specs.Causes.{Tells};
+ghost use Rattle.cal_base.specs.Change.{change_of};
+ghost use Rattle.caliper.specs.Ends.{Tells};
 ghost use Rattle.caliper.specs.Faults.{fault_line, message_of};
 
 use crate::Fault;
@@ -13,8 +14,8 @@ type Line = ArrayString<96>;
 
 /// Puts the line that tells of a fault. It takes no memory, and a sink that fails changes nothing else.
 pub fn put_fault<E: Sink>(errors: &mut E, fault: &Fault)
-    ensures { Tells (E.written errors.old) (E.written errors.new)
-        (E.faults errors.old) (E.faults errors.new) (fault_line fault.now) }
+    ensures { Tells (fault_line fault.now)
+        (change_of E.written E.faults errors.old errors.new) }
 {
     let line = fault_text(fault);
     let _ = errors.put(line.as_str().as_bytes());

@@ -1,0 +1,29 @@
+-- How a call of the program ends, and what a person is told.
+use Rattle.std.specs.Prelude.{◌≡◌, ℕ, ◌≤◌, List, Option, None, Some, IfSome, IfNone}
+use Rattle.cal_base.specs.Change.{Change, HasFailed}
+use Rattle.cal_base.specs.Told.{Appends, AppendsFront}
+use Rattle.caliper.specs.Causes.{Answers}
+use Rattle.caliper.specs.Faults.{report_of, status_of}
+use Rattle.caliper.specs.Words.{command_of}
+use Rattle.caliper.specs.declared.fault.Fault as faults
+use Rattle.caliper.specs.declared.fault.Fault.TheVariants.{WriteFault}
+
+-- This text was put behind what a stream has: whole, or a front of it where the stream failed.
+pub record Tells (text : List ℕ) (stream : Change) : Type 0 where
+  pub whole : (HasFailed stream → ⊥) → Appends stream.old stream.new text
+  pub front : AppendsFront stream.old stream.new text
+  pub later : stream.faults_before ≤ stream.faults_now
+
+-- A text for people was put behind what the output has: whole, or the output failed.
+abbrev pub Shows : List ℕ → Change → Option faults.Fault → Type 0
+Shows text output None = Appends output.old output.new text
+Shows text output (Some f) = (f ≡ WriteFault) × HasFailed output × AppendsFront output.old output.new text
+
+-- The program ends with this status, of an answer whose line it tells: it shows the text that the words
+-- ask it to tell about itself, or answers them as a command.
+pub record Serves (words : List (List ℕ)) (about : Option (List ℕ)) (status : ℕ) (input output errors : Change) : Type 0 where
+  pub answer : Option faults.Fault
+  pub meant : status ≡ status_of answer
+  pub told : Tells (report_of answer) errors
+  pub shown : IfSome about (λ text. Shows text output answer)
+  pub ran : IfNone about (Answers (command_of words) input output answer)

@@ -1,0 +1,85 @@
+ghost use Rattle.std.specs.Prelude.{◌≡◌, ◌≢◌, Some, map, string_bytes, IsErr, IsSome, IfOk, IfErr, IfSome, IfNone, OnErr};
+ghost use Rattle.std.specs.Process.{exit_status};
+ghost use Rattle.cal_base.specs.Change.{change_of};
+ghost use Rattle.caliper.specs.Causes.{Answers};
+ghost use Rattle.caliper.specs.Ends.{Serves, Shows, Tells};
+ghost use Rattle.caliper.specs.Faults.{fault_line, report_of, status_of};
+ghost use Rattle.caliper.specs.Words.{command_of, told_about};
+
+use crate::about::{HELP, VERSION};
+use crate::outcome::end;
+use crate::{Fault, Outcome, about, run};
+use cal_base::{Sink, Source};
+use std::alloc::Global;
+use std::process::ExitCode;
+
+/// Serves a command line, or refuses it where it couldn't be read, and gives the status.
+pub fn serve<S: Source, W: Sink, E: Sink>(
+    alloc: Global,
+    words: Result<Vec<String>, Fault>,
+    input: &mut S,
+    output: &mut W,
+    errors: &mut E,
+) -> ExitCode
+    ensures served { IfOk words (λ words. Serves (map string_bytes words.items)
+        (told_about HELP.now VERSION.now (map string_bytes words.items)) (exit_status result)
+        (change_of S.left S.faults input.old input.new)
+        (change_of W.written W.faults output.old output.new)
+        (change_of E.written E.faults errors.old errors.new)) }
+
+    // Words that couldn't be read.
+    ensures refused { IfErr words (λ fault. exit_status result ≡ status_of (Some fault)) }
+    ensures told { IfErr words (λ fault. Tells (fault_line fault)
+        (change_of E.written E.faults errors.old errors.new)) }
+    ensures input { OnErr words (input.new ≡ input.old) }
+
+    // What is left as it was.
+    ensures unread { IfOk words (λ words. IsErr (command_of (map string_bytes words.items)) →
+        input.new ≡ input.old) }
+    ensures output { exit_status result ≢ 0 → exit_status result ≢ 6 → output.new ≡ output.old }
+    ensures errors { exit_status result ≡ 0 → errors.new ≡ errors.old }
+{
+    let outcome = match words {
+        Ok(words) => answer(alloc, words.as_slice(), input, output, errors),
+        Err(fault) => end(errors, Some(fault)),
+    };
+    ExitCode::from(outcome.status)
+}
+
+/// Shows the text that the words ask for, or runs their command.
+fn answer<S: Source, W: Sink, E: Sink>(
+    alloc: Global,
+    words: &[String],
+    input: &mut S,
+    output: &mut W,
+    errors: &mut E,
+) -> Outcome
+    ensures status { result.status ≡ status_of result.fault }
+    ensures told { Tells (report_of result.fault)
+        (change_of E.written E.faults errors.old errors.new) }
+    ensures shown { IfSome (told_about HELP.now VERSION.now (map string_bytes words.now))
+        (λ text. Shows text (change_of W.written W.faults output.old output.new) result.fault) }
+    ensures ran { IfNone (told_about HELP.now VERSION.now (map string_bytes words.now))
+        (Answers (command_of (map string_bytes words.now))
+        (change_of S.left S.faults input.old input.new)
+        (change_of W.written W.faults output.old output.new) result.fault) }
+    ensures input { IsErr (command_of (map string_bytes words.now)) → input.new ≡ input.old }
+    ensures output { IfSome result.fault (λ fault.
+        fault ≢ Fault.WriteFault → output.new ≡ output.old) }
+    ensures errors { IfNone result.fault (errors.new ≡ errors.old) }
+{
+    match about(words) {
+        Some(text) => end(errors, show(text, output)),
+        None => run(alloc, words, input, output, errors),
+    }
+}
+
+/// Puts a text for people on the output.
+fn show<W: Sink>(text: &str, output: &mut W) -> Option<Fault>
+    ensures { Shows text.now (change_of W.written W.faults output.old output.new) result }
+{
+    match output.put(text.as_bytes()) {
+        Ok(()) => None,
+        Err(_) => Some(Fault::WriteFault),
+    }
+}
