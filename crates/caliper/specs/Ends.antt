@@ -1,10 +1,11 @@
 -- How a call of the program ends, and what a person is told.
-use Rattle.std.specs.Prelude.{◌≡◌, ℕ, ◌≤◌, List, Option, None, Some, IfSome, IfNone}
+use Rattle.std.specs.Prelude.{◌≡◌, ℕ, ◌≤◌, List, map, Option, None, Some, IfSome, IsNone, String, string_bytes}
+use Rattle.std.specs.Global.{Global}
 use Rattle.cal_base.specs.Change.{Change, HasFailed}
 use Rattle.cal_base.specs.Told.{Appends, AppendsFront}
-use Rattle.caliper.specs.Causes.{Answers}
+use Rattle.caliper.specs.Causes.{Answers, BytesDecide}
 use Rattle.caliper.specs.Faults.{report_of, status_of}
-use Rattle.caliper.specs.Words.{command_of}
+use Rattle.caliper.specs.Words.{asked, told_about}
 use Rattle.caliper.specs.declared.fault.Fault as faults
 use Rattle.caliper.specs.declared.fault.Fault.TheVariants.{WriteFault}
 
@@ -19,11 +20,12 @@ abbrev pub Shows : List ℕ → Change → Option faults.Fault → Type 0
 Shows text output None = Appends output.old output.new text
 Shows text output (Some f) = (f ≡ WriteFault) × HasFailed output × AppendsFront output.old output.new text
 
--- The program ends with this status, of an answer whose line it tells: it shows the text that the words
--- ask it to tell about itself, or answers them as a command.
-pub record Serves (words : List (List ℕ)) (about : Option (List ℕ)) (status : ℕ) (input output errors : Change) : Type 0 where
+-- The program ends with the status of an answer, whose line it tells: it shows the help or the version
+-- where the words ask for one of these texts, and else answers them as a command.
+pub record Serves (help version : List ℕ) (words : List (String Global)) (status : ℕ) (input output errors : Change) : Type 0 where
   pub answer : Option faults.Fault
   pub meant : status ≡ status_of answer
   pub told : Tells (report_of answer) errors
-  pub shown : IfSome about (λ text. Shows text output answer)
-  pub ran : IfNone about (Answers (command_of words) input output answer)
+  pub shown : IfSome (told_about help version (map string_bytes words)) (λ text. Shows text output answer)
+  pub ran : IsNone (told_about help version (map string_bytes words)) → Answers (asked words) input output answer
+  pub decided : IsNone (told_about help version (map string_bytes words)) → BytesDecide (asked words) input output answer

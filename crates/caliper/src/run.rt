@@ -1,4 +1,4 @@
-ghost use Rattle.std.specs.Prelude.{◌≡◌, ◌≢◌, Some, Ok, map, string_bytes, IsErr, IfOk, IfErr, IfSome, IfNone};
+ghost use Rattle.std.specs.Prelude.{◌≡◌, ◌≢◌, Some, Ok, IsErr, IfOk, IfErr, IfSome, IfNone};
 ghost use Rattle.std.specs.Result.{result_err};
 ghost use Rattle.cal_base.specs.Change.{Change, change_of};
 ghost use Rattle.cal_script.specs.Reading.{meaning};
@@ -6,7 +6,7 @@ ghost use Rattle.cal_script.specs.Shape.{IsScript};
 ghost use Rattle.caliper.specs.Causes.{Answers, BytesDecide, Causes, ReadsInput};
 ghost use Rattle.caliper.specs.Ends.{Tells};
 ghost use Rattle.caliper.specs.Faults.{report_of, status_of};
-ghost use Rattle.caliper.specs.Words.{command_of};
+ghost use Rattle.caliper.specs.Words.{asked};
 
 use crate::outcome::end;
 use crate::{Command, Fault, InputKind, Outcome, read_words, serial_text};
@@ -34,17 +34,15 @@ pub fn run<S: Source, W: Sink, E: Sink>(
         (change_of E.written E.faults errors.old errors.new) }
 
     // The text of the input was written whole, or the fault has its cause.
-    ensures answers { Answers (command_of (map string_bytes words.now))
-        (change_of S.left S.faults input.old input.new)
+    ensures answers { Answers (asked words.now) (change_of S.left S.faults input.old input.new)
         (change_of W.written W.faults output.old output.new) result.fault }
 
     // An input that doesn't fail decides the answer by its bytes.
-    ensures decided { BytesDecide (command_of (map string_bytes words.now))
-        (change_of S.left S.faults input.old input.new)
+    ensures decided { BytesDecide (asked words.now) (change_of S.left S.faults input.old input.new)
         (change_of W.written W.faults output.old output.new) result.fault }
 
     // What is left as it was.
-    ensures input { IsErr (command_of (map string_bytes words.now)) → input.new ≡ input.old }
+    ensures input { IsErr (asked words.now) → input.new ≡ input.old }
     ensures output { IfSome result.fault (λ fault.
         fault ≢ Fault.WriteFault → output.new ≡ output.old) }
     ensures errors { IfNone result.fault (errors.new ≡ errors.old) }
@@ -60,10 +58,9 @@ fn carry_out<S: Source, W: Sink>(
     input: &mut S,
     output: &mut W,
 ) -> Option<Fault>
-    ensures answers { Answers (command_of (map string_bytes words.now))
-        (change_of S.left S.faults input.old input.new)
+    ensures answers { Answers (asked words.now) (change_of S.left S.faults input.old input.new)
         (change_of W.written W.faults output.old output.new) result }
-    ensures input { IsErr (command_of (map string_bytes words.now)) → input.new ≡ input.old }
+    ensures input { IsErr (asked words.now) → input.new ≡ input.old }
     ensures output { IfSome result (λ fault. fault ≢ Fault.WriteFault → output.new ≡ output.old) }
 {
     match read_words(words) {

@@ -1,10 +1,10 @@
-ghost use Rattle.std.specs.Prelude.{◌≡◌, ◌≢◌, Some, map, string_bytes, IsErr, IsSome, IfOk, IfErr, IfSome, IfNone, OnErr};
+ghost use Rattle.std.specs.Prelude.{◌≡◌, ◌≢◌, Some, map, string_bytes, IsErr, IsNone, IfOk, IfErr, IfSome, IfNone, OnErr};
 ghost use Rattle.std.specs.Process.{exit_status};
 ghost use Rattle.cal_base.specs.Change.{change_of};
-ghost use Rattle.caliper.specs.Causes.{Answers};
+ghost use Rattle.caliper.specs.Causes.{Answers, BytesDecide};
 ghost use Rattle.caliper.specs.Ends.{Serves, Shows, Tells};
 ghost use Rattle.caliper.specs.Faults.{fault_line, report_of, status_of};
-ghost use Rattle.caliper.specs.Words.{command_of, told_about};
+ghost use Rattle.caliper.specs.Words.{asked, told_about};
 
 use crate::about::{HELP, VERSION};
 use crate::outcome::end;
@@ -21,8 +21,8 @@ pub fn serve<S: Source, W: Sink, E: Sink>(
     output: &mut W,
     errors: &mut E,
 ) -> ExitCode
-    ensures served { IfOk words (λ words. Serves (map string_bytes words.items)
-        (told_about HELP.now VERSION.now (map string_bytes words.items)) (exit_status result)
+    ensures served { IfOk words (λ words. Serves HELP.now VERSION.now words.items
+        (exit_status result)
         (change_of S.left S.faults input.old input.new)
         (change_of W.written W.faults output.old output.new)
         (change_of E.written E.faults errors.old errors.new)) }
@@ -34,7 +34,7 @@ pub fn serve<S: Source, W: Sink, E: Sink>(
     ensures input { OnErr words (input.new ≡ input.old) }
 
     // What is left as it was.
-    ensures unread { IfOk words (λ words. IsErr (command_of (map string_bytes words.items)) →
+    ensures unread { IfOk words (λ words. IsErr (asked words.items) →
         input.new ≡ input.old) }
     ensures output { exit_status result ≢ 0 → exit_status result ≢ 6 → output.new ≡ output.old }
     ensures errors { exit_status result ≡ 0 → errors.new ≡ errors.old }
@@ -57,13 +57,19 @@ fn answer<S: Source, W: Sink, E: Sink>(
     ensures status { result.status ≡ status_of result.fault }
     ensures told { Tells (report_of result.fault)
         (change_of E.written E.faults errors.old errors.new) }
+
+    // The text that is asked for, or else the command.
     ensures shown { IfSome (told_about HELP.now VERSION.now (map string_bytes words.now))
         (λ text. Shows text (change_of W.written W.faults output.old output.new) result.fault) }
-    ensures ran { IfNone (told_about HELP.now VERSION.now (map string_bytes words.now))
-        (Answers (command_of (map string_bytes words.now))
-        (change_of S.left S.faults input.old input.new)
-        (change_of W.written W.faults output.old output.new) result.fault) }
-    ensures input { IsErr (command_of (map string_bytes words.now)) → input.new ≡ input.old }
+    ensures ran { IsNone (told_about HELP.now VERSION.now (map string_bytes words.now)) →
+        Answers (asked words.now) (change_of S.left S.faults input.old input.new)
+        (change_of W.written W.faults output.old output.new) result.fault }
+    ensures decided { IsNone (told_about HELP.now VERSION.now (map string_bytes words.now)) →
+        BytesDecide (asked words.now) (change_of S.left S.faults input.old input.new)
+        (change_of W.written W.faults output.old output.new) result.fault }
+
+    // What is left as it was.
+    ensures input { IsErr (asked words.now) → input.new ≡ input.old }
     ensures output { IfSome result.fault (λ fault.
         fault ≢ Fault.WriteFault → output.new ≡ output.old) }
     ensures errors { IfNone result.fault (errors.new ≡ errors.old) }

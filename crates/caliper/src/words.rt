@@ -1,5 +1,5 @@
-ghost use Rattle.std.specs.Prelude.{◌≡◌, map, string_bytes};
-ghost use Rattle.caliper.specs.Words.{command_of};
+ghost use Rattle.std.specs.Prelude.{◌≡◌};
+ghost use Rattle.caliper.specs.Words.{asked};
 
 /// What the program is asked to do.
 #[derive(Clone, Copy, Debug, PartialEq, Eq)]
@@ -8,10 +8,10 @@ pub enum Command {
     Serial,
 }
 
-/// The command of the words behind the program's name, or the place, from 0, of the first word that breaks the
-/// word rule; where a word is missing, the number of words.
+/// The command of the words behind the program's name, or the place, from 0, of the first word that
+/// breaks the word rule; where a word is missing, the number of words.
 pub fn read_words(words: &[String]) -> Result<Command, u32>
-    ensures { result ≡ command_of (map string_bytes words.now) }
+    ensures { result ≡ asked words.now }
 {
     let Some((command, others)) = words.split_first() else {
         return Err(0);
