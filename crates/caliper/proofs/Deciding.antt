@@ -1,9 +1,9 @@
 -- The bytes of an input decide the answer: they have one first fault or a text, and not both.
-use Rattle.std.proofs.Common.{◌≡◌, ◌≢◌, ℕ, ◌<◌, ◌≤◌, ◌⊎◌, inl, inr, List, ◌++◌, length, length-append, Option, Some, None, IfSome, Result, Ok, Err, refl, sym, ap, subst, arith}
+use Rattle.std.proofs.Common.{◌≡◌, ℕ, ◌<◌, ◌≤◌, ◌⊎◌, inl, inr, List, length, length-append, Option, Some, None, IfSome, Result, Ok, Err, refl, sym, ap, subst, arith}
 use Rattle.std.specs.Option.{IsSomeAnd, IsNone}
 use Rattle.std.proofs.lemmas.Option.{IfSome_then}
 use Rattle.cal_base.specs.Change.{Change, HasFailed}
-use Rattle.cal_base.specs.Told.{Takes, TakesOver}
+use Rattle.cal_base.specs.Told.{TakesOver}
 use Rattle.cal_base.proofs.Taking.{ReadsAll-left}
 use Rattle.cal_script.specs.Lines.{lines_of}
 use Rattle.cal_script.proofs.Runs.{none_from_fault, first_fault_one}
@@ -43,7 +43,7 @@ module _ (command : Command) (bytes : List ℕ) (output : Change) where
     too_long = (λ is. absurd cc, λ over. absurd (omega arith));
     bad_input = λ other others. (
       λ is. let line_is : line ≡ other = cc in let kind_is : kind ≡ others = cc in (within, rw (← line_is, ← kind_is) faulty),
-      λ both. let one = one_fault command bytes line other kind others faulty both.1 in rw (one.0, one.1) refl
+      λ both. let one = one_fault command bytes line other kind others faulty both.1 in rw (one.0, one.1) refl,
     );
     written = λ sound. (λ is. absurd cc, λ both. absurd (fault_and_text command bytes both.1 line kind faulty both.2));
   }
@@ -54,11 +54,11 @@ module _ (command : Command) (bytes : List ℕ) (output : Change) where
     too_long = (λ long. elim which [ inl none ↦ absurd cc | inr failed ↦ absurd (cc failed.0) ], λ over. absurd (omega arith));
     bad_input = λ line kind. (
       λ bad. elim which [ inl none ↦ absurd cc | inr failed ↦ absurd (cc failed.0) ],
-      λ both. absurd (fault_and_text command bytes text line kind both.1 is)
+      λ both. absurd (fault_and_text command bytes text line kind both.1 is),
     );
     written = λ sound. (
       λ none. (within, text, is),
-      λ both. elim which [ inl none ↦ none | inr failed ↦ absurd (sound failed.1) ]
+      λ both. elim which [ inl none ↦ none | inr failed ↦ absurd (sound failed.1) ],
     );
   }
 

@@ -2,7 +2,7 @@
 use Rattle.std.specs.Prelude.{◌≡◌, ◌≢◌, ℕ, ◌<◌, ◌≤◌, ◌↔◌, List, length, Option, None, Some, IfSome, Result, Ok, Err}
 use Rattle.cal_base.specs.Change.{Change, HasFailed}
 use Rattle.cal_base.specs.ReadEnds.{ReadsAll, StopsAt}
-use Rattle.cal_base.specs.Told.{Appends, AppendsFront, TakesUpTo}
+use Rattle.cal_base.specs.Told.{Appends, AppendsFront}
 use Rattle.cal_base.specs.declared.reading.ReadEnd.TheVariants as end
 use Rattle.caliper.specs.Inputs.{IsFaultOf, IsTextOf}
 use Rattle.caliper.specs.declared.fault.Fault as faults

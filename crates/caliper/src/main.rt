@@ -14,25 +14,23 @@ mod report;
 mod run;
 mod serial;
 mod serve;
-mod words;
-
 #[cfg(test)]
 mod tests;
+mod words;
 
 pub use about::about;
 pub use board::Board;
+use cal_base::{StdSink, StdSource};
 pub use fault::{Fault, InputKind};
 pub use outcome::Outcome;
 pub use report::put_fault;
 pub use run::{INPUT_LIMIT, run};
 pub use serial::serial_text;
 pub use serve::serve;
-pub use words::{Command, read_words};
-
-use cal_base::{StdSink, StdSource};
 use std::io;
 use std::process::ExitCode;
 use std::rt::Env;
+pub use words::{Command, read_words};
 
 /// Lends the standard streams.
 fn main(rt: HostRuntime) -> ExitCode {

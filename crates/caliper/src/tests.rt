@@ -1,8 +1,9 @@
-use crate::{Fault, Outcome, put_fault, run};
+use crate::about::{HELP, VERSION};
+use crate::{Fault, Outcome, put_fault, run, serve};
 use cal_base::{MemSink, MemSource};
 use cal_value::Seq;
 use std::alloc::Global;
-use std::process::Abort;
+use std::process::{Abort, ExitCode};
 use std::test::Fail;
 
 const FIRST: &str = "\
@@ -71,6 +72,19 @@ struct Ran {
     errors: MemSink,
 }
 
+fn texts(alloc: Global, words: &[&str]) -> Result<Vec<String>, Fail> {
+    let mut texts = Vec::new(alloc);
+    for word in words {
+        texts.push(String::from_str(alloc, word)?)?;
+    }
+    Ok(texts)
+}
+
+fn source(alloc: Global, script: &str, failing: Seq<u64>) -> Result<MemSource, Fail> {
+    let bytes = Seq::from_vec(Vec::from_slice(alloc, script.as_bytes())?);
+    Ok(MemSource::new(bytes, failing))
+}
+
 /// A call over streams in memory, some of whose calls are to fail.
 fn call(
     alloc: Global,
@@ -80,15 +94,11 @@ fn call(
     mut output: MemSink,
     mut errors: MemSink,
 ) -> Result<Ran, Fail> {
-    let mut texts = Vec::new(alloc);
-    for word in words {
-        texts.push(String::from_str(alloc, word)?)?;
-    }
-    let bytes = Seq::from_vec(Vec::from_slice(alloc, script.as_bytes())?);
-    let mut input = MemSource::new(bytes, reads);
+    let words = texts(alloc, words)?;
+    let mut input = source(alloc, script, reads)?;
     let outcome = run(
         alloc,
-        texts.as_slice(),
+        words.as_slice(),
         &mut input,
         &mut output,
         &mut errors,
@@ -302,4 +312,53 @@ fn each_fault_has_its_line(rt: HostRuntime) -> Result<(), Fail> {
         assert_eq!(rt; errors.bytes(), line.as_bytes());
     }
     Ok(())
+}
+
+/// Serves these words over the first script, and asserts what that leaves.
+fn assert_served(
+    rt: &(impl Abort + AllocGlobal),
+    words: Result<Vec<String>, Fault>,
+    room: u64,
+    status: u8,
+    text: &str,
+    told: &str,
+) -> Result<(), Fail> {
+    let alloc = rt.alloc();
+    let mut input = source(alloc, FIRST, Seq::new(alloc))?;
+    let mut output = sink(alloc, room)?;
+    let mut errors = sink(alloc, 100)?;
+    let code = serve(alloc, words, &mut input, &mut output, &mut errors);
+    assert_eq!(rt; code, ExitCode::from(status));
+    assert_eq!(rt; output.bytes(), text.as_bytes());
+    assert_eq!(rt; errors.bytes(), told.as_bytes());
+    Ok(())
+}
+
+#[test]
+fn words_are_served(rt: HostRuntime) -> Result<(), Fail> {
+    let rows = [
+        ("--help", HELP, 0, ""),
+        ("--version", VERSION, 0, ""),
+        ("serial", FIRST_TEXT, 0, ""),
+        ("replay", "", 2, "caliper: usage: word 1\n"),
+    ];
+    for (word, text, status, told) in rows {
+        let words = texts(rt.alloc(), &[word])?;
+        assert_served(&rt, Ok(words), 1000, status, text, told)?;
+    }
+    Ok(())
+}
+
+#[test]
+fn a_help_that_fails_is_told(rt: HostRuntime) -> Result<(), Fail> {
+    let words = texts(rt.alloc(), &["--help"])?;
+    assert_served(&rt, Ok(words), 8, 6, "caliper:", "caliper: write failed\n")
+}
+
+#[test]
+fn words_that_could_not_be_read_are_told(rt: HostRuntime) -> Result<(), Fail> {
+    let faulty = Err(Fault::Usage { word: 0 });
+    assert_served(&rt, faulty, 10, 2, "", "caliper: usage: word 1\n")?;
+    let refused = Err(Fault::OutOfMemory);
+    assert_served(&rt, refused, 10, 7, "", "caliper: out of memory\n")
 }
