@@ -1,4 +1,5 @@
 use Rattle.std.proofs.Common.{◌≡◌, ℕ, ◌+◌, ◌<◌, ◌≤◌, List, ◌++◌, length, Option, None, Some, IfSome, Result, Ok, Err, IfOk, IsErr, Vec, Global, refl, sym, ap, ◌∙◌, append_assoc, append-nil, length-append, arith}
+use Rattle.std.proofs.lemmas.Option.{IfSome_then}
 use Rattle.std.specs.Io.KnownBytes.{IsAtEnd}
 use Rattle.cal_base.specs.declared.reading.ReadEnd.{ReadEnd}
 use Rattle.cal_base.specs.Change.{Change}
@@ -6,7 +7,8 @@ use Rattle.cal_base.specs.ReadEnds.{ReadsAll}
 use Rattle.cal_base.specs.Told.{Takes, TakesUpTo, TakesOver}
 
 -- what was taken first, and then more
-pub Takes-append : (a b c : Option (List ℕ)) (xs ys : List ℕ) → Takes a b xs → Takes b c ys → Takes a c (xs ++ ys)
+pub Takes-append : (a b c : Option (List ℕ)) (xs ys : List ℕ) → Takes a b xs → Takes b c ys
+    → Takes a c (xs ++ ys)
 Takes-append None None None xs ys first then = tt
 Takes-append None None (Some c) xs ys first then = then
 Takes-append None (Some b) c xs ys first then = absurd first
@@ -16,32 +18,38 @@ Takes-append (Some a) (Some b) (Some c) xs ys first then =
     first ∙ ap (λ rest. xs ++ rest) then ∙ sym (append_assoc xs ys c)
 
 -- so many bytes, first and then
-pub TakesUpTo-read : (limit : ℕ) (a b c : Option (List ℕ)) (xs ys : List ℕ) → Takes a b xs → Takes b c ys → length xs + length ys ≤ limit → TakesUpTo limit a c
+pub TakesUpTo-read : (limit : ℕ) (a b c : Option (List ℕ)) (xs ys : List ℕ) → Takes a b xs
+    → Takes b c ys → length xs + length ys ≤ limit → TakesUpTo limit a c
 TakesUpTo-read limit a b c xs ys first then within =
     (xs ++ ys, omega (arith, length-append xs ys), Takes-append a b c xs ys first then)
 
-pub TakesOver-read : (limit : ℕ) (a b c : Option (List ℕ)) (xs ys : List ℕ) → Takes a b xs → Takes b c ys → limit < length xs + length ys → TakesOver limit a c
+pub TakesOver-read : (limit : ℕ) (a b c : Option (List ℕ)) (xs ys : List ℕ) → Takes a b xs
+    → Takes b c ys → limit < length xs + length ys → TakesOver limit a c
 TakesOver-read limit a b c xs ys first then over =
     (xs ++ ys, omega (arith, length-append xs ys), Takes-append a b c xs ys first then)
 
 -- what was taken to the end was all that was left
-Takes-left : (old new : Option (List ℕ)) (bytes : List ℕ) → Takes old new bytes → IsAtEnd new → IfSome old (λ left. left ≡ bytes)
+Takes-left : (old new : Option (List ℕ)) (bytes : List ℕ) → Takes old new bytes → IsAtEnd new
+    → IfSome old (λ left. left ≡ bytes)
 Takes-left None new bytes taken ended = tt
 Takes-left (Some old) None bytes taken ended = absurd taken
-Takes-left (Some old) (Some new) bytes taken ended = taken ∙ ap (λ rest. bytes ++ rest) ended ∙ append-nil bytes
+Takes-left (Some old) (Some new) bytes taken ended =
+    taken ∙ ap (λ rest. bytes ++ rest) ended ∙ append-nil bytes
 
-pub ReadsAll-left : (limit : ℕ) (input : Change) (bytes : List ℕ) → ReadsAll limit input bytes → IfSome input.old (λ left. left ≡ bytes)
+pub ReadsAll-left : (limit : ℕ) (input : Change) (bytes : List ℕ) → ReadsAll limit input bytes
+    → IfSome input.old (λ left. left ≡ bytes)
 ReadsAll-left limit input bytes reads = Takes-left input.old input.new bytes reads.taken reads.ended
 
--- what is longer than the limit isn't given whole
-more_refused : (limit : ℕ) (old : Option (List ℕ)) (bytes : List ℕ) → IfSome old (λ left. left ≡ bytes) → length bytes ≤ limit → IfSome old (λ left. limit < length left → ⊥)
-more_refused limit None bytes left within = tt
-more_refused limit (Some old) bytes left within = λ over. omega (arith, ap length left)
+every_left : (old : Option (List ℕ)) {P : List ℕ → Type 0} → ((left : List ℕ) → P left)
+    → IfSome old P
+every_left None p = tt
+every_left (Some left) p = p left
 
-pub ReadsAll-refused : (limit : ℕ) (input : Change) (given : Result (Vec ℕ Global) ReadEnd) → IfOk given (λ bytes. ReadsAll limit input bytes.items) → IfSome input.old (λ left. limit < length left → IsErr given)
+-- what is longer than the limit isn't given whole
+pub ReadsAll-refused : (limit : ℕ) (input : Change) (given : Result (Vec ℕ Global) ReadEnd)
+    → IfOk given (λ bytes. ReadsAll limit input bytes.items)
+    → IfSome input.old (λ left. limit < length left → IsErr given)
 ReadsAll-refused limit input (Ok bytes) reads =
-    elim input.old as (λ (old : Option (List ℕ)). IfSome old (λ left. left ≡ bytes.items) → IfSome old (λ left. limit < length left → IsErr {E = ReadEnd} (Ok bytes))) [
-      | None ↦ λ left. tt
-      | Some old ↦ λ left over. absurd (more_refused limit (Some old) bytes.items left reads.within over)
-    ] (ReadsAll-left limit input bytes.items reads)
-ReadsAll-refused limit input (Err e) reads = elim input.old as (λ (old : Option (List ℕ)). IfSome old (λ left. limit < length left → IsErr {T = Vec ℕ Global} (Err e))) [ None ↦ tt | Some old ↦ λ over. refl ]
+    IfSome_then input.old (ReadsAll-left limit input bytes.items reads) (λ left same over.
+    absurd (omega (arith, ap length same, reads.within)))
+ReadsAll-refused limit input (Err e) reads = every_left input.old (λ left over. refl)

@@ -2,8 +2,8 @@
 use Rattle.std.specs.Prelude.{ℕ, List, Option}
 use Rattle.cal_base.specs.Faults.{Rose}
 
--- The bytes that a stream tells, left in a source or written to a sink, and its count of faults: before
--- the call and after it (ours).
+-- The bytes that a stream tells, left in a source or written to a sink, and its count of faults:
+-- before the call and after it (ours).
 pub record Change : Type 0 where
   pub old : Option (List ℕ)
   pub new : Option (List ℕ)
@@ -11,7 +11,8 @@ pub record Change : Type 0 where
   pub faults_now : ℕ
 
 -- the change of a stream, of what it tells and of how it counts
-abbrev pub change_of : {Stream : Type 0} → (Stream → Option (List ℕ)) → (Stream → ℕ) → Stream → Stream → Change
+abbrev pub change_of : {Stream : Type 0} → (Stream → Option (List ℕ)) → (Stream → ℕ)
+    → Stream → Stream → Change
 change_of told faults old new = record {
   old = told old;
   new = told new;

@@ -1,5 +1,5 @@
--- What a source tells of the bytes left, and a sink of the bytes written, is an `Option`: none where
--- it tells nothing. Who tells once tells always, and who doesn't never does.
+-- What a source tells of the bytes left, and a sink of the bytes written, is an `Option`: none
+-- where it tells nothing. Who tells once tells always, and who doesn't never does.
 use Rattle.std.specs.Prelude.{◌≡◌, ℕ, ◌<◌, ◌≤◌, List, ◌++◌, length, take, ⊤, None, Some, Option}
 
 -- these bytes were at the front of what was left, and are taken away

@@ -1,8 +1,8 @@
 //! Sources and sinks of bytes, which count their faults, and reading one to its end.
 //!
 //! The layers above use that `read_all` gives exactly the bytes that were left, and that a fault is
-//! answered only where a count of faults rose. Over std's readers and writers nothing is promised of
-//! which bytes come or go beyond what std's own contracts say.
+//! answered only where a count of faults rose. Over std's readers and writers nothing is promised
+//! of which bytes come or go beyond what std's own contracts say.
 #![tactic(auto)]
 
 mod calls;

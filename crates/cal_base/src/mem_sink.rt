@@ -35,8 +35,8 @@ impl Model for MemSink {
 }
 
 impl MemSink {
-    /// A sink for at most so many bytes, for which it takes the room now. The calls whose numbers are
-    /// listed fail, counted from 1.
+    /// A sink for at most so many bytes, for which it takes the room now. The calls whose numbers
+    /// are listed fail, counted from 1.
     pub fn new(alloc: Global, room: u64, failing: Seq<u64>) -> Result<Self, OutOfMemory>
         ensures { IfOk result (λ sink. sink
             ≡ record { written = []; room = room; failing = failing; calls = 0; faults = 0 }) }

@@ -34,8 +34,8 @@ impl Model for MemSource {
 }
 
 impl MemSource {
-    /// A source of these bytes. The calls whose numbers are listed fail, counted from 1. It takes no
-    /// memory.
+    /// A source of these bytes. The calls whose numbers are listed fail, counted from 1. It takes
+    /// no memory.
     pub fn new(bytes: Seq<u8>, failing: Seq<u64>) -> Self
         ensures { result ≡ record { left = bytes; failing = failing; calls = 0; faults = 0 } }
     {

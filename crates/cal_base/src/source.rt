@@ -14,8 +14,8 @@ pub trait Source {
     /// The count of faults.
     ghost faults: { Self → ℕ };
 
-    /// Moves the next bytes to the front of the buffer, and answers how many: none only at the end. What
-    /// stands in the buffer behind them is left open, and after a refusal the whole buffer is.
+    /// Moves the next bytes to the front of the buffer, and answers how many: none only at the end.
+    /// What stands in the buffer behind them is left open, and after a refusal the whole buffer is.
     fn read(&mut self, buf: &mut [u8]) -> Result<usize, Failed>
         requires { 0 < length buf.old }
         ensures bound { ReadsAtMost result buf.new }

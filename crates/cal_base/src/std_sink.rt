@@ -5,8 +5,8 @@ ghost use Rattle.cal_base.specs.Standard.{GrowsByFront};
 use crate::{Failed, Sink};
 use std::io::{ErrorKind, Write};
 
-/// A sink over a writer of std. It counts a fault at each `Err`, save where a signal interrupts a write,
-/// and where a write takes nothing of a piece. It tells nothing of the bytes written.
+/// A sink over a writer of std. It counts a fault at each `Err`, save where a signal interrupts a
+/// write, and where a write takes nothing of a piece. It tells nothing of the bytes written.
 #[derive(Drop)]
 pub struct StdSink<W> {
     writer: W,
@@ -61,8 +61,8 @@ fn write_whole<W: Write>(writer: &mut W, bytes: &[u8]) -> Result<(), Failed>
     writer.flush().map_err(|_| Failed)
 }
 
-/// Writes all of a piece. A write is tried again where a signal interrupts it, and there are at most
-/// 2^64 - 1 of them.
+/// Writes all of a piece. A write is tried again where a signal interrupts it, and there are at
+/// most 2^64 - 1 of them.
 fn write_retrying<W: Write>(writer: &mut W, bytes: &[u8]) -> Result<(), Failed>
     ensures ok { OnOk result (Appends (W.contents writer.old) (W.contents writer.new) bytes.now) }
     ensures front { OnErr result (GrowsByFront (W.contents writer.old)

@@ -5,8 +5,8 @@ ghost use Rattle.std.specs.Io.KnownBytes.{ReadConsumes};
 use crate::{Failed, Source};
 use std::io::{ErrorKind, Read};
 
-/// A source over a reader of std. It counts a fault at each `Err`, save where a signal interrupts it,
-/// and tells nothing of the bytes left.
+/// A source over a reader of std. It counts a fault at each `Err`, save where a signal interrupts
+/// it, and tells nothing of the bytes left.
 #[derive(Drop)]
 pub struct StdSource<R> {
     reader: R,

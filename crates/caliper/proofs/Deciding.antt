@@ -20,11 +20,15 @@ none_and_some None P none some = some
 none_and_some (Some x) P none some = absurd cc
 
 -- bytes with a text have no first fault
-fault_and_text : (command : Command) (bytes text : List ℕ) (line : ℕ) (kind : InputKind) → IsFaultOf command bytes line kind → IsTextOf command bytes text → ⊥
-fault_and_text Serial bytes text line kind faulty is = none_and_some _ _ (none_from_fault (lines_of bytes) line faulty.0) is
+fault_and_text : (command : Command) (bytes text : List ℕ) (line : ℕ) (kind : InputKind)
+    → IsFaultOf command bytes line kind → IsTextOf command bytes text → ⊥
+fault_and_text Serial bytes text line kind faulty is =
+    none_and_some _ _ (none_from_fault (lines_of bytes) line faulty.0) is
 
 -- bytes have one first fault
-one_fault : (command : Command) (bytes : List ℕ) (line other : ℕ) (kind others : InputKind) → IsFaultOf command bytes line kind → IsFaultOf command bytes other others → (line ≡ other) × (kind ≡ others)
+one_fault : (command : Command) (bytes : List ℕ) (line other : ℕ) (kind others : InputKind)
+    → IsFaultOf command bytes line kind → IsFaultOf command bytes other others → (line ≡ other)
+    × (kind ≡ others)
 one_fault Serial bytes line other kind others faulty also =
     (first_fault_one (lines_of bytes) line other faulty.0 also.0, cc (faulty.1, also.1))
 
@@ -38,20 +42,34 @@ module _ (command : Command) (bytes : List ℕ) (output : Change) where
   }
 
   -- a first fault
-  due_fault : (line : ℕ) (kind : InputKind) → length bytes ≤ input_limit → IsFaultOf command bytes line kind → IsDue command bytes output (Some (fault.BadInput line kind))
+  due_fault : (line : ℕ) (kind : InputKind) → length bytes ≤ input_limit
+      → IsFaultOf command bytes line kind
+      → IsDue command bytes output (Some (fault.BadInput line kind))
   due_fault line kind within faulty = record {
     too_long = (λ is. absurd cc, λ over. absurd (omega arith));
     bad_input = λ other others. (
-      λ is. let line_is : line ≡ other = cc in let kind_is : kind ≡ others = cc in (within, rw (← line_is, ← kind_is) faulty),
-      λ both. let one = one_fault command bytes line other kind others faulty both.1 in rw (one.0, one.1) refl,
+      λ is.
+          let line_is : line ≡ other = cc in
+          let kind_is : kind ≡ others = cc in (within, rw (← line_is, ← kind_is) faulty),
+      λ both.
+          let one = one_fault command bytes line other kind others faulty both.1 in
+          rw (one.0, one.1) refl,
     );
-    written = λ sound. (λ is. absurd cc, λ both. absurd (fault_and_text command bytes both.1 line kind faulty both.2));
+    written = λ sound. (
+      λ is. absurd cc,
+      λ both. absurd (fault_and_text command bytes both.1 line kind faulty both.2),
+    );
   }
 
   -- a text
-  due_text : (answer : Option faults.Fault) (text : List ℕ) → (answer ≡ None) ⊎ ((answer ≡ Some fault.WriteFault) × HasFailed output) → length bytes ≤ input_limit → IsTextOf command bytes text → IsDue command bytes output answer
+  due_text : (answer : Option faults.Fault) (text : List ℕ)
+      → (answer ≡ None) ⊎ ((answer ≡ Some fault.WriteFault) × HasFailed output)
+      → length bytes ≤ input_limit → IsTextOf command bytes text → IsDue command bytes output answer
   due_text answer text which within is = record {
-    too_long = (λ long. elim which [ inl none ↦ absurd cc | inr failed ↦ absurd (cc failed.0) ], λ over. absurd (omega arith));
+    too_long = (
+      λ long. elim which [ inl none ↦ absurd cc | inr failed ↦ absurd (cc failed.0) ],
+      λ over. absurd (omega arith),
+    );
     bad_input = λ line kind. (
       λ bad. elim which [ inl none ↦ absurd cc | inr failed ↦ absurd (cc failed.0) ],
       λ both. absurd (fault_and_text command bytes text line kind both.1 is),
@@ -63,28 +81,39 @@ module _ (command : Command) (bytes : List ℕ) (output : Change) where
   }
 
 -- what was taken beyond the limit was left before
-left_over : (limit : ℕ) (old new : Option (List ℕ)) → TakesOver limit old new → IfSome old (λ left. limit < length left)
+left_over : (limit : ℕ) (old new : Option (List ℕ)) → TakesOver limit old new
+    → IfSome old (λ left. limit < length left)
 left_over limit None new taken = tt
 left_over limit (Some old) None taken = absurd taken.2
-left_over limit (Some old) (Some new) taken = omega (arith, taken.1, ap length taken.2, length-append taken.0 new)
+left_over limit (Some old) (Some new) taken =
+    omega (arith, taken.1, ap length taken.2, length-append taken.0 new)
 
 -- what holds of the bytes that were read holds of those that were left
-of_the_left : (input : Change) (P Q : List ℕ → Type 0) → ReadsInput input P → ((bytes : List ℕ) → length bytes ≤ input_limit → P bytes → Q bytes) → IfSome input.old Q
+of_the_left : (input : Change) (P Q : List ℕ → Type 0) → ReadsInput input P
+    → ((bytes : List ℕ) → length bytes ≤ input_limit → P bytes → Q bytes) → IfSome input.old Q
 of_the_left input P Q reads then =
     IfSome_then input.old (ReadsAll-left input_limit input reads.0 reads.1) (λ left same.
     subst Q (sym same) (then reads.0 reads.1.within reads.2))
 
 -- what is answered is what the bytes call for
-pub answers_decide : (asked : Result Command ℕ) (input output : Change) (answer : Option faults.Fault) → Answers asked input output answer → BytesDecide asked input output answer
+pub answers_decide : (asked : Result Command ℕ) (input output : Change)
+    (answer : Option faults.Fault) → Answers asked input output answer
+    → BytesDecide asked input output answer
 answers_decide (Err place) input output answer given = tt
 answers_decide (Ok command) input output None given = λ sound memory.
-    of_the_left input _ _ given (λ bytes within written. due_text command bytes output None written.0 (inl refl) within written.1)
+    of_the_left input _ _ given (λ bytes within written.
+    due_text command bytes output None written.0 (inl refl) within written.1)
 answers_decide (Ok command) input output (Some (fault.Usage word)) given = absurd given
 answers_decide (Ok command) input output (Some (fault.BadInput line kind)) given = λ sound memory.
-    of_the_left input _ _ given (λ bytes within faulty. due_fault command bytes output line kind within faulty)
-answers_decide (Ok command) input output (Some fault.ReadFault) given = λ sound memory. absurd (sound given.0)
+    of_the_left input _ _ given (λ bytes within faulty.
+    due_fault command bytes output line kind within faulty)
+answers_decide (Ok command) input output (Some fault.ReadFault) given =
+    λ sound memory. absurd (sound given.0)
 answers_decide (Ok command) input output (Some fault.WriteFault) given = λ sound memory.
-    of_the_left input _ _ given.1 (λ bytes within written. due_text command bytes output _ written.0 (inr (refl, given.0)) within written.1)
-answers_decide (Ok command) input output (Some fault.OutOfMemory) given = λ sound memory. absurd (memory refl)
+    of_the_left input _ _ given.1 (λ bytes within written.
+    due_text command bytes output _ written.0 (inr (refl, given.0)) within written.1)
+answers_decide (Ok command) input output (Some fault.OutOfMemory) given =
+    λ sound memory. absurd (memory refl)
 answers_decide (Ok command) input output (Some fault.TooLong) given = λ sound memory.
-    IfSome_then input.old (left_over input_limit input.old input.new given) (λ left over. due_over command left output over)
+    IfSome_then input.old (left_over input_limit input.old input.new given) (λ left over.
+    due_over command left output over)

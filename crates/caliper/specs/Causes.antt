@@ -28,33 +28,47 @@ abbrev pub WritesFront : Command → Change → Change → Type 0
 WritesFront command input output = ReadsInput input (λ bytes.
     (text : List ℕ) × IsTextOf command bytes text × AppendsFront output.old output.new text)
 
--- Which fault of a command has which cause (ours). The words of a command are no fault, and want of
--- memory has no cause but that the input is no longer than the limit so far.
+-- Which fault has which cause, where the words ask for a command (ours). So none is Usage; and of want
+-- of memory it says only that no more than the limit was read.
 abbrev pub Causes : Command → Change → Change → faults.Fault → Type 0
 Causes command input output (fault.Usage word) = ⊥
-Causes command input output (fault.BadInput line kind) = ReadsInput input (λ bytes. IsFaultOf command bytes line kind)
+Causes command input output (fault.BadInput line kind) =
+    ReadsInput input (λ bytes. IsFaultOf command bytes line kind)
 Causes command input output fault.ReadFault = StopsAt end.ReadFault input_limit input
 Causes command input output fault.WriteFault = HasFailed output × WritesFront command input output
 Causes command input output fault.OutOfMemory = StopsAt end.OutOfMemory input_limit input
 Causes command input output fault.TooLong = StopsAt end.TooLong input_limit input
 
--- What is answered to words that ask for a command, or break the word rule at a place: that place; and
--- else nothing where the text was written whole, or a fault that has its cause.
+-- What is answered: to words that break the word rule at a place, that place; to a command, nothing
+-- where the text was written whole, and else a fault that has its cause.
 abbrev pub Answers : Result Command ℕ → Change → Change → Option faults.Fault → Type 0
 Answers (Err place) input output answer = answer ≡ Some (fault.Usage place)
 Answers (Ok command) input output None = Writes command input output
 Answers (Ok command) input output (Some f) = Causes command input output f
 
--- The answer is the one that these bytes call for: too many of them, their first fault, or their text,
+-- the bytes are within the limit, and have this first fault
+abbrev pub HasFault : Command → List ℕ → ℕ → InputKind → Type 0
+HasFault command bytes line kind =
+    (length bytes ≤ input_limit) × IsFaultOf command bytes line kind
+
+-- the bytes are within the limit, and have a text
+abbrev pub HasText : Command → List ℕ → Type 0
+HasText command bytes =
+    (length bytes ≤ input_limit) × (text : List ℕ) × IsTextOf command bytes text
+
+-- The answer is the one that these bytes call for: they are too many, or have a first fault, or a text,
 -- which is written whole unless the output fails.
-pub record IsDue (command : Command) (bytes : List ℕ) (output : Change) (answer : Option faults.Fault) : Type 0 where
+pub record IsDue (command : Command) (bytes : List ℕ) (output : Change)
+    (answer : Option faults.Fault) : Type 0 where
   pub too_long : (answer ≡ Some fault.TooLong) ↔ (input_limit < length bytes)
-  pub bad_input : (line : ℕ) (kind : InputKind) → (answer ≡ Some (fault.BadInput line kind)) ↔ ((length bytes ≤ input_limit) × IsFaultOf command bytes line kind)
-  pub written : (HasFailed output → ⊥) → (answer ≡ None) ↔ ((length bytes ≤ input_limit) × (text : List ℕ) × IsTextOf command bytes text)
+  pub bad_input : (line : ℕ) (kind : InputKind)
+      → (answer ≡ Some (fault.BadInput line kind)) ↔ HasFault command bytes line kind
+  pub written : (HasFailed output → ⊥) → (answer ≡ None) ↔ HasText command bytes
 
 -- Where a command is asked for, the input doesn't fail and memory doesn't run out, the bytes of an
 -- input that tells them decide the answer.
 abbrev pub BytesDecide : Result Command ℕ → Change → Change → Option faults.Fault → Type 0
 BytesDecide (Err place) input output answer = Unit {0}
 BytesDecide (Ok command) input output answer =
-    (HasFailed input → ⊥) → answer ≢ Some fault.OutOfMemory → IfSome input.old (λ bytes. IsDue command bytes output answer)
+    (HasFailed input → ⊥) → answer ≢ Some fault.OutOfMemory
+    → IfSome input.old (λ bytes. IsDue command bytes output answer)

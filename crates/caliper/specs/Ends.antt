@@ -18,14 +18,19 @@ pub record Tells (text : List ℕ) (stream : Change) : Type 0 where
 -- A text for people was put behind what the output has: whole, or the output failed.
 abbrev pub Shows : List ℕ → Change → Option faults.Fault → Type 0
 Shows text output None = Appends output.old output.new text
-Shows text output (Some f) = (f ≡ WriteFault) × HasFailed output × AppendsFront output.old output.new text
+Shows text output (Some f) =
+    (f ≡ WriteFault) × HasFailed output × AppendsFront output.old output.new text
 
--- The program ends with the status of an answer, whose line it tells: it shows the help or the version
--- where the words ask for one of these texts, and else answers them as a command.
-pub record Serves (help version : List ℕ) (words : List (String Global)) (status : ℕ) (input output errors : Change) : Type 0 where
+-- The program ends with the status of an answer, whose line it tells: it shows the help or the
+-- version where the words ask for one of these texts, and else answers them as a command.
+pub record Serves (help version : List ℕ) (words : List (String Global)) (status : ℕ)
+    (input output errors : Change) : Type 0 where
   pub answer : Option faults.Fault
   pub meant : status ≡ status_of answer
   pub told : Tells (report_of answer) errors
-  pub shown : IfSome (told_about help version (map string_bytes words)) (λ text. Shows text output answer)
-  pub ran : IsNone (told_about help version (map string_bytes words)) → Answers (asked words) input output answer
-  pub decided : IsNone (told_about help version (map string_bytes words)) → BytesDecide (asked words) input output answer
+  pub shown : IfSome (told_about help version (map string_bytes words)) (λ text.
+      Shows text output answer)
+  pub ran : IsNone (told_about help version (map string_bytes words))
+      → Answers (asked words) input output answer
+  pub decided : IsNone (told_about help version (map string_bytes words))
+      → BytesDecide (asked words) input output answer

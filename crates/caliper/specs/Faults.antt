@@ -13,7 +13,8 @@ input_kind_name (Script kind) = kind_name kind
 -- what a fault is told as: a place among the words counts from 1 there
 abbrev pub message_of : faults.Fault → List ℕ
 message_of (fault.Usage word) = codes "usage: word " ++ decimal (word + 1)
-message_of (fault.BadInput line kind) = codes "line " ++ decimal line ++ codes ": " ++ input_kind_name kind
+message_of (fault.BadInput line kind) =
+    codes "line " ++ decimal line ++ codes ": " ++ input_kind_name kind
 message_of fault.ReadFault = codes "read failed"
 message_of fault.WriteFault = codes "write failed"
 message_of fault.OutOfMemory = codes "out of memory"

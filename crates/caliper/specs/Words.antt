@@ -9,8 +9,8 @@ abbrev pub alone : Command → List (List ℕ) → Result Command ℕ
 alone command [] = Ok command
 alone command (word ∷ words) = Err 1
 
--- What a command line asks for (ours): the word `serial`, alone. Otherwise the place, from 0, of the
--- first word that breaks this rule, or the number of words where one is missing.
+-- What a command line asks for (ours): the word `serial`, alone. Otherwise the place, from 0, of
+-- the first word that breaks this rule, or the number of words where one is missing.
 abbrev pub command_of : List (List ℕ) → Result Command ℕ
 command_of [] = Err 0
 command_of (word ∷ words) = if bytes_eq word (codes "serial") then alone Serial words else Err 0

@@ -16,8 +16,8 @@ A fault is told on standard error, and by the status. The guide is the README of
 docs/FORMATS.md there has the scripts, the streams and the faults.
 ";
 
-/// What `--version` tells: the version, and the logic by which the proofs were checked. Kits of the toolchain with
-/// other names may share it.
+/// What `--version` tells: the version, and the logic by which the proofs were checked. Kits of the
+/// toolchain with other names may share it.
 pub const VERSION: &str = "\
 caliper 0.1.0
 proved with Rattle, logic dac8208d650f15bf

@@ -6,8 +6,8 @@ use cal_script::ScriptKind;
 /// Why a call wrote less than it was asked for.
 #[derive(Clone, Copy, Debug, PartialEq, Eq)]
 pub enum Fault {
-    /// The words break the word rule: the place, from 0, of the first that does, or the number of words where one
-    /// is missing.
+    /// The words break the word rule: the place, from 0, of the first that does, or the number of
+    /// words where one is missing.
     Usage { word: u32 },
     /// The input's first fault. All its lines are counted, from 1.
     BadInput { line: u64, kind: InputKind },

@@ -1,9 +1,9 @@
 //! The program `caliper`: its top call `run`, and the words, faults and texts that a person meets.
 //!
 //! What stands on `run` is the promise of the whole program: with status 0 the output has grown by
-//! exactly the text of the records of the script that the input holds, and every other status has its
-//! cause. What standard input holds, and where standard output leads, no contract can say: `main` only
-//! lends them to `serve`.
+//! exactly the text of the records of the script that the input holds, and every other status has
+//! its cause. What standard input holds, and where standard output leads, no contract can say:
+//! `main` only lends them to `serve`.
 #![tactic(auto)]
 
 mod about;
@@ -46,7 +46,8 @@ fn main(rt: HostRuntime) -> ExitCode {
     )
 }
 
-/// The words behind the program's name. A command line that the system can't give as text is a faulty one.
+/// The words behind the program's name. A command line that the system can't give as text is a
+/// faulty one.
 fn words_of(rt: &(impl Env + AllocGlobal)) -> Result<Vec<String>, Fault> {
     let mut words = Vec::new(rt.alloc());
     let args = std::env::args(rt).map_err(|error| match error.kind() {

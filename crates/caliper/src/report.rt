@@ -12,7 +12,8 @@ use itoa::Buffer;
 /// A line on standard error, of at most 96 bytes.
 type Line = ArrayString<96>;
 
-/// Puts the line that tells of a fault. It takes no memory, and a sink that fails changes nothing else.
+/// Puts the line that tells of a fault. It takes no memory, and a sink that fails changes nothing
+/// else.
 pub fn put_fault<E: Sink>(errors: &mut E, fault: &Fault)
     ensures { Tells (fault_line fault.now)
         (change_of E.written E.faults errors.old errors.new) }

@@ -18,10 +18,10 @@ use std::alloc::Global;
 pub const INPUT_LIMIT: u64 = 268_435_456;
 
 /// Does what the words ask for. It reads the input to its end, makes the whole text, and only then
-/// writes it on the output; where it does less, the fault says why, and its line is put on `errors`.
-/// What is asked first is refused first: the words, then reading, then the script, then writing; memory
-/// may be refused at any point before the first byte is written. It takes time in the bytes of the
-/// script and the text, and in the lengths of the paths of the snapshots.
+/// writes it on the output; where it does less, the fault says why, and its line is put on
+/// `errors`. What is asked first is refused first: the words, then reading, then the script, then
+/// writing; memory may be refused at any point before the first byte is written. It takes time in
+/// the bytes of the script and the text, and in the lengths of the paths of the snapshots.
 pub fn run<S: Source, W: Sink, E: Sink>(
     alloc: Global,
     words: &[String],

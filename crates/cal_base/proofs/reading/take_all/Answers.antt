@@ -10,9 +10,12 @@ returns-then-count-limit-clause-refused g c =
     TakesOver-read _ _ _ _ _ _ c.loop-taken.invariant.taken c.in_ok-count.ensures.taken
     (omega (arith, now, c.loop-taken.taken.ok.0, c.in_ok-count.ensures.bound))
 
-pub returns-in_err-extend_from_slice-clause-refused : goal.returns-in_err-extend_from_slice-clause-refused
+pub returns-in_err-extend_from_slice-clause-refused :
+    goal.returns-in_err-extend_from_slice-clause-refused
 returns-in_err-extend_from_slice-clause-refused g c =
-    let p = err_from_is_err_and c.from_residual-in_err-extend_from_slice.result c.from_residual-in_err-extend_from_slice.ensures.1 in
+    let gone = c.from_residual-in_err-extend_from_slice in
+    let p = err_from_is_err_and gone.result gone.ensures.1 in
     let now = length-take c.in_ok-count.count c.read.new.buf in
-    rw (p.1, p.2) (TakesUpTo-read _ _ _ _ _ _ c.loop-taken.invariant.taken c.in_ok-count.ensures.taken
+    rw (p.1, p.2) (TakesUpTo-read _ _ _ _ _ _ c.loop-taken.invariant.taken
+    c.in_ok-count.ensures.taken
     (omega (arith, now, c.loop-taken.taken.ok.0, c.in_ok-count.ensures.bound)))
