@@ -37,7 +37,7 @@ pub fn run<S: Source, W: Sink, E: Sink>(
     ensures answers { Answers (asked words.now) (change_of S.left S.faults input.old input.new)
         (change_of W.written W.faults output.old output.new) result.fault }
 
-    // An input that doesn't fail decides the answer by its bytes.
+    // An input that tells its bytes and doesn't fail decides the answer, but for want of memory.
     ensures decided { BytesDecide (asked words.now) (change_of S.left S.faults input.old input.new)
         (change_of W.written W.faults output.old output.new) result.fault }
 

@@ -1,10 +1,9 @@
-ghost use Rattle.std.specs.Prelude.{◌≡◌, ◌≢◌, Some, map, string_bytes, IsErr, IsNone, IfOk, IfErr, IfSome, IfNone, OnErr};
+ghost use Rattle.std.specs.Prelude.{◌≡◌, ◌≢◌, Some, IsErr, IfOk, IfErr, OnErr};
 ghost use Rattle.std.specs.Process.{exit_status};
 ghost use Rattle.cal_base.specs.Change.{change_of};
-ghost use Rattle.caliper.specs.Causes.{Answers, BytesDecide};
 ghost use Rattle.caliper.specs.Ends.{Serves, Shows, Tells};
-ghost use Rattle.caliper.specs.Faults.{fault_line, report_of, status_of};
-ghost use Rattle.caliper.specs.Words.{asked, told_about};
+ghost use Rattle.caliper.specs.Faults.{fault_line, status_of};
+ghost use Rattle.caliper.specs.Words.{asked};
 
 use crate::about::{HELP, VERSION};
 use crate::outcome::end;
@@ -34,8 +33,7 @@ pub fn serve<S: Source, W: Sink, E: Sink>(
     ensures input { OnErr words (input.new ≡ input.old) }
 
     // What is left as it was.
-    ensures unread { IfOk words (λ words. IsErr (asked words.items) →
-        input.new ≡ input.old) }
+    ensures unread { IfOk words (λ words. IsErr (asked words.items) → input.new ≡ input.old) }
     ensures output { exit_status result ≢ 0 → exit_status result ≢ 6 → output.new ≡ output.old }
     ensures errors { exit_status result ≡ 0 → errors.new ≡ errors.old }
 {
@@ -54,25 +52,13 @@ fn answer<S: Source, W: Sink, E: Sink>(
     output: &mut W,
     errors: &mut E,
 ) -> Outcome
-    ensures status { result.status ≡ status_of result.fault }
-    ensures told { Tells (report_of result.fault)
+    ensures served { Serves HELP.now VERSION.now words.now result.status
+        (change_of S.left S.faults input.old input.new)
+        (change_of W.written W.faults output.old output.new)
         (change_of E.written E.faults errors.old errors.new) }
-
-    // The text that is asked for, or else the command.
-    ensures shown { IfSome (told_about HELP.now VERSION.now (map string_bytes words.now))
-        (λ text. Shows text (change_of W.written W.faults output.old output.new) result.fault) }
-    ensures ran { IsNone (told_about HELP.now VERSION.now (map string_bytes words.now)) →
-        Answers (asked words.now) (change_of S.left S.faults input.old input.new)
-        (change_of W.written W.faults output.old output.new) result.fault }
-    ensures decided { IsNone (told_about HELP.now VERSION.now (map string_bytes words.now)) →
-        BytesDecide (asked words.now) (change_of S.left S.faults input.old input.new)
-        (change_of W.written W.faults output.old output.new) result.fault }
-
-    // What is left as it was.
     ensures input { IsErr (asked words.now) → input.new ≡ input.old }
-    ensures output { IfSome result.fault (λ fault.
-        fault ≢ Fault.WriteFault → output.new ≡ output.old) }
-    ensures errors { IfNone result.fault (errors.new ≡ errors.old) }
+    ensures output { result.status ≢ 0 → result.status ≢ 6 → output.new ≡ output.old }
+    ensures errors { result.status ≡ 0 → errors.new ≡ errors.old }
 {
     match about(words) {
         Some(text) => end(errors, show(text, output)),
