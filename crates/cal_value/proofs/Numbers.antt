@@ -25,8 +25,15 @@ all_digits-push base ds i inside before digit =
     list_all_more (λ c. is_digit c base) ds i 0 inside
     ∙ (λ j. before j && lt-ltb (digit_value (get_or ds i 0)) base digit j)
 
+-- a number that isn't too large, and one that is
+pub at_most-fits : (most n : ℕ) → n ≤ most → at_most most (Some n) ≡ Some n
+at_most-fits most n h = grind (arith, nat_tests)
+
+pub at_most-none : (most n : ℕ) → most < n → at_most most (Some n) ≡ None
+at_most-none most n h = grind (arith, nat_tests)
+
 over : (b : Bool) (v most : ℕ) → most < v → at_most most (if b then Some v else None) ≡ None
-over true v most h = grind (arith, nat_tests)
+over true v most h = at_most-none most v h
 over false v most h = refl
 
 -- a number whose first digits are too large is too large
@@ -48,7 +55,7 @@ all-from_AllDigits base [] h = refl
 all-from_AllDigits base (c ∷ cs) h = λ i. lt-ltb (digit_value c) base h.0 i && all-from_AllDigits base cs h.1 i
 
 within : (b : Bool) (v most : ℕ) → (b ≡ true → v ≤ most) → at_most most (if b then Some v else None) ≡ (if b then Some v else None)
-within true v most h = let fits = h refl in grind (arith, nat_tests)
+within true v most h = at_most-fits most v (h refl)
 within false v most h = refl
 
 -- so many digits write a number below the base's power

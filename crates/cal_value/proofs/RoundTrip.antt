@@ -5,6 +5,7 @@ use Rattle.std.specs.Fmt.{decimal, digits, digits_onto, digit_glyph, signed_deci
 use Rattle.std.specs.List.{starts_with}
 use Rattle.std.specs.Option.{option_map}
 use Rattle.std.specs.Str.Parse.{AllDigits}
+use Rattle.std.proofs.lemmas.Bool.{cond-false}
 use Rattle.std.proofs.lemmas.Bool.Decides.{nat_tests}
 use Rattle.std.proofs.lemmas.Fmt.{decimal_is_IsNumeral_wide}
 use Rattle.std.proofs.lemmas.Str.Parse.{digit_from_value}
@@ -19,17 +20,14 @@ use Rattle.cal_value.specs.declared.kind.Kind as kinds
 use Rattle.cal_value.specs.declared.kind.Kind.TheVariants as kind
 use Rattle.cal_value.specs.declared.variant.Variant as variants
 use Rattle.cal_value.specs.declared.variant.Variant.TheVariants as variant
-use Rattle.cal_value.proofs.Numbers.{number_of-digits}
+use Rattle.cal_value.proofs.Numbers.{at_most-fits, number_of-digits}
 use Rattle.cal_value.proofs.FixedRoundTrip.{decimal_nanos-text}
-
-at_most-Some : (most n : ℕ) → n ≤ most → at_most most (Some n) ≡ Some n
-at_most-Some most n h = grind (arith, nat_tests)
 
 -- a number that prints in decimal reads back where it isn't too large
 read-decimal : (most n : ℕ) → n ≤ most → most < 10 ^ 64 → at_most most (number_of 10 (decimal n)) ≡ Some n
 read-decimal most n h room =
     let fits : n < 10 ^ 64 = omega arith in
-    ap (at_most most) (number_of-digits 10 n (lit≤ tt) (lit≤ tt) fits) ∙ at_most-Some most n h
+    ap (at_most most) (number_of-digits 10 n (lit≤ tt) (lit≤ tt) fits) ∙ at_most-fits most n h
 
 -- a numeral begins with no minus
 unsigned : (t more : List ℕ) → 0 < length t → AllDigits 10 t → starts_with nat_eq (t ++ more) (codes "-") ≡ false
@@ -39,18 +37,15 @@ unsigned (c ∷ cs) more h d =
     let other : nat_eq 45 c ≡ false = grind (arith, nat_tests) in
     λ i. other i && true
 
-choose : {A : Type 0} (b : Bool) (x y : A) → b ≡ false → (if b then x else y) ≡ y
-choose b x y e = ap (λ z. if z then x else y) e
-
 -- what reads a magnitude reads a number without a minus, and one with a minus
 signed_of-pos : (magnitude : List ℕ → Option ℕ) (t : List ℕ) (n : ℕ) → n ≤ 2 ^ 86 → starts_with nat_eq t (codes "-") ≡ false → magnitude t ≡ Some n → signed_of magnitude t ≡ Some (pos n)
 signed_of-pos magnitude t n h none e =
-    choose (starts_with nat_eq t (codes "-")) _ _ none
-    ∙ ap (λ o. option_map pos (at_most (2 ^ 86) o)) e ∙ ap (option_map pos) (at_most-Some (2 ^ 86) n h)
+    cond-false (starts_with nat_eq t (codes "-")) _ _ none
+    ∙ ap (λ o. option_map pos (at_most (2 ^ 86) o)) e ∙ ap (option_map pos) (at_most-fits (2 ^ 86) n h)
 
 signed_of-neg : (magnitude : List ℕ → Option ℕ) (t : List ℕ) (n : ℕ) → suc n ≤ 2 ^ 86 → magnitude t ≡ Some (suc n) → signed_of magnitude (45 ∷ t) ≡ Some (negsuc n)
 signed_of-neg magnitude t n h e =
-    ap (λ o. option_map (λ k. neg_ℤ (pos k)) (at_most (2 ^ 86) o)) e ∙ ap (option_map (λ k. neg_ℤ (pos k))) (at_most-Some (2 ^ 86) (suc n) h)
+    ap (λ o. option_map (λ k. neg_ℤ (pos k)) (at_most (2 ^ 86) o)) e ∙ ap (option_map (λ k. neg_ℤ (pos k))) (at_most-fits (2 ^ 86) (suc n) h)
 
 int_of-signed : (n : ℤ) → unsigned_abs n ≤ 2 ^ 86 → int_of (signed_decimal n) ≡ Some n
 int_of-signed (pos n) h =
