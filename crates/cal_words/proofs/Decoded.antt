@@ -1,5 +1,5 @@
-use Rattle.std.proofs.Common.{◌≡◌, ℕ, ℤ, zero, suc, ◌+◌, ◌*◌, ◌/◌, ◌%◌, ◌^◌, ◌<◌, true, false, cond, eqb, List, [], ◌∷◌, length, get_or, take, drop, map, sym, refl, ap, ◌∙◌, lit<, arith, get_or-drop, get_or-take}
-use Rattle.std.specs.Int.{cast_signed, cast_unsigned, w128}
+use Rattle.std.proofs.Common.{◌≡◌, ℕ, ℤ, zero, suc, ◌+◌, ◌*◌, ◌/◌, ◌%◌, ◌^◌, ◌<◌, true, false, cond, eqb, List, [], ◌∷◌, length, get_or, map, sym, refl, ap, ◌∙◌, lit<, arith}
+use Rattle.std.specs.Int.{cast_signed, cast_unsigned, to_le_bytes, w64, w128}
 use Rattle.std.specs.Prelude.{FitsSigned}
 use Rattle.std.specs.List.{range_with_len}
 use Rattle.std.proofs.lemmas.Int.{to_z-of_z}
@@ -11,13 +11,8 @@ use Rattle.cal_value.specs.declared.kind.Kind.TheVariants as kind
 use Rattle.cal_value.specs.declared.variant.Variant as variants
 use Rattle.cal_value.specs.declared.variant.Variant.TheVariants as variant
 use Rattle.cal_words.specs.Records.{IsValue}
-use Rattle.cal_words.specs.Words.{byte_number, number_words, text_words, value_words, text_length}
-use Rattle.cal_words.proofs.Bytes.{AreBytes, AreBytes-take, AreBytes-drop, get_or-text_words}
-
--- byte j of a word
-abbrev byte_of : ℕ → ℕ → ℕ
-byte_of word zero = word % 256
-byte_of word (suc j) = byte_of (word / 256) j
+use Rattle.cal_words.specs.Words.{number_words, text_words, value_words, text_length}
+use Rattle.cal_words.proofs.Bytes.{AreBytes, get_or-text_word, get_or-text_words}
 
 -- the kind of a node
 abbrev kind_from : ℕ → kinds.Kind
@@ -36,31 +31,26 @@ kind_from-kind_node kind.Bool = refl
 kind_from-kind_node kind.TypeName = refl
 kind_from-kind_node kind.Ptr = refl
 
--- the text of so many bytes that these words hold
+-- the text of so many bytes that these words hold: byte k is byte k % 8 of word k / 8
+abbrev byte_of : List ℕ → ℕ → ℕ
+byte_of words k = get_or (to_le_bytes w64 (get_or words (k / 8) 0)) (k % 8) 0
+
 abbrev pub text_of : ℕ → List ℕ → List ℕ
-text_of count words = map (λ k. byte_of (get_or words (k / 8) 0) (k % 8)) (range_with_len 0 count)
+text_of count words = map (byte_of words) (range_with_len 0 count)
 
-byte_of-byte_number : (bs : List ℕ) (j : ℕ) → AreBytes bs → byte_of (byte_number bs) j ≡ get_or bs j 0
-byte_of-byte_number [] zero each = refl
-byte_of-byte_number [] (suc j) each = byte_of-byte_number [] j each
-byte_of-byte_number (b ∷ bs) zero each = let first : b < 256 = each 0 in omega arith
-byte_of-byte_number (b ∷ bs) (suc j) each =
-    let first : b < 256 = each 0 in
-    let rest : (b + 256 * byte_number bs) / 256 ≡ byte_number bs = omega arith in
-    ap (λ (w : ℕ). byte_of w j) rest ∙ byte_of-byte_number bs j (λ i. each (suc i))
-
--- byte k of a text is byte k % 8 of word k / 8
-byte_of-text_words : (text : List ℕ) (k : ℕ) → AreBytes text → k < length text → byte_of (get_or (text_words text) (k / 8) 0) (k % 8) ≡ get_or text k 0
+byte_of-text_words :
+    (text : List ℕ) (k : ℕ) → AreBytes text → k < length text
+    → byte_of (text_words text) k ≡ get_or text k 0
 byte_of-text_words text k each h =
-    let part : List ℕ = take 8 (drop (8 * (k / 8)) text) in
-    let is_bytes : AreBytes part = AreBytes-take (drop (8 * (k / 8)) text) 8 (AreBytes-drop text (8 * (k / 8)) each) in
-    let inside : k / 8 < (length text + 7) / 8 = omega arith in
-    let short : k % 8 < 8 = omega arith in
     let place : 8 * (k / 8) + k % 8 ≡ k = omega arith in
-    ap (λ (w : ℕ). byte_of w (k % 8)) (get_or-text_words text (k / 8) inside) ∙ byte_of-byte_number part (k % 8) is_bytes ∙ rw (get_or-take, get_or-drop) (ap (λ (j : ℕ). get_or text j 0) place)
+    (λ i. get_or (to_le_bytes w64 (get_or-text_words text (k / 8) (omega arith) i)) (k % 8) 0)
+    ∙ get_or-text_word text (k / 8) (k % 8) each (omega arith) ∙ (λ i. get_or text (place i) 0)
 
-pub text_of-text_words : (text : List ℕ) → AreBytes text → text_of (length text) (text_words text) ≡ text
-text_of-text_words text each = sym (fill_by_all (λ k. byte_of (get_or (text_words text) (k / 8) 0) (k % 8)) text (length text) 0 refl (λ k h. sym (byte_of-text_words text k each h)))
+pub text_of-text_words :
+    (text : List ℕ) → AreBytes text → text_of (length text) (text_words text) ≡ text
+text_of-text_words text each =
+    sym (fill_by_all (byte_of (text_words text)) text (length text) 0 refl
+    (λ k h. sym (byte_of-text_words text k each h)))
 
 -- the number of these halves
 abbrev number_of : List ℕ → ℤ

@@ -1,6 +1,6 @@
-use Rattle.std.specs.Prelude.{ℕ, ℤ, ◌+◌, ◌*◌, ◌/◌, ◌%◌, ◌^◌, List, [], ◌∷◌, length, map, take, drop}
+use Rattle.std.specs.Prelude.{ℕ, ℤ, ◌+◌, ◌*◌, ◌/◌, ◌%◌, ◌^◌, List, [], ◌∷◌, length, map, drop}
 use Rattle.std.specs.Prelude.{if◌then◌else◌}
-use Rattle.std.specs.Int.{cast_unsigned, w128}
+use Rattle.std.specs.Int.{cast_unsigned, from_le_bytes, w64, w128}
 use Rattle.std.specs.List.{range_with_len}
 use Rattle.cal_value.specs.Kinds.{kind_node}
 use Rattle.cal_value.specs.Values.{kind_of}
@@ -10,15 +10,10 @@ use Rattle.cal_words.specs.declared.op.OpCode.{OpCode}
 use Rattle.cal_words.specs.declared.op.OpCode.TheVariants.{Begin, End, Set}
 use Rattle.cal_words.specs.declared.op.OpRec.{OpRec}
 
--- the number that bytes spell, the lowest byte first (Giltmoth's rule)
-abbrev pub byte_number : List ℕ → ℕ
-byte_number [] = 0
-byte_number (b ∷ bs) = b + 256 * byte_number bs
-
--- word i of a text is the number of its bytes from 8 * i on, eight of them or as many as are left
--- (Giltmoth's rule)
+-- word i of a text is the number of its bytes from 8 * i on, the first lowest, and 0 where none is
+-- left (Giltmoth's rule)
 abbrev pub text_word : List ℕ → ℕ → ℕ
-text_word text i = byte_number (take 8 (drop (8 * i) text))
+text_word text i = from_le_bytes w64 (drop (8 * i) text)
 
 -- a text's bytes, eight to a word (Giltmoth's rule)
 abbrev pub text_words : List ℕ → List ℕ

@@ -1,4 +1,5 @@
-ghost use Rattle.std.specs.Prelude.{◌≡◌, ℕ, ◌+◌, ◌*◌, ◌^◌, ◌<◌, length, slice_index};
+ghost use Rattle.std.specs.Prelude.{◌≡◌, ℕ, ◌+◌, ◌*◌, ◌^◌, ◌<◌, drop, length, slice_index};
+ghost use Rattle.std.specs.Int.{from_le_bytes, w64};
 ghost use Rattle.cal_value.specs.Kinds.{kind_node};
 ghost use Rattle.cal_value.specs.Values.{kind_of};
 ghost use Rattle.cal_words.specs.Records.{IsText, IsValue};
@@ -21,20 +22,37 @@ fn text_len(text: &Text) -> u64
     (byte_len(text) + 7) / 8
 }
 
-// Word i of a text: its bytes from 8 * i on, the first lowest.
+// Word i of a text: eight bytes from 8 * i on, the first lowest.
 fn text_part(text: &Text, i: u64) -> u64
     requires { i < length (text_words text.now) }
     ensures { result ≡ slice_index (text_words text.now) i }
 {
-    let bytes = text.as_str().as_bytes();
-    let start = 8 * i as usize;
-    let mut at = bytes.len().min(start + 8);
-    let mut word = 0;
-    while at > start {
-        at -= 1;
-        word = word * 256 + u64::from(bytes[at]);
-    }
-    word
+    word_at(text.as_str().as_bytes(), 8 * i as usize)
+}
+
+// The number of eight bytes from a place on.
+fn word_at(bytes: &[u8], start: usize) -> u64
+    requires { start < length bytes.now }
+    ensures { result ≡ from_le_bytes w64 (drop start bytes.now) }
+{
+    let bytes = &bytes[start..];
+    u64::from_le_bytes([
+        byte_at(bytes, 0),
+        byte_at(bytes, 1),
+        byte_at(bytes, 2),
+        byte_at(bytes, 3),
+        byte_at(bytes, 4),
+        byte_at(bytes, 5),
+        byte_at(bytes, 6),
+        byte_at(bytes, 7),
+    ])
+}
+
+// The byte at a place, and 0 where none is left.
+fn byte_at(bytes: &[u8], place: usize) -> u8
+    ensures { result ≡ slice_index bytes.now place }
+{
+    bytes.get(place).copied().unwrap_or(0)
 }
 
 /// How many words a value has.
