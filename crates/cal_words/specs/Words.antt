@@ -45,8 +45,8 @@ text_length (variant.Ptr t) = length t
 text_length _ = 0
 
 -- A node's record: its parent (0 is the root, and p + 1 the node at place p), its depth (1 below
--- the root), its attribute's number, its value's kind above the length of its text, and the words of
--- the value (Giltmoth's rule).
+-- the root), its attribute's number, its value's kind above the length of its text, and the value's
+-- words (Giltmoth's rule).
 abbrev pub node_words : ℕ → ℕ → ℕ → variants.Variant → List ℕ
 node_words parent depth attr value =
     parent ∷ depth ∷ attr ∷ (kind_node (kind_of value) * 2 ^ 32 + text_length value)
