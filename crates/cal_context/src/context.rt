@@ -22,9 +22,9 @@ impl Model for Context {
 
     ghost Value = { Tree };
 
-    ghost view = { tree_of };
+    ghost view = { λ s. tree_of s.attributes s.values s.links };
 
-    ghost invariant = { λ s. IsWhole (tree_of s) s.links };
+    ghost invariant = { λ s. IsWhole (tree_of s.attributes s.values s.links) s.links };
 }
 
 impl Context {
@@ -110,7 +110,7 @@ impl Context {
         let _ = &self.attributes;
         let _ = &self.values;
         let index = node.0.checked_sub(1)?;
-        self.links.as_slice().get(index as usize).copied()
+        Some(self.links.as_slice()[index as usize])
     }
 
     /// The attribute of a number.
