@@ -1,5 +1,5 @@
 ghost use Rattle.std.specs.Prelude.{◌≡◌, ◌<◌, [], ◌∷◌, length, IfOk, IfSome, IfNone, OnErr};
-ghost use Rattle.cal_context.specs.Tree.{attribute_at, value_at, Grows, IsContext};
+ghost use Rattle.cal_context.specs.Tree.{attribute_at, path_at, value_at, Grows, IsContext};
 ghost use Rattle.cal_context.specs.Children.{AddsAttribute, AddsChild, AddsLinked, AddsValue, CanLink, IsLinked};
 
 use crate::{AttributeNumber, Interner, Link, NodeNumber, ValueNumber};
@@ -105,7 +105,7 @@ impl Context {
     pub fn link(&self, node: NodeNumber) -> Option<Link>
         requires { node.0 < length self.now.paths }
         ensures linked { IfSome result (λ link. IsLinked self.now link node) }
-        ensures root { IfNone result (node.0 ≡ 0) }
+        ensures root { IfNone result ((node.0 ≡ 0) × (path_at self.now node ≡ [])) }
     {
         let _ = &self.attributes;
         let _ = &self.values;
