@@ -1,13 +1,15 @@
 -- What a caller cites: growth is an order, numbers keep their meanings, and equal paths are one node.
-use Rattle.std.proofs.Common.{◌≡◌, ℕ, ◌+◌, ◌<◌, ◌≤◌, List, [], ◌∷◌, ◌++◌, length, get_or, map, refl, sym, ap, ◌∙◌, subst, arith}
+use Rattle.std.proofs.Common.{◌≡◌, ℕ, ◌+◌, ◌<◌, ◌≤◌, List, [], ◌∷◌, ◌++◌, length, get_or, map, refl, sym, ap, ◌∙◌, subst, arith, append_assoc}
 use Rattle.std.specs.List.{All}
 use Rattle.std.proofs.lemmas.Grind.{common_steps}
 use Rattle.cal_value.specs.declared.attribute.Attribute.{Attribute}
+use Rattle.cal_value.specs.declared.record.Rec.{Rec}
 use Rattle.cal_value.specs.declared.variant.Variant.{Variant}
 use Rattle.cal_context.specs.Lists.{IsFront}
 use Rattle.cal_context.specs.Tree.{Tree, Grows, IsContext, no_attribute, no_value, attribute_at, value_at, path_at}
 use Rattle.cal_context.specs.Children.{IsChild, IsLinked}
 use Rattle.cal_context.specs.Snapshots.{IsIn, IsBelowRoot, KeepsMeanings, entry_of, meaning}
+use Rattle.cal_context.specs.Taking.{TakesMore}
 use Rattle.cal_context.specs.declared.numbers.AttributeNumber.{AttributeNumber}
 use Rattle.cal_context.specs.declared.numbers.Link.{Link}
 use Rattle.cal_context.specs.declared.numbers.NodeNumber.{NodeNumber}
@@ -90,3 +92,7 @@ module _ {t : Tree} (is : IsContext t) where
   -- equal paths are one node
   pub one_node : (n m : NodeNumber) → n.0 < length t.paths → m.0 < length t.paths → path_at t n ≡ path_at t m → n ≡ m
   one_node n m l k e = let same : n.0 ≡ m.0 = is.paths n.0 m.0 [] l k e in λ j. record { 0 = same j }
+
+-- what is taken in two steps
+pub TakesMore-trans : (had then has : List Rec → Type 0) (xs ys : List Rec) → TakesMore had then xs → TakesMore then has ys → TakesMore had has (xs ++ ys)
+TakesMore-trans had then has xs ys h g rs is = subst has (append_assoc rs xs ys) (g (rs ++ xs) (h rs is))
