@@ -2,6 +2,7 @@
 use Rattle.std.proofs.Common.{◌≡◌, ℕ, ◌+◌, ◌<◌, ◌≤◌, List, [], ◌∷◌, ◌++◌, length, get_or, map, refl, sym, ap, ◌∙◌, subst, arith, append_assoc}
 use Rattle.std.specs.List.{All}
 use Rattle.std.proofs.lemmas.Grind.{common_steps}
+use Rattle.std.proofs.lemmas.Option.{get_or_from_slice_get, slice_get_within}
 use Rattle.cal_value.specs.declared.attribute.Attribute.{Attribute}
 use Rattle.cal_value.specs.declared.record.Rec.{Rec}
 use Rattle.cal_value.specs.declared.variant.Variant.{Variant}
@@ -89,6 +90,12 @@ module _ {old new : Tree} (grows : Grows old new) where
       meanings = meaning-Grows }
 
 module _ {t : Tree} (is : IsContext t) where
+  pub root_within : 0 < length t.paths
+  root_within = slice_get_within t.paths 0 [] is.root
+
+  pub root_path : path_at t (record { 0 = 0 }) ≡ []
+  root_path = get_or_from_slice_get t.paths 0 [] [] is.root
+
   -- equal paths are one node
   pub one_node : (n m : NodeNumber) → n.0 < length t.paths → m.0 < length t.paths → path_at t n ≡ path_at t m → n ≡ m
   one_node n m l k e = let same : n.0 ≡ m.0 = is.paths n.0 m.0 [] l k e in λ j. record { 0 = same j }
