@@ -144,7 +144,8 @@ fn a_snapshot_means_its_record(rt: HostRuntime) -> Result<(), Fail> {
     let mut snapshot = Snapshot::new(rt.alloc());
     for (nodes, number, paths) in RECORDS {
         fill(rt.alloc(), &mut context, &mut snapshot, nodes, number)?;
-        assert_eq!(rt; expand(rt.alloc(), &context, &snapshot)?, record(rt.alloc(), paths, number)?);
+        let expected = record(rt.alloc(), paths, number)?;
+        assert_eq!(rt; expand(rt.alloc(), &context, &snapshot)?, expected);
     }
     Ok(())
 }
