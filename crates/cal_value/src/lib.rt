@@ -1,15 +1,18 @@
 //! Values, attributes, entries and records: the data that every layer of Giltmoth speaks of.
 //!
-//! A contract sees a `Seq` as a list and a `Text` as the list of its bytes, so a record is plain data: its
-//! paths, and its immediates. The layers above use that a copy is the value itself, that a text has the one
-//! value of a kind that the table gives and a printed value reads back, and that `==`, the order and hashing
-//! agree, with `==` the sameness of values. Nothing is promised of where a list lies in memory.
+//! A contract sees a `Seq` as a list and a `Text` as the list of its bytes, so a record is plain
+//! data: its paths, and its immediates. The layers above use that a copy is the value itself, that a
+//! text has the one value of a kind that the table gives, that a printed value reads back, and that
+//! `==`, the order and hashing agree, with `==` the sameness of values. Nothing is promised of where
+//! a list lies in memory.
 #![tactic(auto)]
 
 mod attribute;
 mod copying;
 mod digits;
 mod exact;
+mod fixed_read;
+mod fixed_text;
 mod flat;
 mod kind;
 mod laws;
@@ -19,8 +22,6 @@ mod print;
 mod props;
 mod record;
 mod seq;
-#[cfg(test)]
-mod tests;
 mod text;
 mod variant;
 mod variant_order;

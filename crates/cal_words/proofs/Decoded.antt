@@ -1,5 +1,6 @@
-use Rattle.std.proofs.Common.{◌≡◌, ℕ, zero, suc, ◌+◌, ◌*◌, ◌/◌, ◌%◌, ◌^◌, ◌<◌, true, false, cond, eqb, List, [], ◌∷◌, length, get_or, take, drop, map, sym, refl, ap, ◌∙◌, lit<, arith, get_or-drop, get_or-take}
+use Rattle.std.proofs.Common.{◌≡◌, ℕ, ℤ, zero, suc, ◌+◌, ◌*◌, ◌/◌, ◌%◌, ◌^◌, ◌<◌, true, false, cond, eqb, List, [], ◌∷◌, length, get_or, take, drop, map, sym, refl, ap, ◌∙◌, lit<, arith, get_or-drop, get_or-take}
 use Rattle.std.specs.Int.{cast_signed, cast_unsigned, w128}
+use Rattle.std.specs.Prelude.{FitsSigned}
 use Rattle.std.specs.List.{range_with_len}
 use Rattle.std.proofs.lemmas.Int.{to_z-of_z}
 use Rattle.std.proofs.lemmas.List.FromFn.{fill_by_all}
@@ -10,7 +11,7 @@ use Rattle.cal_value.specs.declared.kind.Kind.TheVariants as kind
 use Rattle.cal_value.specs.declared.variant.Variant as variants
 use Rattle.cal_value.specs.declared.variant.Variant.TheVariants as variant
 use Rattle.cal_words.specs.Records.{IsValue}
-use Rattle.cal_words.specs.Words.{byte_number, text_words, value_words, text_length}
+use Rattle.cal_words.specs.Words.{byte_number, number_words, text_words, value_words, text_length}
 use Rattle.cal_words.proofs.Bytes.{AreBytes, AreBytes-take, AreBytes-drop, get_or-text_words}
 
 -- byte j of a word
@@ -61,30 +62,48 @@ byte_of-text_words text k each h =
 pub text_of-text_words : (text : List ℕ) → AreBytes text → text_of (length text) (text_words text) ≡ text
 text_of-text_words text each = sym (fill_by_all (λ k. byte_of (get_or (text_words text) (k / 8) 0) (k % 8)) text (length text) 0 refl (λ k h. sym (byte_of-text_words text k each h)))
 
+-- the number of these halves
+abbrev number_of : List ℕ → ℤ
+number_of words = cast_signed w128 (get_or words 1 0 * 2 ^ 64 + get_or words 0 0)
+
+number_of-number_words : (n : ℤ) → FitsSigned w128 n → number_of (number_words n) ≡ n
+number_of-number_words n fits =
+    let bits : ℕ = cast_unsigned w128 n in
+    let whole : bits / 2 ^ 64 * 2 ^ 64 + bits % 2 ^ 64 ≡ bits = omega arith in
+    ap (λ (b : ℕ). cast_signed w128 b) whole ∙ to_z-of_z w128 n fits
+
+-- of the kind `double` a text has a length or no word, and a decimal no length and two words
+abbrev double_of : ℕ → List ℕ → variants.Variant
+double_of zero [] = variant.Real []
+double_of zero (word ∷ words) = variant.Fixed (number_of (word ∷ words))
+double_of (suc count) words = variant.Real (text_of (suc count) words)
+
+double_of-text : (t : List ℕ) → AreBytes t → double_of (length t) (text_words t) ≡ variant.Real t
+double_of-text [] each = refl
+double_of-text (c ∷ cs) each = ap variant.Real (text_of-text_words (c ∷ cs) each)
+
 -- the value of this kind, text length and words
 abbrev value_of : ℕ → ℕ → List ℕ → variants.Variant
 value_of kind count words =
-    cond (eqb kind 1) (variant.Int (cast_signed w128 (get_or words 1 0 * 2 ^ 64 + get_or words 0 0)))
+    cond (eqb kind 1) (variant.Int (number_of words))
     (cond (eqb kind 2) (variant.Uint (get_or words 0 0))
     (cond (eqb kind 3) (variant.Text (text_of count words))
     (cond (eqb kind 4) (variant.Addr (get_or words 0 0))
-    (cond (eqb kind 5) (variant.Real (text_of count words))
+    (cond (eqb kind 5) (double_of count words)
     (cond (eqb kind 6) (variant.Bool (eqb (get_or words 0 0) 1))
     (cond (eqb kind 7) (variant.Kind (kind_from (get_or words 0 0)))
     (cond (eqb kind 11) (variant.Ptr (text_of count words)) (variant.Usr (text_of count words)))))))))
 
 value_of-value_words : (v : variants.Variant) → IsValue v → value_of (kind_node (kind_of v)) (text_length v) (value_words v) ≡ v
-value_of-value_words (variant.Int n) is =
-    let bits : ℕ = cast_unsigned w128 n in
-    let whole : bits / 2 ^ 64 * 2 ^ 64 + bits % 2 ^ 64 ≡ bits = omega arith in
-    ap variant.Int (ap (λ (b : ℕ). cast_signed w128 b) whole ∙ to_z-of_z w128 n is)
+value_of-value_words (variant.Int n) is = ap variant.Int (number_of-number_words n is)
+value_of-value_words (variant.Fixed n) is = ap variant.Fixed (number_of-number_words n is)
 value_of-value_words (variant.Uint n) is = refl
 value_of-value_words (variant.Text t) is = ap variant.Text (text_of-text_words t is.each_byte)
 value_of-value_words (variant.Bool true) is = refl
 value_of-value_words (variant.Bool false) is = refl
 value_of-value_words (variant.Addr a) is = refl
 value_of-value_words (variant.Kind k) is = ap variant.Kind (kind_from-kind_node k)
-value_of-value_words (variant.Real t) is = ap variant.Real (text_of-text_words t is.each_byte)
+value_of-value_words (variant.Real t) is = double_of-text t is.each_byte
 value_of-value_words (variant.Usr t) is = ap variant.Usr (text_of-text_words t is.each_byte)
 value_of-value_words (variant.Ptr t) is = ap variant.Ptr (text_of-text_words t is.each_byte)
 
@@ -94,6 +113,7 @@ text_length_below (variant.Real t) is = is.short
 text_length_below (variant.Usr t) is = is.short
 text_length_below (variant.Ptr t) is = is.short
 text_length_below (variant.Int n) is = lit< tt
+text_length_below (variant.Fixed n) is = lit< tt
 text_length_below (variant.Uint n) is = lit< tt
 text_length_below (variant.Bool b) is = lit< tt
 text_length_below (variant.Addr a) is = lit< tt
