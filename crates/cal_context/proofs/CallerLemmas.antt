@@ -1,12 +1,13 @@
 -- What a caller cites: growth is an order, numbers keep their meanings, and equal paths are one node.
-use Rattle.std.proofs.Common.{◌≡◌, ℕ, ◌+◌, ◌<◌, ◌≤◌, List, [], ◌∷◌, ◌++◌, length, get_or, map, refl, sym, ap, ◌∙◌, subst, arith, append_assoc}
+use Rattle.std.proofs.Common.{◌≡◌, ℕ, ◌+◌, ◌<◌, ◌≤◌, List, [], ◌∷◌, ◌++◌, length, get_or, map, refl, sym, ap, ◌∙◌, subst, arith, append_assoc, ◌⊎◌, inl, inr}
 use Rattle.std.specs.List.{All}
 use Rattle.std.proofs.lemmas.Grind.{common_steps}
+use Rattle.std.proofs.lemmas.List.Elements.{All-push}
 use Rattle.std.proofs.lemmas.Option.{get_or_from_slice_get, slice_get_within}
 use Rattle.cal_value.specs.declared.attribute.Attribute.{Attribute}
 use Rattle.cal_value.specs.declared.record.Rec.{Rec}
 use Rattle.cal_value.specs.declared.variant.Variant.{Variant}
-use Rattle.cal_context.specs.Lists.{IsFront}
+use Rattle.cal_context.specs.Lists.{Adds, IsFront}
 use Rattle.cal_context.specs.Tree.{Tree, Grows, IsContext, no_attribute, no_value, attribute_at, value_at, path_at}
 use Rattle.cal_context.specs.Children.{IsChild, IsLinked}
 use Rattle.cal_context.specs.Snapshots.{IsIn, IsBelowRoot, KeepsMeanings, entry_of, meaning}
@@ -103,3 +104,8 @@ module _ {t : Tree} (is : IsContext t) where
 -- what is taken in two steps
 pub TakesMore-trans : (had then has : List Rec → Type 0) (xs ys : List Rec) → TakesMore had then xs → TakesMore then has ys → TakesMore had has (xs ++ ys)
 TakesMore-trans had then has xs ys h g rs is = subst has (append_assoc rs xs ys) (g (rs ++ xs) (h rs is))
+
+-- what holds of each item of a list holds still, where it holds of one more
+pub All-Adds : {A : Type 0} (P : A → Type 0) (xs : List A) (x : A) (ys : List A) → All P xs → P x → Adds xs x ys → All P ys
+All-Adds P xs x ys all is (inl h) = subst (All P) (sym h.1) all
+All-Adds P xs x ys all is (inr h) = subst (All P) (sym h.1) (All-push P xs x all is)
