@@ -1,9 +1,8 @@
 ghost use Rattle.std.specs.Prelude.{◌≡◌, ◌↔◌, ℕ, List, ◌∷◌, Some};
 ghost use Rattle.std.specs.List.{AllByRecursion};
 ghost use Rattle.cal_line.specs.Escapes.{escaped};
-ghost use Rattle.cal_line.specs.Fields.{IsFields, IsPiece};
-ghost use Rattle.cal_line.specs.Reading.{fields_of};
-ghost use Rattle.cal_line.specs.Spelling.{Spells};
+ghost use Rattle.cal_line.specs.Fields.{IsFields, fields_of};
+ghost use Rattle.cal_line.specs.Tokens.{IsPiece, Spells, spelled_text};
 ghost use Rattle.cal_line.specs.WrittenFields.{IsWritable, written_fields};
 ghost use Rattle.cal_line.specs.declared.field.Field.{Field};
 
@@ -15,9 +14,12 @@ pub fn one_list_of_fields()
         → (IsFields line fields ↔ (fields_of line ≡ Some fields)) }
 {}
 
-/// Bytes spell at most one text.
+/// Bytes spell at most one text, which is a function of them.
 pub fn one_text()
-    ensures { (bytes text other : List ℕ) → Spells bytes text → Spells bytes other → text ≡ other }
+    ensures one { (bytes text other : List ℕ)
+        → Spells bytes text → Spells bytes other → text ≡ other }
+    ensures computed { (bytes text : List ℕ)
+        → (Spells bytes text ↔ (spelled_text bytes ≡ Some text)) }
 {}
 
 /// What is written of a text spells it, by itself and in a line.
