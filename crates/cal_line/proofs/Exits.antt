@@ -10,5 +10,5 @@ err-across {T} {U} {E} {d} {e} bad = let same : d ≡ e = cc in ap Err same
 
 -- a front with the item that was found behind it
 pub take-found : {X : Type 0} (xs : List X) (place : ℕ) (x : X) → slice_get xs place ≡ Some x → take (place + 1) xs ≡ take place xs ++ x ∷ []
-take-found xs place x found =
+take-found {X} xs place x found =
     take_more xs place x (slice_get_within xs place x found) ∙ ap (λ (y : X). take place xs ++ y ∷ []) (get_or_from_slice_get xs place x x found)

@@ -23,7 +23,10 @@ pub use escaping::escape;
 pub use field::Field;
 pub use field_end::FieldEnd;
 pub use fields::{FieldPieces, Fields};
-pub use laws::{escaped_spells_the_text, one_list_of_fields, one_text, written_fields_are_read};
+pub use laws::{
+    escaped_spells_the_text, lines_end_at_newlines, one_list_of_fields, one_text,
+    written_fields_are_read,
+};
 pub use lines::{ended_line, next_line};
 pub use piece::Piece;
 pub use splitter::Splitter;
