@@ -7,7 +7,7 @@ use Rattle.cal_value.specs.declared.kind.Kind.TheVariants.{Str}
 use Rattle.cal_script.specs.declared.script.Channel.{Channel}
 use Rattle.cal_script.specs.Lines.{joined}
 use Rattle.cal_script.specs.Names.{is_name, is_attribute_name}
-use Rattle.cal_script.specs.Values.{spelled_text}
+use Rattle.cal_line.specs.Tokens.{spelled_text}
 
 infixl 10 ◌>>=◌
 abbrev pub ◌>>=◌ : {A B : Type 0} → Option A → (A → Option B) → Option B
