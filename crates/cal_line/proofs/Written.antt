@@ -46,11 +46,10 @@ IsFields-written field [] writable = (
   fields_among-last field.key field.values ∙ ap (λ first. with_field first (Some [])) (field_of-some field.key field.values writable.0.key writable.0.values),
 )
 IsFields-written field (next ∷ fields) writable =
-    let more = IsFields-written next fields writable.1 in
-    (
+    let more = IsFields-written next fields writable.1 in (
       field_tokens field.key field.values ++ comma ∷ more.0,
       Spell-append (Spell-written_pieces field.key field.values) (itself {b = 44} (eqb-false 44 92 refl) more.1),
       fields_among-more field.key field.values more.0
-      ∙ ap (λ first. with_field first (fields_among more.0)) (field_of-some field.key field.values writable.0.key writable.0.values)
-      ∙ ap (with_field (Some field)) more.2,
+          ∙ ap (λ first. with_field first (fields_among more.0)) (field_of-some field.key field.values writable.0.key writable.0.values)
+          ∙ ap (with_field (Some field)) more.2,
     )

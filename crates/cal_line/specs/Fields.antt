@@ -29,7 +29,8 @@ field_of ((b ∷ key) ∷ value ∷ values) = Some (record { key = b ∷ key; va
 abbrev pub all_fields : List (List Token) → Option (List Field)
 all_fields [] = Some []
 all_fields (tokens ∷ more) =
-    option_and_then (λ field. option_map (λ fields. field ∷ fields) (all_fields more)) (field_of (pieces_of tokens))
+    option_and_then (λ field. option_map (λ fields. field ∷ fields) (all_fields more))
+    (field_of (pieces_of tokens))
 
 -- A line's tokens are one or more fields, with commas between them (the `.cali` format).
 abbrev pub fields_among : List Token → Option (List Field)
@@ -37,7 +38,8 @@ fields_among tokens = all_fields (slice_split is_comma tokens)
 
 -- The line has these fields: it spells tokens that are these.
 abbrev pub IsFields : List ℕ → List Field → Type 0
-IsFields line fields = (tokens : List Token) × Spell line tokens × (fields_among tokens ≡ Some fields)
+IsFields line fields =
+    (tokens : List Token) × Spell line tokens × (fields_among tokens ≡ Some fields)
 
 -- the fields of a line, where it has them
 abbrev pub fields_of : List ℕ → Option (List Field)

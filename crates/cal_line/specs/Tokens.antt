@@ -1,4 +1,5 @@
-use Rattle.std.specs.Prelude.{◌≡◌, ◌≢◌, ℕ, ◌==◌, List, [], ◌∷◌, Option, None, Some, map, if◌then◌else◌, unwrap_or}
+use Rattle.std.specs.Prelude.{◌≡◌, ◌≢◌, ℕ, ◌==◌, List, [], ◌∷◌, map, if◌then◌else◌}
+use Rattle.std.specs.Prelude.{Option, None, Some}
 use Rattle.std.specs.Option.{option_map}
 
 -- A token: a character of a text, or a mark, which is a comma or an equals sign that no backslash
@@ -16,8 +17,8 @@ token b = if b == 44 then comma else (if b == 61 then equals else character b)
 abbrev pub taken : ℕ → Token
 taken b = character (if b == 110 then 10 else b)
 
--- The bytes spell the tokens: no bytes none, a byte but the backslash its own token, and a backslash
--- takes the next byte for a character.
+-- The bytes spell the tokens: no bytes none, a byte but the backslash its own token, and a
+-- backslash takes the next byte for a character.
 pub data Spell : List ℕ → List Token → Type 0 where
   nothing : Spell [] []
   itself : {b : ℕ} {bytes : List ℕ} {tokens : List Token} → b ≢ 92 → Spell bytes tokens

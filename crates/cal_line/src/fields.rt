@@ -76,8 +76,8 @@ impl<'a> Model for FieldPieces<'a> {
     ghost Value = { Field };
 
     ghost view = { λ f. record {
-        key = text_at f.line.now f.key.now;
-        values = map (text_at f.line.now) f.values.now
+      key = text_at f.line.now f.key.now;
+      values = map (text_at f.line.now) f.values.now;
     } };
 
     ghost invariant = { λ f.
@@ -88,7 +88,10 @@ impl<'a> FieldPieces<'a> {
     pub fn key(&self) -> Piece<'a>
         ensures { result ≡ self.now.key }
     {
-        Piece::new(&self.line[self.key.start..self.key.end], self.key.has_escape)
+        Piece::new(
+            &self.line[self.key.start..self.key.end],
+            self.key.has_escape,
+        )
     }
 
     /// How many values it has: one or more.

@@ -7,7 +7,7 @@ ghost use Rattle.cal_line.specs.Tokens.{IsPiece, Spells, spelled_text};
 ghost use Rattle.cal_line.specs.WrittenFields.{IsWritable, written_fields};
 ghost use Rattle.cal_line.specs.declared.field.Field.{Field};
 
-/// A newline ends the first line of an input, and an input without one is a line, unless it is empty.
+/// A newline ends the first line of an input; an input without one is a line, unless it is empty.
 pub fn lines_end_at_newlines()
     ensures ended { (line rest : List ℕ) → HasNoNewline line
         → lines_of (line ++ 10 ∷ rest) ≡ line ∷ lines_of rest }

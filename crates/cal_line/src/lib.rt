@@ -1,9 +1,9 @@
 //! The lines of an input, and the stream's line grammar: tokens, fields and escapes.
 //!
-//! The layers above use that `next_line` goes through the lines of an input, that `split_fields` and a
-//! `Splitter` give exactly the fields that a line spells, and that what `escape` writes is one spelling
-//! of the text, which reads back as it. A `Splitter` leaves texts in the line that have no escape.
-//! Nothing is promised of what a field means.
+//! The layers above use that `next_line` goes through the lines of an input, that a `Splitter` gives
+//! exactly the fields that a line spells, and leaves each text in the line that has no escape, and
+//! that what `escape` writes is one spelling of the text, which reads back as it. Nothing is promised
+//! of what a field means.
 #![tactic(auto)]
 
 mod escaping;
@@ -32,6 +32,3 @@ pub use piece::Piece;
 pub use splitter::Splitter;
 pub use splitting::split_fields;
 pub use unescaping::unescape;
-
-#[cfg(test)]
-mod tests;

@@ -26,7 +26,6 @@ impl<'a> Model for Piece<'a> {
     ghost invariant = { λ p. IsWritten p.written.now p.has_escape };
 }
 
-
 impl<'a> Piece<'a> {
     pub(crate) fn new(written: &'a str, has_escape: bool) -> Self
         requires { IsWritten written.now has_escape }

@@ -2,12 +2,13 @@ ghost use Rattle.std.specs.Prelude.{◌≡◌, ◌≤◌, [], ◌∷◌, ◌++�
 ghost use Rattle.std.specs.Str.{IsCharBoundary};
 ghost use Rattle.cal_line.specs.Fields.{fields_of};
 ghost use Rattle.cal_line.specs.Tokens.{tokens_of};
-ghost use Rattle.cal_line.specs.Steps.{EndsAtMark, EndsAtComma, SplitsLine, PushesField, PushesValues};
+ghost use Rattle.cal_line.specs.Steps.{EndsAtMark, EndsAtComma};
+ghost use Rattle.cal_line.specs.Steps.{SplitsLine, PushesField, PushesValues};
 
+use crate::FieldEnd;
 use crate::fields::Fields;
 use crate::scanning::scan_piece;
 use crate::spans::{FieldSpans, Span};
-use crate::FieldEnd;
 use cal_value::OutOfMemory;
 use std::alloc::Global;
 
@@ -58,8 +59,8 @@ fn push_fields(
     Ok(())
 }
 
-/// Pushes where the field that begins at `start` stands, and answers where it ends: at the line's end,
-/// or at a comma.
+/// Pushes where the field that begins at `start` stands, and answers where it ends: at the line's
+/// end, or at a comma.
 fn push_field(
     line: &str,
     start: usize,
@@ -85,8 +86,8 @@ fn push_field(
     Ok(end)
 }
 
-/// Pushes where the values stand, each behind an equals sign, from the end of a piece on, and answers
-/// where they end: at the line's end, or at a comma.
+/// Pushes where the values stand, each behind an equals sign, from the end of a piece on, and
+/// answers where they end: at the line's end, or at a comma.
 fn push_values(line: &str, start: usize, values: &mut Vec<Span>) -> Result<usize, FieldEnd>
     requires start { start ≤ length line.now }
     requires stop { EndsAtMark line.now start }

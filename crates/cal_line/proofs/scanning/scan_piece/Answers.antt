@@ -7,14 +7,14 @@ pub loop-place-init : goal.loop-place-init
 loop-place-init c = Scanned-start c.args.line.now c.args.start c.requires.0
 
 pub returns-then-place-bytes-clause-lone : goal.returns-then-place-bytes-clause-lone
-returns-then-place-bytes-clause-lone c = 
-  let backslash : get_or c.args.line.now c.loop-place.place 0 ≡ 92 = rw c.as_bytes-bytes.ensures.value at c.if-bytes-place-eq92.true in
-  tokens_of-lone c.args.line.now c.args.start c.loop-place.place _ c.loop-place.invariant.piece c.loop-place.invariant.order (omega (arith, ap length c.as_bytes-bytes.ensures.value)) backslash
+returns-then-place-bytes-clause-lone c =
+    let backslash : get_or c.args.line.now c.loop-place.place 0 ≡ 92 = rw c.as_bytes-bytes.ensures.value at c.if-bytes-place-eq92.true in
+    tokens_of-lone c.args.line.now c.args.start c.loop-place.place _ c.loop-place.invariant.piece c.loop-place.invariant.order (omega (arith, ap length c.as_bytes-bytes.ensures.value)) backslash
 
 pub loop-place-preserved-then-bytes-place-eq92 : goal.loop-place-preserved-then-bytes-place-eq92
 loop-place-preserved-then-bytes-place-eq92 c =
-  let backslash : get_or c.args.line.now c.loop-place.place 0 ≡ 92 = rw c.as_bytes-bytes.ensures.value at c.if-bytes-place-eq92.true in
-  Scanned-taken c.args.line.now c.args.start c.loop-place.place c.loop-place.has_escape c.loop-place.invariant (omega (arith, ap length c.as_bytes-bytes.ensures.value)) backslash
+    let backslash : get_or c.args.line.now c.loop-place.place 0 ≡ 92 = rw c.as_bytes-bytes.ensures.value at c.if-bytes-place-eq92.true in
+    Scanned-taken c.args.line.now c.args.start c.loop-place.place c.loop-place.has_escape c.loop-place.invariant (omega (arith, ap length c.as_bytes-bytes.ensures.value)) backslash
 
 pub loop-place-preserved : goal.loop-place-preserved
 loop-place-preserved c =
