@@ -1,6 +1,10 @@
-pub mod PieceSteps
-pub mod LineSteps
+pub mod TokenSteps
+pub mod FieldSteps
+pub mod Written
+pub mod ScanSteps
 pub mod Exits
-pub mod Grammar
-pub mod Spelled
+pub mod TextSteps
+pub mod LineSteps
+pub mod SplitSteps
+pub mod Inputs
 pub mod EscapeSteps

@@ -1,5 +1,7 @@
+pub mod Lines
+pub mod Tokens
 pub mod Escapes
-pub mod Spelling
 pub mod Fields
-pub mod Reading
 pub mod WrittenFields
+pub mod Spans
+pub mod Steps

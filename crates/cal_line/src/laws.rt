@@ -1,11 +1,19 @@
-ghost use Rattle.std.specs.Prelude.{◌≡◌, ◌↔◌, ℕ, List, ◌∷◌, Some};
+ghost use Rattle.std.specs.Prelude.{◌≡◌, ◌↔◌, ◌<◌, ℕ, List, [], ◌∷◌, ◌++◌, length, Some};
 ghost use Rattle.std.specs.List.{AllByRecursion};
 ghost use Rattle.cal_line.specs.Escapes.{escaped};
-ghost use Rattle.cal_line.specs.Fields.{IsFields, IsPiece};
-ghost use Rattle.cal_line.specs.Reading.{fields_of};
-ghost use Rattle.cal_line.specs.Spelling.{Spells};
+ghost use Rattle.cal_line.specs.Fields.{IsFields, fields_of};
+ghost use Rattle.cal_line.specs.Lines.{HasNoNewline, lines_of};
+ghost use Rattle.cal_line.specs.Tokens.{IsPiece, Spells, spelled_text};
 ghost use Rattle.cal_line.specs.WrittenFields.{IsWritable, written_fields};
 ghost use Rattle.cal_line.specs.declared.field.Field.{Field};
+
+/// A newline ends the first line of an input; an input without one is a line, unless it is empty.
+pub fn lines_end_at_newlines()
+    ensures ended { (line rest : List ℕ) → HasNoNewline line
+        → lines_of (line ++ 10 ∷ rest) ≡ line ∷ lines_of rest }
+    ensures last { (line : List ℕ) → HasNoNewline line → 0 < length line
+        → lines_of line ≡ line ∷ [] }
+{}
 
 /// A line has at most one list of fields, which is a function of it.
 pub fn one_list_of_fields()
@@ -15,9 +23,12 @@ pub fn one_list_of_fields()
         → (IsFields line fields ↔ (fields_of line ≡ Some fields)) }
 {}
 
-/// Bytes spell at most one text.
+/// Bytes spell at most one text, which is a function of them.
 pub fn one_text()
-    ensures { (bytes text other : List ℕ) → Spells bytes text → Spells bytes other → text ≡ other }
+    ensures one { (bytes text other : List ℕ)
+        → Spells bytes text → Spells bytes other → text ≡ other }
+    ensures computed { (bytes text : List ℕ)
+        → (Spells bytes text ↔ (spelled_text bytes ≡ Some text)) }
 {}
 
 /// What is written of a text spells it, by itself and in a line.

@@ -1,58 +1,72 @@
-ghost use Rattle.std.specs.Prelude.{◌≡◌, ◌<◌, ◌≤◌, true, slice_index, Some, None, length, drop, IfOk, IsErrOf};
-ghost use Rattle.std.specs.Str.{IsCharBoundary};
-ghost use Rattle.cal_line.specs.Reading.{piece_at};
-ghost use Rattle.cal_line.specs.Spelling.{separates};
+ghost use Rattle.std.specs.Prelude.{◌≡◌, ◌++◌, IfOk, OnOk, OnErr};
+ghost use Rattle.std.specs.Cow.{cow_str_bytes};
+ghost use Rattle.cal_line.specs.Spans.{IsWritten, text_of};
 
-use crate::FieldEnd;
-use cal_value::Text;
+use crate::unescaping::append_text;
+use cal_value::{OutOfMemory, Text};
 use std::alloc::Global;
+use std::borrow::CowStr;
+use std::marker::Model;
 
-/// Reads the piece that begins at `start`, and answers the text that it spells, and where it ends: at
-/// the end, or, in a line, at a separator that no backslash takes.
-pub(crate) fn read_piece(
-    alloc: Global,
-    line: &str,
-    start: usize,
-    in_line: bool,
-) -> Result<(Text, usize), FieldEnd>
-    requires { IsCharBoundary line.now start }
-    ensures found { IfOk result (λ piece. piece_at in_line (drop start line.now)
-        ≡ Some (piece.0, drop piece.1 line.now)) }
-    ensures place { IfOk result (λ piece. (start ≤ piece.1) × (piece.1 ≤ length line.now)) }
-    ensures stop { IfOk result (λ piece. piece.1 < length line.now
-        → separates in_line (slice_index line.now piece.1) ≡ true) }
-    ensures bad { IsErrOf result FieldEnd.BadField → piece_at in_line (drop start line.now) ≡ None }
-{
-    let bytes = line.as_bytes();
-    let mut text = Text::new(alloc);
-    let mut run = start;
-    let mut place = start;
-    while place < bytes.len() {
-        let byte = bytes[place];
-        if byte == b'\\' {
-            if place + 1 == bytes.len() {
-                return Err(FieldEnd::BadField);
-            }
-            text.push_str(&line[run..place])?;
-            run = place + 1;
-            if bytes[place + 1] == b'n' {
-                text.push('\n')?;
-                run = place + 2;
-            }
-            place += 2;
-        } else if is_separator(byte, in_line) {
-            break;
-        } else {
-            place += 1;
-        }
-    }
-    text.push_str(&line[run..place])?;
-    Ok((text, place))
+/// A key or a value as it is written in its line, which contracts see as the text that it spells.
+#[derive(Debug, Drop)]
+pub struct Piece<'a> {
+    written: &'a str,
+    has_escape: bool,
 }
 
-/// Whether a byte that no backslash takes separates pieces.
-fn is_separator(byte: u8, in_line: bool) -> bool
-    ensures { result ≡ separates in_line byte }
-{
-    in_line && (byte == b',' || byte == b'=')
+impl<'a> Model for Piece<'a> {
+    ghost use Rattle.std.specs.Prelude.{ℕ, List};
+    ghost use Rattle.cal_line.specs.Spans.{IsWritten, text_of};
+
+    ghost Value = { List ℕ };
+
+    ghost view = { λ p. text_of p.written.now };
+
+    ghost invariant = { λ p. IsWritten p.written.now p.has_escape };
+}
+
+impl<'a> Piece<'a> {
+    pub(crate) fn new(written: &'a str, has_escape: bool) -> Self
+        requires { IsWritten written.now has_escape }
+        ensures { result ≡ text_of written.now }
+    {
+        Piece {
+            written,
+            has_escape,
+        }
+    }
+
+    /// Its text, which is borrowed from the line where no escape stands in it: only where one does
+    /// this takes memory.
+    pub fn text(&self, alloc: Global) -> Result<CowStr<'a>, OutOfMemory>
+        ensures { IfOk result (λ text. cow_str_bytes text ≡ self.now) }
+    {
+        if self.has_escape {
+            Ok(CowStr::Owned(self.to_text(alloc)?.into_string()))
+        } else {
+            Ok(CowStr::Borrowed(self.written))
+        }
+    }
+
+    /// A copy of its text.
+    pub fn to_text(&self, alloc: Global) -> Result<Text, OutOfMemory>
+        ensures { IfOk result (λ text. text ≡ self.now) }
+    {
+        let mut text = Text::new(alloc);
+        self.append_to(&mut text)?;
+        Ok(text)
+    }
+
+    /// Appends its text. An `Err` leaves `out`.
+    pub fn append_to(&self, out: &mut Text) -> Result<(), OutOfMemory>
+        ensures ok { OnOk result (out.new ≡ out.old ++ self.now) }
+        ensures err { OnErr result (out.new ≡ out.old) }
+    {
+        if self.has_escape {
+            append_text(self.written, out)
+        } else {
+            out.push_str(self.written)
+        }
+    }
 }

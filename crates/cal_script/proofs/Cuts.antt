@@ -10,7 +10,7 @@ use Rattle.std.proofs.lemmas.Str.{IsUtf8-from_is_utf8, is_utf8-from_IsUtf8}
 use Rattle.cal_script.specs.declared.script.Script.{Script}
 use Rattle.cal_script.specs.Reading.{thread_after, snapshot_after}
 use Rattle.cal_script.specs.Lines.{words_of, joined}
-use Rattle.cal_script.specs.Values.{spelled_text}
+use Rattle.cal_line.specs.Tokens.{spelled_text}
 use Rattle.cal_script.specs.Parts.{◌>>=◌, attribute_of, channel_of, attribute_place, opening_of, closing_of}
 
 -- no byte is a space, by place and by element

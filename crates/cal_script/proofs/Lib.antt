@@ -1,6 +1,4 @@
 pub mod Cuts
-pub mod Spelling
 pub mod Threads
-pub mod Inputs
 pub mod Runs
 pub mod Forms

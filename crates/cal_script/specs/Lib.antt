@@ -1,6 +1,5 @@
 pub mod Lines
 pub mod Names
-pub mod Values
 pub mod Depth
 pub mod Parts
 pub mod Reading

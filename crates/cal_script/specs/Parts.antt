@@ -7,7 +7,7 @@ use Rattle.cal_value.specs.declared.kind.Kind.TheVariants.{Str}
 use Rattle.cal_script.specs.declared.script.Channel.{Channel}
 use Rattle.cal_script.specs.Lines.{joined}
 use Rattle.cal_script.specs.Names.{is_name, is_attribute_name}
-use Rattle.cal_script.specs.Values.{spelled_text}
+use Rattle.cal_line.specs.Tokens.{spelled_text}
 
 infixl 10 ◌>>=◌
 abbrev pub ◌>>=◌ : {A B : Type 0} → Option A → (A → Option B) → Option B
@@ -27,15 +27,16 @@ attribute_of _ = None
 -- `channel NAME trace` declares a channel
 abbrev pub channel_of : List (List ℕ) → Option Channel
 channel_of (name ∷ services ∷ []) =
-    if is_name name && bytes_eq services (codes "trace") then Some (record { name = name }) else None
+    if is_name name && bytes_eq services (codes "trace")
+    then Some (record { name = name }) else None
 channel_of _ = None
 
 -- the place of the attribute of this name
 abbrev pub attribute_place : List Attribute → List ℕ → Option ℕ
 attribute_place attributes name = position (λ attribute. bytes_eq attribute.name name) attributes
 
--- `begin NAME VALUE` names an attribute by its place and spells a text of at most 4,096 bytes (the limit is ours).
--- VALUE is the rest of the line, and may have spaces.
+-- `begin NAME VALUE` names an attribute by its place and spells, as a stream does, a text of at most
+-- 4,096 bytes (Giltmoth's limit). VALUE is the rest of the line, and may have spaces.
 abbrev pub opening_of : List Attribute → List (List ℕ) → Option (ℕ × List ℕ)
 opening_of attributes (name ∷ word ∷ words) = do
   attr ← attribute_place attributes name

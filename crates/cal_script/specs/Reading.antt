@@ -1,5 +1,5 @@
--- What the lines of a script say, one after another. What stands here is the part of the grammar that is read so far:
--- a line that isn't of it may not stand.
+-- What the lines of a script say, one after another. What stands here is the part of the grammar
+-- that is read so far: a line that isn't of it may not stand.
 use Rattle.std.specs.Prelude.{ℕ, Bool, List, [], ◌∷◌, ◌++◌, length, Option, Some, None, codes, sum_by, nat_lt, not, ◌==◌, ◌&&◌, if◌then◌else◌}
 use Rattle.std.specs.Str.{bytes_eq, is_utf8}
 use Rattle.cal_value.specs.declared.variant.Variant.TheVariants.{Text}
@@ -26,7 +26,8 @@ add_line line [] = []
 add_line line (thread ∷ []) = (thread ++ line ∷ []) ∷ []
 add_line line (thread ∷ next ∷ threads) = thread ∷ add_line line (next ∷ threads)
 
--- A line of a thread may stand behind a `thread` line, and 1,048,576 of them in a script (the limit is ours).
+-- A line of a thread may stand behind a `thread` line, and 1,048,576 of them in a script (Giltmoth's
+-- limit).
 abbrev pub has_room : Script → Bool
 has_room script = nat_lt 0 (length script.threads) && nat_lt (sum_by length script.threads) 1048576
 
@@ -55,7 +56,7 @@ thread_after script [] =
     then Some (record script { threads = script.threads ++ [] ∷ [] }) else None
 thread_after script (word ∷ words) = None
 
--- `begin ..` opens a value, where fewer than 128 are open (the limit is ours)
+-- `begin ..` opens a value, where fewer than 128 are open (Giltmoth's limit)
 abbrev pub begin_after : Script → List (List ℕ) → Option Script
 begin_after script words = do
   opening ← opening_of script.attributes words
@@ -76,7 +77,8 @@ end_after script words = do
 -- `snapshot` looks at the values that are open
 abbrev pub snapshot_after : Script → List (List ℕ) → Option Script
 snapshot_after script [] =
-    if has_room script then Some (record script { threads = add_line Snapshot script.threads }) else None
+    if has_room script
+    then Some (record script { threads = add_line Snapshot script.threads }) else None
 snapshot_after script (word ∷ words) = None
 
 -- a line goes by its first word
@@ -91,7 +93,8 @@ words_after script (word ∷ words) =
     else (if bytes_eq word (codes "snapshot") then snapshot_after script words
     else None)))))
 
--- What a line makes of the script that stands before it, or nothing where the line may not stand there. A line is UTF-8.
+-- What a line makes of the script that stands before it, or nothing where the line may not stand
+-- there. A line is UTF-8.
 unfoldable pub line_after : Script → List ℕ → Option Script
 line_after script line =
     if not (is_utf8 line) then None

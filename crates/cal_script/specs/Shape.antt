@@ -27,8 +27,8 @@ IsPlaced attributes values (line.Begin attr value) = (attr < attributes) × (val
 IsPlaced attributes values (line.End attr) = attr < attributes
 IsPlaced attributes values line.Snapshot = Unit {0}
 
--- A script that bytes say: one attribute, one channel and one thread at most, each where the one before it stands, and
--- every line of the thread can be run.
+-- A script that bytes say: one attribute, one channel and one thread at most, each where the one
+-- before it stands, and every line of the thread can be run.
 pub record IsScript (script : Script) : Type 0 where
   pub one_attribute : length script.attributes ≤ 1
   pub channel_behind_attribute : length script.channels ≤ length script.attributes

@@ -22,6 +22,3 @@ pub use kind::ScriptKind;
 pub use laws::{first_fault_law, spelling_law};
 pub use reading::read_script;
 pub use script::{Channel, Line, Script};
-
-#[cfg(test)]
-mod tests;

@@ -15,8 +15,8 @@ const MOST_LINES: usize = 1_048_576;
 
 const MOST_OPEN: usize = 128;
 
-/// What the lines of a script say so far. Beside the lines of the thread stands how many values they
-/// leave open.
+/// What the lines of a script say so far. Beside the lines of the thread stands how many values
+/// they leave open.
 #[derive(Drop)]
 pub(crate) struct Reader {
     attributes: Seq<Attribute>,

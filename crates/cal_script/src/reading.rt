@@ -1,5 +1,4 @@
-ghost use Rattle.std.specs.Prelude.{◌≡◌, ◌∷◌, ◌<◌, length, Some, IfOk, IfErr};
-ghost use Rattle.cal_script.specs.Lines.{lines_of};
+ghost use Rattle.std.specs.Prelude.{◌≡◌, Some, IfOk, IfErr};
 ghost use Rattle.cal_script.specs.Reading.{meaning};
 ghost use Rattle.cal_script.specs.Faults.{IsRefusalOf};
 ghost use Rattle.cal_script.specs.Shape.{IsScript};
@@ -7,7 +6,7 @@ ghost use Rattle.cal_script.specs.Shape.{IsScript};
 use crate::end::LineEnd;
 use crate::reader::Reader;
 use crate::{Script, ScriptEnd};
-use memchr::memchr;
+use cal_line::next_line;
 use std::alloc::Global;
 
 /// The script that the bytes say. It takes time in their number.
@@ -30,15 +29,4 @@ pub fn read_script(alloc: Global, bytes: &[u8]) -> Result<Script, ScriptEnd>
         rest = after;
     }
     Ok(reader.into_script(alloc)?)
-}
-
-fn next_line(bytes: &[u8]) -> (&[u8], &[u8])
-    requires { 0 < length bytes.now }
-    ensures lines { lines_of bytes.now ≡ result.0.now ∷ lines_of result.1.now }
-    ensures shorter { length result.1.now < length bytes.now }
-{
-    match memchr(b'\n', bytes) {
-        Some(end) => (&bytes[..end], &bytes[end + 1..]),
-        None => (bytes, &[]),
-    }
 }

@@ -1,10 +1,10 @@
-use Rattle.cal_line.proofs.Grammar.{fields_of-IsFields, IsFields-fields_of}
+use Rattle.cal_line.proofs.FieldSteps.{fields_of-IsFields, IsFields-fields_of}
 use Rattle.cal_line.proofs.laws.one_list_of_fields.Goals as goal
 
 pub returns-clause-one : goal.returns-clause-one
 returns-clause-one c = λ line fields others first second.
-    let p = fields_of-IsFields line fields first in
-    let q = fields_of-IsFields line others second in
+    let read = fields_of-IsFields line fields first in
+    let again = fields_of-IsFields line others second in
     cc
 
 pub returns-clause-computed : goal.returns-clause-computed

@@ -1,0 +1,6 @@
+use Rattle.std.proofs.Common.{◌≡◌}
+use Rattle.bench_line.proofs.tally_line.Given as goal
+
+-- the line isn't counted yet
+abbrev pub invariant-loop-place : goal.invariant-loop-place
+invariant-loop-place l = l.tally.lines ≡ l.fn.tally.lines
