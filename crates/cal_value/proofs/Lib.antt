@@ -1,2 +1,4 @@
 pub mod Numbers
+pub mod Fixed
+pub mod FixedRoundTrip
 pub mod RoundTrip

@@ -1,9 +1,11 @@
 -- Reading digits one by one.
-use Rattle.std.proofs.Common.{◌≡◌, ◌≤◌, ◌<◌, ◌+◌, ◌*◌, ◌^◌, ◌∙◌, ℕ, Bool, true, false, List, [], ◌∷◌, lit≤, Some, None, length, get_or, take, refl, sym, arith}
+use Rattle.std.proofs.Common.{◌≡◌, ◌≤◌, ◌<◌, ◌+◌, ◌*◌, ◌^◌, ◌∙◌, ℕ, Bool, true, false, List, [], ◌∷◌, Some, None, length, get_or, take, refl, sym, arith}
 use Rattle.std.specs.Prelude.{◌&&◌, ◌==◌, not, if◌then◌else◌}
 use Rattle.std.specs.Char.{is_digit, digit_value}
 use Rattle.std.specs.List.{list_all}
+use Rattle.std.specs.Fmt.{digits}
 use Rattle.std.specs.Str.Parse.{AllDigits, digits_value}
+use Rattle.std.proofs.lemmas.Fmt.{digits_is_IsNumeral}
 use Rattle.std.specs.Cmp.{first_so, second_so}
 use Rattle.std.proofs.Math.Nat.{pow-le-pow_right}
 use Rattle.std.proofs.lemmas.Bool.Decides.{nat_tests}
@@ -11,7 +13,7 @@ use Rattle.std.proofs.lemmas.Int.Digits.{digits_value_more, digits_value-lt}
 use Rattle.std.proofs.lemmas.List.Folds.{list_all_more}
 use Rattle.std.proofs.lemmas.Str.Parse.{digits_value-take-le}
 use borrow.Author.Tests.{lt-ltb, ltb-true}
-use Rattle.cal_value.specs.Reading.{at_most, is_numeral, number_of}
+use Rattle.cal_value.specs.Numerals.{at_most, is_numeral, number_of}
 
 -- one digit more
 pub digits_value-push : (base : ℕ) (ds : List ℕ) (i n b d : ℕ) → i < length ds → n ≡ digits_value base (take i ds) → b ≡ base → d ≡ digit_value (get_or ds i 0) → n * b + d ≡ digits_value base (take (i + 1) ds)
@@ -49,11 +51,24 @@ within : (b : Bool) (v most : ℕ) → (b ≡ true → v ≤ most) → at_most m
 within true v most h = let fits = h refl in grind (arith, nat_tests)
 within false v most h = refl
 
--- 16 hexadecimal digits fit 64 bits
-pub at_most-hexadecimal : (ds : List ℕ) → length ds ≤ 16 → at_most 18446744073709551615 (number_of 16 ds) ≡ number_of 16 ds
-at_most-hexadecimal ds short =
-    within (is_numeral 16 ds) (digits_value 16 ds) 18446744073709551615
+-- so many digits write a number below the base's power
+pub at_most-short : (base most places : ℕ) (ds : List ℕ) → 1 ≤ base → length ds ≤ places → base ^ places ≤ most + 1 → at_most most (number_of base ds) ≡ number_of base ds
+at_most-short base most places ds low short room =
+    within (is_numeral base ds) (digits_value base ds) most
     (λ numeral.
-    let digits = AllDigits-from_all 16 ds (second_so (not (length ds == 0)) (list_all (λ c. is_digit c 16) ds) numeral) in
-    let most : 16 ^ length ds ≤ 16 ^ 16 = pow-le-pow_right (lit≤ tt) short in
-    omega (arith, digits_value-lt 16 ds digits, most))
+    let digits = AllDigits-from_all base ds (second_so (not (length ds == 0)) (list_all (λ c. is_digit c base) ds) numeral) in
+    let more : base ^ length ds ≤ base ^ places = pow-le-pow_right low short in
+    omega (arith, digits_value-lt base ds digits, more))
+
+-- one digit or more is a numeral
+pub numeral : (t : List ℕ) (base : ℕ) → 0 < length t → AllDigits base t → is_numeral base t ≡ true
+numeral t base h d =
+    let some : not (length t == 0) ≡ true = grind (arith, nat_tests) in
+    λ i. some i && all-from_AllDigits base t d i
+
+-- the digits of a number are its numeral
+pub number_of-digits : (base n : ℕ) → 2 ≤ base → base ≤ 16 → n < base ^ 64 → number_of base (digits base false n) ≡ Some n
+number_of-digits base n low high fits =
+    let ds = digits base false n in
+    let is = digits_is_IsNumeral base false low high n fits in
+    (λ i. if numeral ds base is.0.0 is.0.1 i then Some (is.1 i) else None)

@@ -1,35 +1,26 @@
 -- A printed value reads back as itself.
-use Rattle.std.proofs.Common.{◌≡◌, ◌≤◌, ◌<◌, ◌+◌, ◌/◌, ◌%◌, ◌≢◌, ◌^◌, ◌∙◌, ℕ, ℤ, pos, negsuc, Bool, true, false, List, [], ◌∷◌, Some, None, length, lit≤, lit<, refl, ap, arith}
-use Rattle.std.specs.Prelude.{◌&&◌, ◌==◌, not, suc, zero, codes, nat_eq, nat_le, neg_ℤ, unsigned_abs, if◌then◌else◌}
+use Rattle.std.proofs.Common.{◌≡◌, ◌≤◌, ◌<◌, ◌+◌, ◌/◌, ◌%◌, ◌≢◌, ◌^◌, ◌∙◌, ℕ, ℤ, pos, negsuc, Bool, true, false, List, [], ◌∷◌, ◌++◌, Some, None, length, append-nil, lit≤, lit<, refl, sym, ap, arith}
+use Rattle.std.specs.Prelude.{◌&&◌, ◌==◌, suc, zero, Option, codes, nat_eq, nat_le, neg_ℤ, unsigned_abs, unwrap_or, if◌then◌else◌}
 use Rattle.std.specs.Fmt.{decimal, digits, digits_onto, digit_glyph, signed_decimal}
 use Rattle.std.specs.List.{starts_with}
 use Rattle.std.specs.Option.{option_map}
 use Rattle.std.specs.Str.Parse.{AllDigits}
 use Rattle.std.proofs.lemmas.Bool.Decides.{nat_tests}
-use Rattle.std.proofs.lemmas.Fmt.{digits_is_IsNumeral}
+use Rattle.std.proofs.lemmas.Fmt.{decimal_is_IsNumeral_wide}
 use Rattle.std.proofs.lemmas.Str.Parse.{digit_from_value}
 use Rattle.std.proofs.Math.Nat.{pow-suc}
 use borrow.Author.Tests.{eqb-false}
 use Rattle.cal_value.specs.Kinds.{kind_name, kind_named}
 use Rattle.cal_value.specs.Values.{address_text, kind_of, value_text}
-use Rattle.cal_value.specs.Reading.{IsInRange, IsReadable, address_of, at_most, int_of, is_numeral, number_of, value_of}
+use Rattle.cal_value.specs.Decimals.{decimal_nanos, decimal_text, fixed_of, fixed_text, rest_text}
+use Rattle.cal_value.specs.Numerals.{at_most, number_of, signed_of}
+use Rattle.cal_value.specs.Reading.{IsInRange, IsReadable, address_of, int_of, value_of}
 use Rattle.cal_value.specs.declared.kind.Kind as kinds
 use Rattle.cal_value.specs.declared.kind.Kind.TheVariants as kind
 use Rattle.cal_value.specs.declared.variant.Variant as variants
 use Rattle.cal_value.specs.declared.variant.Variant.TheVariants as variant
-use Rattle.cal_value.proofs.Numbers.{all-from_AllDigits}
-
-numeral : (t : List ℕ) (base : ℕ) → 0 < length t → AllDigits base t → is_numeral base t ≡ true
-numeral t base h d =
-    let some : not (length t == 0) ≡ true = grind (arith, nat_tests) in
-    λ i. some i && all-from_AllDigits base t d i
-
--- the digits of a number are its numeral
-pub number_of-digits : (base n : ℕ) → 2 ≤ base → base ≤ 16 → n < base ^ 64 → number_of base (digits base false n) ≡ Some n
-number_of-digits base n low high fits =
-    let ds = digits base false n in
-    let is = digits_is_IsNumeral base false low high n fits in
-    (λ i. if numeral ds base is.0.0 is.0.1 i then Some (is.1 i) else None)
+use Rattle.cal_value.proofs.Numbers.{number_of-digits}
+use Rattle.cal_value.proofs.FixedRoundTrip.{decimal_nanos-text}
 
 at_most-Some : (most n : ℕ) → n ≤ most → at_most most (Some n) ≡ Some n
 at_most-Some most n h = grind (arith, nat_tests)
@@ -41,9 +32,9 @@ read-decimal most n h room =
     ap (at_most most) (number_of-digits 10 n (lit≤ tt) (lit≤ tt) fits) ∙ at_most-Some most n h
 
 -- a numeral begins with no minus
-unsigned : (t : List ℕ) → 0 < length t → AllDigits 10 t → starts_with nat_eq t (codes "-") ≡ false
-unsigned [] h d = absurd (omega arith)
-unsigned (c ∷ cs) h d =
+unsigned : (t more : List ℕ) → 0 < length t → AllDigits 10 t → starts_with nat_eq (t ++ more) (codes "-") ≡ false
+unsigned [] more h d = absurd (omega arith)
+unsigned (c ∷ cs) more h d =
     let range = digit_from_value c d.0 in
     let other : nat_eq 45 c ≡ false = grind (arith, nat_tests) in
     λ i. other i && true
@@ -51,12 +42,31 @@ unsigned (c ∷ cs) h d =
 choose : {A : Type 0} (b : Bool) (x y : A) → b ≡ false → (if b then x else y) ≡ y
 choose b x y e = ap (λ z. if z then x else y) e
 
+-- what reads a magnitude reads a number without a minus, and one with a minus
+signed_of-pos : (magnitude : List ℕ → Option ℕ) (t : List ℕ) (n : ℕ) → n ≤ 2 ^ 86 → starts_with nat_eq t (codes "-") ≡ false → magnitude t ≡ Some n → signed_of magnitude t ≡ Some (pos n)
+signed_of-pos magnitude t n h none e =
+    choose (starts_with nat_eq t (codes "-")) _ _ none
+    ∙ ap (λ o. option_map pos (at_most (2 ^ 86) o)) e ∙ ap (option_map pos) (at_most-Some (2 ^ 86) n h)
+
+signed_of-neg : (magnitude : List ℕ → Option ℕ) (t : List ℕ) (n : ℕ) → suc n ≤ 2 ^ 86 → magnitude t ≡ Some (suc n) → signed_of magnitude (45 ∷ t) ≡ Some (negsuc n)
+signed_of-neg magnitude t n h e =
+    ap (λ o. option_map (λ k. neg_ℤ (pos k)) (at_most (2 ^ 86) o)) e ∙ ap (option_map (λ k. neg_ℤ (pos k))) (at_most-Some (2 ^ 86) (suc n) h)
+
 int_of-signed : (n : ℤ) → unsigned_abs n ≤ 2 ^ 86 → int_of (signed_decimal n) ≡ Some n
 int_of-signed (pos n) h =
-    let is = digits_is_IsNumeral 10 false (lit≤ tt) (lit≤ tt) n (let room : n < 10 ^ 64 = omega arith in room) in
-    choose (starts_with nat_eq (decimal n) (codes "-")) _ _ (unsigned (decimal n) is.0.0 is.0.1)
-    ∙ ap (option_map pos) (read-decimal (2 ^ 86) n h (lit< tt))
-int_of-signed (negsuc n) h = ap (option_map (λ k. neg_ℤ (pos k))) (read-decimal (2 ^ 86) (suc n) h (lit< tt))
+    let room : n < 10 ^ 64 = omega arith in
+    let is = decimal_is_IsNumeral_wide n room in
+    let none = ap (λ t. starts_with nat_eq t (codes "-")) (sym (append-nil (decimal n))) ∙ unsigned (decimal n) [] is.0.0 is.0.1 in
+    signed_of-pos (number_of 10) (decimal n) n h none (number_of-digits 10 n (lit≤ tt) (lit≤ tt) room)
+int_of-signed (negsuc n) h =
+    signed_of-neg (number_of 10) (decimal (suc n)) n h (number_of-digits 10 (suc n) (lit≤ tt) (lit≤ tt) (omega arith))
+
+fixed_of-text : (n : ℤ) → unsigned_abs n ≤ 2 ^ 86 → fixed_of (fixed_text n) ≡ Some n
+fixed_of-text (pos n) h =
+    let is = decimal_is_IsNumeral_wide (n / 1000000000) (omega arith) in
+    let none = unsigned (decimal (n / 1000000000)) (rest_text (n % 1000000000)) is.0.0 is.0.1 in
+    signed_of-pos decimal_nanos (decimal_text n) n h none (decimal_nanos-text n h)
+fixed_of-text (negsuc n) h = signed_of-neg decimal_nanos (decimal_text (suc n)) n h (decimal_nanos-text (suc n) h)
 
 longer : (k j n g : ℕ) (acc : List ℕ) (b : Bool) → (n / 16 == 0) ≡ b → n < 16 ^ suc j → (0 < j → n / 16 < 16 ^ j → length (digits_onto k 16 false (n / 16) (g ∷ acc)) ≤ j + length (g ∷ acc)) → length (if b then g ∷ acc else digits_onto k 16 false (n / 16) (g ∷ acc)) ≤ suc j + length acc
 longer k j n g acc true e fits rest = omega arith
@@ -101,13 +111,14 @@ kind_named-name kind.TypeName = refl
 kind_named-name kind.Ptr = refl
 
 pub reads_back : (v : variants.Variant) → IsInRange v → IsReadable v → value_of (kind_of v) (value_text v) ≡ Some v
-reads_back (variant.Int n) r h = ap (option_map variant.Int) (int_of-signed n h)
+reads_back (variant.Int n) r h = ap (option_map variant.Int) (int_of-signed n h.small)
 reads_back (variant.Uint n) r h = ap (option_map variant.Uint) (read-decimal 18446744073709551615 n (omega arith) (lit< tt))
 reads_back (variant.Text t) r h = refl
 reads_back (variant.Bool true) r h = refl
 reads_back (variant.Bool false) r h = refl
 reads_back (variant.Addr a) r h = ap (option_map variant.Addr) (address_of-text a r)
 reads_back (variant.Kind k) r h = ap (option_map variant.Kind) (kind_named-name k)
-reads_back (variant.Real t) r h = refl
+reads_back (variant.Real t) r h = ap (λ o. Some (unwrap_or (option_map variant.Fixed o) (variant.Real t))) h.proper
+reads_back (variant.Fixed n) r h = ap (λ o. Some (unwrap_or (option_map variant.Fixed o) (variant.Real (fixed_text n)))) (fixed_of-text n h.small)
 reads_back (variant.Usr t) r h = refl
 reads_back (variant.Ptr t) r h = refl

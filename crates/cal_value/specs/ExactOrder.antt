@@ -1,4 +1,4 @@
-use Rattle.std.specs.Prelude.{◌≡◌, ℕ, ℤ, Bool, true, List, [], ◌∷◌, IsTrue}
+use Rattle.std.specs.Prelude.{◌≡◌, Bool, true, List, [], ◌∷◌, IsTrue}
 use Rattle.std.proofs.Common.{refl, ap, subst}
 use Rattle.std.specs.declared.cmp.Ordering.{Ordering}
 use Rattle.std.specs.declared.cmp.Ordering.TheVariants.{Less, Equal, Greater}
@@ -6,7 +6,7 @@ use Rattle.std.specs.Bool.{Decides, one_answer}
 use Rattle.std.specs.Ordering.{nat_cmp, int_cmp, eq_by_cmp, ordering_then}
 use Rattle.std.specs.Cmp.{IsTotalOrder, IsEquivalence, IsPartialEquivalence, partial_equiv_from_equiv, eq_by_cmp_equiv, nat_cmp_total, int_cmp_total, Equal-is, first_so, second_so}
 use Rattle.std.specs.Cmp.Lexicographic.{slice_cmp, lists_total, pointwise, pointwise_decides}
-use Rattle.std.proofs.lemmas.Cmp.{ranked, int_ranked}
+use Rattle.std.proofs.lemmas.Map.Lookups.{exact_signed, exact_unsigned}
 use Rattle.cal_value.specs.Texts.{text_cmp}
 
 -- a total order that tells any two values apart
@@ -49,21 +49,11 @@ pub exact_first : {K : Type 0} {R : K → K → Ordering} (o : IsExactOrder R) (
 exact_first {K} {R} o x y s e = let h = ordering_then-Equal (R x y) s e in (o.exact x y h.0, h.1)
 
 -- numbers, and lists of what an exact order tells apart
-nat_tied : (x y : ℕ) (r : Ordering) → r ≡ nat_cmp x y → r ≡ Equal → x ≡ y
-nat_tied x y Less p e = cc
-nat_tied x y Equal p e = ranked x y Equal p
-nat_tied x y Greater p e = cc
-
 pub nat_exact : IsExactOrder nat_cmp
-nat_exact = record { total = nat_cmp_total; exact = λ x y. nat_tied x y (nat_cmp x y) refl }
-
-int_tied : (x y : ℤ) (r : Ordering) → r ≡ int_cmp x y → r ≡ Equal → x ≡ y
-int_tied x y Less p e = cc
-int_tied x y Equal p e = int_ranked x y Equal p
-int_tied x y Greater p e = cc
+nat_exact = record { total = nat_cmp_total; exact = exact_unsigned }
 
 pub int_exact : IsExactOrder int_cmp
-int_exact = record { total = int_cmp_total; exact = λ x y. int_tied x y (int_cmp x y) refl }
+int_exact = record { total = int_cmp_total; exact = exact_signed }
 
 lists_tied : {K : Type 0} {R : K → K → Ordering} (o : IsExactOrder R) (xs ys : List K) → slice_cmp R xs ys ≡ Equal → xs ≡ ys
 lists_tied o [] [] e = refl

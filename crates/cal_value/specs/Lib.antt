@@ -1,9 +1,13 @@
 pub mod Kinds
+pub mod Numerals
+pub mod Decimals
 pub mod Values
+pub mod Measures
+pub mod Reading
 pub mod Texts
 pub mod ExactOrder
 pub mod Order
 pub mod OrderLaws
 pub mod Flat
-pub mod Reading
+pub mod WellFormed
 pub mod Props

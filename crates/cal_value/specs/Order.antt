@@ -1,8 +1,9 @@
-use Rattle.std.specs.Prelude.{ℕ, ℤ, pos, List, [], if◌then◌else◌}
+use Rattle.std.specs.Prelude.{ℕ, ℤ, pos, List, [], unwrap_or, if◌then◌else◌}
 use Rattle.std.specs.declared.cmp.Ordering.{Ordering}
 use Rattle.std.specs.Ordering.{nat_cmp, int_cmp, on, then_cmp}
 use Rattle.std.specs.Cmp.Lexicographic.{slice_cmp}
 use Rattle.cal_value.specs.Kinds.{kind_node}
+use Rattle.cal_value.specs.Measures.{measure}
 use Rattle.cal_value.specs.Texts.{text_cmp}
 use Rattle.cal_value.specs.declared.kind.Kind as kinds
 use Rattle.cal_value.specs.declared.props.Props.{Props}
@@ -19,10 +20,11 @@ kind_cmp = on kind_node nat_cmp
 abbrev pub props_cmp : Props → Props → Ordering
 props_cmp = on (λ p. p.0) nat_cmp
 
--- the class of a value: numbers come first, then truths, addresses, kinds, and the four classes of texts
+-- the class of a value: numbers come first, then truths, addresses, kinds, and four classes of texts
 abbrev pub value_class : variants.Variant → ℕ
 value_class (variant.Int n) = 0
 value_class (variant.Uint n) = 0
+value_class (variant.Fixed n) = 0
 value_class (variant.Bool b) = 1
 value_class (variant.Addr a) = 2
 value_class (variant.Kind k) = 3
@@ -31,22 +33,19 @@ value_class (variant.Real t) = 5
 value_class (variant.Usr t) = 6
 value_class (variant.Ptr t) = 7
 
--- the number by which a value is ordered in its class, false before true, and a kind by its node
+-- The number by which a value is ordered in its class: a number's measure, false before true,
+-- an address, and a kind by its node. The texts of a class are ordered by their bytes alone.
 abbrev pub value_number : variants.Variant → ℤ
-value_number (variant.Int n) = n
-value_number (variant.Uint n) = pos n
 value_number (variant.Bool b) = if b then pos 1 else pos 0
 value_number (variant.Addr a) = pos a
 value_number (variant.Kind k) = pos (kind_node k)
-value_number (variant.Text t) = pos 0
-value_number (variant.Real t) = pos 0
-value_number (variant.Usr t) = pos 0
-value_number (variant.Ptr t) = pos 0
+value_number v = unwrap_or (measure v) (pos 0)
 
--- of an Int and a Uint of one number the Int comes first
-abbrev pub value_sign : variants.Variant → ℕ
-value_sign (variant.Uint n) = 1
-value_sign _ = 0
+-- of numbers with one measure an Int comes first, then a Uint, and then a Fixed
+abbrev pub value_rank : variants.Variant → ℕ
+value_rank (variant.Uint n) = 1
+value_rank (variant.Fixed n) = 2
+value_rank _ = 0
 
 -- the bytes by which a text is ordered in its class
 abbrev pub value_bytes : variants.Variant → List ℕ
@@ -56,11 +55,11 @@ value_bytes (variant.Usr t) = t
 value_bytes (variant.Ptr t) = t
 value_bytes _ = []
 
--- the order of values (ours): by class, then by number, an Int before a Uint, then by bytes
+-- the order of values (Giltmoth's rule): by class, number, rank and bytes
 abbrev pub value_cmp : variants.Variant → variants.Variant → Ordering
 value_cmp =
     then_cmp (on value_class nat_cmp)
-    (then_cmp (on value_number int_cmp) (then_cmp (on value_sign nat_cmp) (on value_bytes text_cmp)))
+    (then_cmp (on value_number int_cmp) (then_cmp (on value_rank nat_cmp) (on value_bytes text_cmp)))
 
 -- attributes are ordered by name, then by kind, then by properties
 abbrev pub attribute_cmp : Attribute → Attribute → Ordering

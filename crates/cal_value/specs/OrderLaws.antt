@@ -1,11 +1,13 @@
-use Rattle.std.specs.Prelude.{◌≡◌, ℕ, pos, Bool, true, false, if◌then◌else◌}
+use Rattle.std.specs.Prelude.{◌≡◌, ℕ, ℤ, pos, negsuc, Bool, true, false, if◌then◌else◌}
 use Rattle.std.proofs.Common.{refl, ap, arith}
 use Rattle.std.specs.declared.cmp.Ordering.TheVariants.{Equal}
 use Rattle.std.specs.Ordering.{nat_cmp, int_cmp, ordering_then}
 use Rattle.std.specs.Cmp.{then_total, on_total}
+use Rattle.std.proofs.lemmas.Int.{ints}
 use Rattle.cal_value.specs.Kinds.{kind_node}
+use Rattle.cal_value.specs.Measures.{nanos}
 use Rattle.cal_value.specs.Texts.{text_cmp}
-use Rattle.cal_value.specs.Order.{kind_cmp, props_cmp, value_class, value_number, value_sign, value_bytes, value_cmp, attribute_cmp, entry_cmp, path_cmp, group_cmp}
+use Rattle.cal_value.specs.Order.{kind_cmp, props_cmp, value_class, value_number, value_rank, value_bytes, value_cmp, attribute_cmp, entry_cmp, path_cmp, group_cmp}
 use Rattle.cal_value.specs.ExactOrder.{IsExactOrder, exact_first, nat_exact, int_exact, lists_exact, text_exact}
 use Rattle.cal_value.specs.declared.kind.Kind as kinds
 use Rattle.cal_value.specs.declared.kind.Kind.TheVariants as kind
@@ -48,10 +50,18 @@ truth_number _ _ e = cc
 pos_one : (a b : ℕ) → pos a ≡ pos b → a ≡ b
 pos_one a b e = cc
 
--- a value is known by its class, its number, its sign and its bytes
-known : (x y : variants.Variant) → value_class x ≡ value_class y → value_number x ≡ value_number y → value_sign x ≡ value_sign y → value_bytes x ≡ value_bytes y → x ≡ y
-known (variant.Int a) (variant.Int b) c n s t = ap variant.Int n
-known (variant.Uint a) (variant.Uint b) c n s t = ap variant.Uint (pos_one a b n)
+-- no two whole numbers have one measure
+nanos_one : (a b : ℤ) → nanos a ≡ nanos b → a ≡ b
+nanos_one (pos a) (pos b) e = omega (arith, ints)
+nanos_one (pos a) (negsuc b) e = omega (arith, ints)
+nanos_one (negsuc a) (pos b) e = omega (arith, ints)
+nanos_one (negsuc a) (negsuc b) e = omega (arith, ints)
+
+-- a value is known by its class, its number, its rank and its bytes
+known : (x y : variants.Variant) → value_class x ≡ value_class y → value_number x ≡ value_number y → value_rank x ≡ value_rank y → value_bytes x ≡ value_bytes y → x ≡ y
+known (variant.Int a) (variant.Int b) c n s t = ap variant.Int (nanos_one a b n)
+known (variant.Uint a) (variant.Uint b) c n s t = ap variant.Uint (pos_one a b (nanos_one (pos a) (pos b) n))
+known (variant.Fixed a) (variant.Fixed b) c n s t = ap variant.Fixed n
 known (variant.Bool a) (variant.Bool b) c n s t = ap variant.Bool (truth_number a b n)
 known (variant.Addr a) (variant.Addr b) c n s t = ap variant.Addr (pos_one a b n)
 known (variant.Kind a) (variant.Kind b) c n s t = ap variant.Kind (kind_node-one a b (pos_one (kind_node a) (kind_node b) n))
@@ -60,23 +70,27 @@ known (variant.Real a) (variant.Real b) c n s t = ap variant.Real t
 known (variant.Usr a) (variant.Usr b) c n s t = ap variant.Usr t
 known (variant.Ptr a) (variant.Ptr b) c n s t = ap variant.Ptr t
 known (variant.Int a) (variant.Uint b) c n s t = absurd (omega (arith, s))
+known (variant.Int a) (variant.Fixed b) c n s t = absurd (omega (arith, s))
 known (variant.Uint a) (variant.Int b) c n s t = absurd (omega (arith, s))
+known (variant.Uint a) (variant.Fixed b) c n s t = absurd (omega (arith, s))
+known (variant.Fixed a) (variant.Int b) c n s t = absurd (omega (arith, s))
+known (variant.Fixed a) (variant.Uint b) c n s t = absurd (omega (arith, s))
 known _ _ c n s t = absurd (omega (arith, c))
 
 value_tied : (x y : variants.Variant) → value_cmp x y ≡ Equal → x ≡ y
 value_tied x y e =
     let bytes = text_cmp (value_bytes x) (value_bytes y) in
-    let sign = ordering_then (nat_cmp (value_sign x) (value_sign y)) bytes in
-    let number = ordering_then (int_cmp (value_number x) (value_number y)) sign in
+    let rank = ordering_then (nat_cmp (value_rank x) (value_rank y)) bytes in
+    let number = ordering_then (int_cmp (value_number x) (value_number y)) rank in
     let c = exact_first nat_exact (value_class x) (value_class y) number e in
-    let n = exact_first int_exact (value_number x) (value_number y) sign c.1 in
-    let s = exact_first nat_exact (value_sign x) (value_sign y) bytes n.1 in
+    let n = exact_first int_exact (value_number x) (value_number y) rank c.1 in
+    let s = exact_first nat_exact (value_rank x) (value_rank y) bytes n.1 in
     known x y c.0 n.0 s.0 (text_exact.exact (value_bytes x) (value_bytes y) s.1)
 
 pub value_exact : IsExactOrder value_cmp
 value_exact = record {
   total = then_total (on_total value_class nat_exact.total)
-      (then_total (on_total value_number int_exact.total) (then_total (on_total value_sign nat_exact.total) (on_total value_bytes text_exact.total)));
+      (then_total (on_total value_number int_exact.total) (then_total (on_total value_rank nat_exact.total) (on_total value_bytes text_exact.total)));
   exact = value_tied;
 }
 

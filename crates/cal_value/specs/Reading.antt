@@ -1,34 +1,19 @@
 use Rattle.std.specs.Prelude as std
-use Rattle.std.specs.Prelude.{ℕ, ℤ, Bool, ⊤, ◌<◌, ◌≤◌, unsigned_abs, pos, neg_ℤ, ◌^◌, List, [], Option, Some, None, length, drop, codes, nat_eq, nat_le, not, ◌==◌, ◌&&◌, ◌||◌, if◌then◌else◌}
-use Rattle.std.specs.Char.{is_digit}
+use Rattle.std.specs.Prelude.{◌≡◌, ℕ, ℤ, Bool, ⊤, ◌<◌, ◌≤◌, unsigned_abs, ◌^◌, List, Option, Some, None, length, drop, codes, nat_eq, nat_le, unwrap_or, ◌||◌, if◌then◌else◌}
 use Rattle.std.specs.Cmp.Lexicographic.{pointwise}
-use Rattle.std.specs.List.{list_all, starts_with}
+use Rattle.std.specs.List.{starts_with}
 use Rattle.std.specs.Option.{option_map}
-use Rattle.std.specs.Str.Parse.{digits_value}
+use Rattle.cal_value.specs.Decimals.{fixed_of}
 use Rattle.cal_value.specs.Kinds.{kind_named}
+use Rattle.cal_value.specs.Numerals.{at_most, number_of, signed_of}
 use Rattle.cal_value.specs.declared.kind.Kind as kinds
 use Rattle.cal_value.specs.declared.kind.Kind.TheVariants as kind
 use Rattle.cal_value.specs.declared.variant.Variant as variants
 use Rattle.cal_value.specs.declared.variant.Variant.TheVariants as variant
 
--- one digit or more of a base, letters of either case, and nothing else
-abbrev pub is_numeral : ℕ → List ℕ → Bool
-is_numeral base t = not (length t == 0) && list_all (λ c. is_digit c base) t
-
--- the number that a numeral writes, any number of leading zeros included
-abbrev pub number_of : ℕ → List ℕ → Option ℕ
-number_of base t = if is_numeral base t then Some (digits_value base t) else None
-
--- a number where it is at most this one
-abbrev pub at_most : ℕ → Option ℕ → Option ℕ
-at_most most None = None
-at_most most (Some n) = if nat_le n most then Some n else None
-
--- an optional minus and a decimal, of a magnitude of at most 2^86 (ours), so that `-0` is 0
+-- an optional minus and a decimal
 abbrev pub int_of : List ℕ → Option ℤ
-int_of t =
-    if starts_with nat_eq t (codes "-") then option_map (λ n. neg_ℤ (pos n)) (at_most (2 ^ 86) (number_of 10 (drop 1 t)))
-    else option_map pos (at_most (2 ^ 86) (number_of 10 t))
+int_of = signed_of (number_of 10)
 
 -- a decimal that 64 bits hold
 abbrev pub uint_of : List ℕ → Option ℕ
@@ -38,9 +23,13 @@ uint_of t = at_most 18446744073709551615 (number_of 10 t)
 abbrev pub hexadecimal_of : List ℕ → Option ℕ
 hexadecimal_of t = if nat_le (length t) 16 then number_of 16 t else None
 
--- an optional `0x`, and then hexadecimal digits (ours)
+-- an optional `0x`, and then hexadecimal digits (Giltmoth's rule)
 abbrev pub address_of : List ℕ → Option ℕ
 address_of t = hexadecimal_of (if starts_with nat_eq t (codes "0x") then drop 2 t else t)
+
+-- a decimal of at most nine digits behind the point is a number, and any other text is kept as it is
+abbrev pub double_of : List ℕ → variants.Variant
+double_of t = unwrap_or (option_map variant.Fixed (fixed_of t)) (variant.Real t)
 
 -- `true` and `1`, `false` and `0`, and nothing else
 abbrev pub truth_of : List ℕ → Option Bool
@@ -55,15 +44,26 @@ value_of kind.Int t = option_map variant.Int (int_of t)
 value_of kind.Uint t = option_map variant.Uint (uint_of t)
 value_of kind.Str t = Some (variant.Text t)
 value_of kind.Addr t = option_map variant.Addr (address_of t)
-value_of kind.Double t = Some (variant.Real t)
+value_of kind.Double t = Some (double_of t)
 value_of kind.Bool t = option_map variant.Bool (truth_of t)
 value_of kind.TypeName t = option_map variant.Kind (kind_named t)
 value_of kind.Ptr t = Some (variant.Ptr t)
 
--- an Int that can be read back: of a magnitude of at most 2^86. Every other value can.
-abbrev pub IsReadable : variants.Variant → Type 0
-IsReadable (variant.Int n) = unsigned_abs n ≤ 2 ^ 86
-IsReadable _ = ⊤
+-- an Int and a Fixed have a magnitude of at most 2^86 (Giltmoth's rule)
+abbrev pub IsSmall : variants.Variant → Type 0
+IsSmall (variant.Int n) = unsigned_abs n ≤ 2 ^ 86
+IsSmall (variant.Fixed n) = unsigned_abs n ≤ 2 ^ 86
+IsSmall _ = ⊤
+
+-- no text is kept as a Real that reads as a Fixed
+abbrev pub IsProper : variants.Variant → Type 0
+IsProper (variant.Real t) = fixed_of t ≡ None
+IsProper _ = ⊤
+
+-- a value that its text gives back
+pub record IsReadable (v : variants.Variant) : Type 0 where
+  pub small : IsSmall v
+  pub proper : IsProper v
 
 -- the numbers that the program holds in 64 bits, which a list of values doesn't say by itself
 abbrev pub IsInRange : variants.Variant → Type 0
@@ -71,10 +71,10 @@ IsInRange (variant.Uint n) = n < 2 ^ 64
 IsInRange (variant.Addr a) = a < 2 ^ 64
 IsInRange _ = ⊤
 
--- whether the values of a kind are texts, which alone take memory
-abbrev pub is_textual : kinds.Kind → Bool
-is_textual kind.Usr = std.true
-is_textual kind.Str = std.true
-is_textual kind.Double = std.true
-is_textual kind.Ptr = std.true
+-- whether a value is a text, which alone takes memory
+abbrev pub is_textual : variants.Variant → Bool
+is_textual (variant.Text t) = std.true
+is_textual (variant.Real t) = std.true
+is_textual (variant.Usr t) = std.true
+is_textual (variant.Ptr t) = std.true
 is_textual _ = std.false

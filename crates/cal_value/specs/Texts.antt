@@ -3,6 +3,6 @@ use Rattle.std.specs.declared.cmp.Ordering.{Ordering}
 use Rattle.std.specs.Ordering.{nat_cmp}
 use Rattle.std.specs.Cmp.Lexicographic.{slice_cmp}
 
--- the order of texts: byte by byte, a proper prefix first (ours)
+-- the order of texts: byte by byte, a proper prefix first (Giltmoth's rule)
 abbrev pub text_cmp : List ℕ → List ℕ → Ordering
 text_cmp = slice_cmp nat_cmp

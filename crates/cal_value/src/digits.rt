@@ -1,5 +1,8 @@
 ghost use Rattle.std.specs.Prelude.{◌≡◌, ◌^◌, ◌≤◌, IfSome};
-ghost use Rattle.cal_value.specs.Reading.{at_most, number_of};
+ghost use Rattle.cal_value.specs.Numerals.{at_most, number_of};
+
+/// The greatest magnitude that a number is read with, 2^86.
+pub(crate) const MOST: u128 = 77371252455336267181195264;
 
 /// The number that digits of a base write, where it is at most `most`. It reads no further than that.
 pub(crate) fn read_number(digits: &[u8], base: u32, most: u128) -> Option<u128>

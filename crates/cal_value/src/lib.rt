@@ -10,6 +10,8 @@ mod attribute;
 mod copying;
 mod digits;
 mod exact;
+mod fixed_read;
+mod fixed_text;
 mod flat;
 mod kind;
 mod laws;
@@ -19,8 +21,6 @@ mod print;
 mod props;
 mod record;
 mod seq;
-#[cfg(test)]
-mod tests;
 mod text;
 mod variant;
 mod variant_order;

@@ -1,9 +1,10 @@
-ghost use Rattle.std.specs.Prelude.{◌≡◌, ◌↔◌, IfOk, IsErrOf, IsTrue, None, Some};
-ghost use Rattle.cal_value.specs.Reading.{IsReadable, address_of, hexadecimal_of, int_of, is_textual, truth_of, uint_of, value_of};
+ghost use Rattle.std.specs.Prelude.{◌≡◌, ◌↔◌, ◌≤◌, ◌^◌, IfOk, IfSome, IsErrOf, IsSomeAnd, IsTrue, None, Some, unsigned_abs};
+ghost use Rattle.cal_value.specs.Reading.{IsProper, IsSmall, address_of, hexadecimal_of, int_of, is_textual, truth_of, uint_of, value_of};
 ghost use Rattle.cal_value.specs.Values.{kind_of};
 ghost use Rattle.cal_value.specs.declared.parse.ValueFault.TheVariants as fault;
 
-use crate::digits::read_number;
+use crate::digits::{MOST, read_number};
+use crate::fixed_read::read_fixed;
 use crate::{Kind, OutOfMemory, Text, Variant};
 use std::alloc::Global;
 use thiserror::Error;
@@ -29,9 +30,10 @@ impl From<OutOfMemory> for ValueFault {
 pub fn parse_value(alloc: Global, kind: Kind, text: &str) -> Result<Variant, ValueFault>
     ensures value { IfOk result (λ value. value_of kind text.now ≡ Some value) }
     ensures kind { IfOk result (λ value. kind_of value ≡ kind) }
-    ensures readable { IfOk result IsReadable }
+    ensures small { IfOk result IsSmall }
+    ensures proper { IfOk result IsProper }
     ensures bad { IsErrOf result ValueFault.BadValue ↔ (value_of kind text.now ≡ None) }
-    ensures memory { IsErrOf result ValueFault.OutOfMemory → IsTrue (is_textual kind) }
+    ensures memory { IsErrOf result ValueFault.OutOfMemory → IsSomeAnd (value_of kind text.now) (λ value. IsTrue (is_textual value)) }
 {
     let bytes = text.as_bytes();
     let value = match kind {
@@ -40,7 +42,10 @@ pub fn parse_value(alloc: Global, kind: Kind, text: &str) -> Result<Variant, Val
         Kind::Uint => read_uint(bytes).map(Variant::Uint),
         Kind::Str => Some(Variant::Text(Text::from_str(alloc, text)?)),
         Kind::Addr => read_address(bytes).map(Variant::Addr),
-        Kind::Double => Some(Variant::Real(Text::from_str(alloc, text)?)),
+        Kind::Double => Some(match read_fixed(bytes) {
+            Some(nanos) => Variant::Fixed(nanos),
+            None => Variant::Real(Text::from_str(alloc, text)?),
+        }),
         Kind::Bool => read_truth(text).map(Variant::Bool),
         Kind::TypeName => Kind::from_name(text).map(Variant::Kind),
         Kind::Ptr => Some(Variant::Ptr(Text::from_str(alloc, text)?)),
@@ -48,16 +53,14 @@ pub fn parse_value(alloc: Global, kind: Kind, text: &str) -> Result<Variant, Val
     value.ok_or(ValueFault::BadValue)
 }
 
-// 2^86
-const MOST_INT: u128 = 77371252455336267181195264;
-
 fn read_int(text: &[u8]) -> Option<i128>
-    ensures { result ≡ int_of text.now }
+    ensures value { result ≡ int_of text.now }
+    ensures small { IfSome result (λ number. unsigned_abs number ≤ 2 ^ 86) }
 {
     if text.starts_with(b"-") {
-        read_number(&text[1..], 10, MOST_INT).map(|number| -(number as i128))
+        read_number(&text[1..], 10, MOST).map(|number| -(number as i128))
     } else {
-        read_number(text, 10, MOST_INT).map(|number| number as i128)
+        read_number(text, 10, MOST).map(|number| number as i128)
     }
 }
 

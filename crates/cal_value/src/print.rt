@@ -2,6 +2,7 @@ ghost use Rattle.std.specs.Prelude.{◌≡◌, ◌++◌, OnOk, OnErr};
 ghost use Rattle.cal_value.specs.Reading.{IsInRange};
 ghost use Rattle.cal_value.specs.Values.{address_text, value_text};
 
+use crate::fixed_text::print_fixed;
 use crate::{OutOfMemory, Text, Variant};
 use itoa::{Buffer, Integer};
 
@@ -19,6 +20,7 @@ pub fn print_value(value: &Variant, out: &mut Text) -> Result<(), OutOfMemory>
         Variant::Addr(address) => print_address(*address, out),
         Variant::Kind(kind) => out.push_str(kind.name()),
         Variant::Real(text) => out.push_str(text.as_str()),
+        Variant::Fixed(nanos) => print_fixed(*nanos, out),
         Variant::Usr(text) => out.push_str(text.as_str()),
         Variant::Ptr(text) => out.push_str(text.as_str()),
     }

@@ -9,17 +9,20 @@ use crate::{Entry, OutOfMemory, Seq, TryCopy, same};
 use std::alloc::Global;
 use std::cmp::Ordering;
 
-/// A snapshot or a group: the paths of its nodes, each from the root, and its immediates. No path is empty.
+/// A snapshot or a group: the paths of its nodes, each from the root, and its immediates.
+/// No path is empty; `IsRecord` says so.
 #[derive(Debug, Drop, Hash)]
 pub struct Rec {
     pub paths: Seq<Seq<Entry>>,
     pub imms: Seq<Entry>,
 }
 
-/// The records of a stream, in order.
+/// The records of a stream: its rows in order, and its globals, which describe the whole run. A stream
+/// without globals has those of the record without paths and immediates.
 #[derive(Debug, Drop)]
 pub struct Records {
     pub rows: Seq<Rec>,
+    pub globals: Rec,
 }
 
 impl TryCopy for Rec {
@@ -35,6 +38,7 @@ impl TryCopy for Records {
     fn copy(&self, alloc: Global) -> Result<Self, OutOfMemory> {
         Ok(Records {
             rows: self.rows.copy(alloc)?,
+            globals: self.globals.copy(alloc)?,
         })
     }
 }

@@ -5,6 +5,7 @@ use crate::{Kind, OutOfMemory, Text, TryCopy};
 use std::alloc::Global;
 
 /// A value (Caliper's data model). An `Int` has 128 bits here, so that sums are exact.
+/// A `Fixed` is a decimal of kind `double`, in nano-units; a `Real` is any other text of that kind.
 #[derive(Debug, Drop, Hash)]
 pub enum Variant {
     Int(i128),
@@ -14,6 +15,7 @@ pub enum Variant {
     Addr(u64),
     Kind(Kind),
     Real(Text),
+    Fixed(i128),
     Usr(Text),
     Ptr(Text),
 }
@@ -28,6 +30,7 @@ impl TryCopy for Variant {
             Variant::Addr(address) => Variant::Addr(*address),
             Variant::Kind(kind) => Variant::Kind(*kind),
             Variant::Real(text) => Variant::Real(text.copy(alloc)?),
+            Variant::Fixed(nanos) => Variant::Fixed(*nanos),
             Variant::Usr(text) => Variant::Usr(text.copy(alloc)?),
             Variant::Ptr(text) => Variant::Ptr(text.copy(alloc)?),
         })

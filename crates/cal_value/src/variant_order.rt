@@ -1,7 +1,8 @@
 ghost use Rattle.std.specs.Prelude.{◌≡◌, ◌↔◌, IsTrue, refl};
 ghost use Rattle.std.specs.Cmp.{partial_order_from_total};
-ghost use Rattle.std.specs.Ordering.{as_partial_cmp, eq_by_cmp};
-ghost use Rattle.cal_value.specs.Order.{value_bytes, value_class, value_cmp, value_number, value_sign};
+ghost use Rattle.std.specs.Ordering.{as_partial_cmp, eq_by_cmp, int_cmp};
+ghost use Rattle.cal_value.specs.Measures.{nanos as of_whole, value_whole};
+ghost use Rattle.cal_value.specs.Order.{value_bytes, value_class, value_cmp, value_number, value_rank};
 ghost use Rattle.cal_value.specs.OrderLaws.{value_exact};
 ghost use Rattle.cal_value.specs.ExactOrder.{exact_equiv, exact_per};
 
@@ -46,6 +47,10 @@ impl PartialEq for Variant {
                 Variant::Real(b) => *a == *b,
                 _ => false,
             },
+            Variant::Fixed(a) => match other {
+                Variant::Fixed(b) => a == b,
+                _ => false,
+            },
             Variant::Usr(a) => match other {
                 Variant::Usr(b) => *a == *b,
                 _ => false,
@@ -84,8 +89,8 @@ impl Ord for Variant {
     fn cmp(&self, other: &Variant) -> Ordering {
         self.class()
             .cmp(&other.class())
-            .then_with(|| self.number().cmp(&other.number()))
-            .then_with(|| self.sign().cmp(&other.sign()))
+            .then_with(|| self.cmp_number(other))
+            .then_with(|| self.rank().cmp(&other.rank()))
             .then_with(|| self.bytes().cmp(other.bytes()))
     }
 }
@@ -98,6 +103,7 @@ impl Variant {
         match self {
             Variant::Int(_) => 0,
             Variant::Uint(_) => 0,
+            Variant::Fixed(_) => 0,
             Variant::Bool(_) => 1,
             Variant::Addr(_) => 2,
             Variant::Kind(_) => 3,
@@ -108,8 +114,26 @@ impl Variant {
         }
     }
 
-    fn number(&self) -> i128
-        ensures { result ≡ value_number self.now }
+    // the order of the numbers of two values of one class
+    fn cmp_number(&self, other: &Variant) -> Ordering
+        ensures { value_class self.now ≡ value_class other.now
+            → result ≡ int_cmp (value_number self.now) (value_number other.now) }
+    {
+        match self {
+            Variant::Fixed(one) => match other {
+                Variant::Fixed(other) => one.cmp(other),
+                _ => cmp_whole(other.whole(), *one).reverse(),
+            },
+            _ => match other {
+                Variant::Fixed(other) => cmp_whole(self.whole(), *other),
+                _ => self.whole().cmp(&other.whole()),
+            },
+        }
+    }
+
+    // the number by which a value is ordered among those that aren't Fixed
+    fn whole(&self) -> i128
+        ensures { result ≡ value_whole self.now }
     {
         match self {
             Variant::Int(number) => *number,
@@ -121,11 +145,12 @@ impl Variant {
         }
     }
 
-    fn sign(&self) -> u8
-        ensures { result ≡ value_sign self.now }
+    fn rank(&self) -> u8
+        ensures { result ≡ value_rank self.now }
     {
         match self {
             Variant::Uint(_) => 1,
+            Variant::Fixed(_) => 2,
             _ => 0,
         }
     }
@@ -141,4 +166,14 @@ impl Variant {
             _ => "",
         }
     }
+}
+
+// A whole number beside nano-units. Its own nano-units may be more than 128 bits hold, so the whole
+// parts are compared first.
+fn cmp_whole(whole: i128, nanos: i128) -> Ordering
+    ensures { result ≡ int_cmp (of_whole whole) nanos }
+{
+    whole
+        .cmp(&nanos.div_euclid(1_000_000_000))
+        .then_with(|| 0.cmp(&nanos.rem_euclid(1_000_000_000)))
 }

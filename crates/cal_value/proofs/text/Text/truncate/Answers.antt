@@ -1,4 +1,4 @@
-use Rattle.std.proofs.Common.{◌≤◌, length, string_bytes, arith, ap, subst, take, sym}
+use Rattle.std.proofs.Common.{◌≤◌, length, string_bytes, arith, take}
 use Rattle.std.specs.Str.{IsUtf8}
 use Rattle.std.proofs.lemmas.Str.{IsCharBoundary-from_take, IsUtf8-string_bytes}
 use Rattle.cal_value.proofs.text.Text.truncate.Goals as goal
