@@ -1,5 +1,5 @@
 ghost use Rattle.std.specs.Prelude.{◌≡◌, ◌<◌, [], ◌∷◌, length, IfOk, IfSome, IfNone, OnErr};
-ghost use Rattle.cal_context.specs.Tree.{attribute_at, value_at, Grows, IsContext};
+ghost use Rattle.cal_context.specs.Tree.{attribute_at, path_at, value_at, Grows, IsContext};
 ghost use Rattle.cal_context.specs.Children.{AddsAttribute, AddsChild, AddsLinked, AddsValue, CanLink, IsLinked};
 
 use crate::{AttributeNumber, Interner, Link, NodeNumber, ValueNumber};
@@ -22,9 +22,9 @@ impl Model for Context {
 
     ghost Value = { Tree };
 
-    ghost view = { tree_of };
+    ghost view = { λ s. tree_of s.attributes s.values s.links };
 
-    ghost invariant = { λ s. IsWhole (tree_of s) s.links };
+    ghost invariant = { λ s. IsWhole (tree_of s.attributes s.values s.links) s.links };
 }
 
 impl Context {
@@ -105,12 +105,12 @@ impl Context {
     pub fn link(&self, node: NodeNumber) -> Option<Link>
         requires { node.0 < length self.now.paths }
         ensures linked { IfSome result (λ link. IsLinked self.now link node) }
-        ensures root { IfNone result (node.0 ≡ 0) }
+        ensures root { IfNone result ((node.0 ≡ 0) × (path_at self.now node ≡ [])) }
     {
         let _ = &self.attributes;
         let _ = &self.values;
         let index = node.0.checked_sub(1)?;
-        self.links.as_slice().get(index as usize).copied()
+        Some(self.links.as_slice()[index as usize])
     }
 
     /// The attribute of a number.

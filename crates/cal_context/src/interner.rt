@@ -15,13 +15,12 @@ pub struct Interner<T: Exact + Hash> {
 
 impl<T: Exact + Hash> Model for Interner<T> {
     ghost use Rattle.std.specs.Prelude.{List, ◌<◌, ◌^◌, length};
-    ghost use Rattle.cal_context.specs.Lists.{AreApart};
 
     ghost Value = { List T };
 
     ghost view = { λ s. s.items.keys };
 
-    ghost invariant = { λ s. AreApart s.items.keys × (length s.items.keys < 2 ^ 32) };
+    ghost invariant = { λ s. length s.items.keys < 2 ^ 32 };
 }
 
 impl<T: Exact + Hash> Interner<T> {
@@ -36,7 +35,8 @@ impl<T: Exact + Hash> Interner<T> {
 
     /// The items by their numbers.
     pub fn as_slice(&self) -> &[T]
-        ensures { result.now ≡ self.now }
+        ensures items { result.now ≡ self.now }
+        ensures apart { AreApart self.now }
     {
         self.items.as_slice()
     }

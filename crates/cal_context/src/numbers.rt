@@ -1,3 +1,6 @@
+ghost use Rattle.std.proofs.Common.{rules};
+ghost use Rattle.std.proofs.lemmas.Grind.{common_steps};
+
 use cal_value::Exact;
 
 /// The number of an attribute in a context.
@@ -25,5 +28,5 @@ pub struct Link {
 }
 
 impl Exact for Link {
-    ghost tells = { λ x y t. ? };
+    ghost tells = { Prim.search (rules, common_steps) };
 }

@@ -1,6 +1,7 @@
-ghost use Rattle.std.specs.Prelude.{◌≡◌, [], OnOk};
+ghost use Rattle.std.specs.Prelude.{◌≡◌, [], ◌∷◌, OnOk};
 ghost use Rattle.cal_context.specs.Snapshots.{IsIn, meaning};
-ghost use Rattle.cal_context.specs.Taking.{TakesOneMore};
+ghost use Rattle.cal_context.specs.Taking.{TakesMore};
+ghost use Rattle.cal_context.specs.Tree.{Grows};
 
 use crate::{Context, Snapshot, expand};
 use cal_value::{OutOfMemory, Rec, Seq};
@@ -14,13 +15,20 @@ pub trait Taker {
     ghost use Rattle.cal_value.specs.declared.record.Rec.{Rec};
     ghost use Rattle.cal_context.specs.Tree.{Tree};
 
-    // whether it has taken these records, from a context as it stands now
+    // whether it has taken these records so far, from a context as it stands
     ghost has_taken: { Self → Tree → List Rec → Type 0 };
 
     /// Takes the record that a snapshot means in a context.
     fn take(&mut self, context: &Context, snapshot: &Snapshot) -> Result<(), OutOfMemory>
         requires { IsIn context.now snapshot.now }
-        ensures { OnOk result (TakesOneMore (has_taken self.old) (has_taken self.new) context.now (meaning context.now snapshot.now)) };
+        ensures { OnOk result (TakesMore
+            (has_taken self.old context.now)
+            (has_taken self.new context.now)
+            (meaning context.now snapshot.now ∷ [])) };
+
+    // what it has taken stays so while the context grows
+    ghost stays: { (taker : Self) (old new : Tree) (rs : List Rec)
+        → has_taken taker old rs → Grows old new → has_taken taker new rs };
 }
 
 /// The simplest taker: it keeps each record with entries of its own.
@@ -59,7 +67,9 @@ impl Taken {
 }
 
 impl Taker for Taken {
-    ghost has_taken = { λ taken _ rows. taken ≡ rows };
+    ghost has_taken = { λ taken _ rs. taken ≡ rs };
+
+    ghost stays = { λ taken old new rs is grows. is };
 
     fn take(&mut self, context: &Context, snapshot: &Snapshot) -> Result<(), OutOfMemory> {
         self.rows.push(expand(self.alloc, context, snapshot)?)
