@@ -3,3 +3,6 @@ mod LineLemmas
 mod PlaceLemmas
 mod AfterLemmas
 mod StreamLemmas
+mod BuiltInLemmas
+mod DescribeLemmas
+mod KeptLemmas

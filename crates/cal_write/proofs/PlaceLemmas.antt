@@ -7,7 +7,9 @@ use Rattle.std.proofs.lemmas.List.Sums.{fold-append, passes_at_first}
 use Rattle.cal_value.specs.ExactOrder.{exact_decides}
 use Rattle.cal_value.specs.OrderLaws.{path_exact}
 use Rattle.cal_value.specs.declared.attribute.Attribute.{Attribute}
+use Rattle.cal_value.specs.declared.attribute.Entry.{Entry}
 use Rattle.cal_context.specs.Lists.{IsFront}
+use Rattle.cal_context.proofs.ListLemmas.{IsFront-refl, IsFront-trans}
 use Rattle.cal_write.specs.Nodes.{Node, same_node, with_node, node_of_attribute, needed_by_attribute}
 use Rattle.cal_write.specs.CanonicalText.{id_in, parent_id}
 use Rattle.cal_write.specs.Places.{Has, HasAll, IsThere, IsAt, IsParent, KnowsAttribute}
@@ -72,25 +74,28 @@ parent_one ns [] (x ∷ n) g h e = cc
 parent_one ns (x ∷ m) [] g h e = cc
 parent_one ns (x ∷ m) (y ∷ n) g h e = node_one ns (x ∷ m) (y ∷ n) g h (some_one e)
 
+-- a node that isn't the root and is there can have others below it
+pub at-parent : (ns : List Node) (n : Node) (id : ℕ) → (n ≡ [] → ⊥) → IsAt ns n id → IsParent ns n (Some id)
+at-parent ns [] id some at = absurd (some refl)
+at-parent ns (e ∷ n) id some at = record { there = at.has; is = ap Some at.is }
+
+pub push-some : (up : Node) (e : Entry) → up ++ e ∷ [] ≡ [] → ⊥
+push-some [] e h = cc
+push-some (d ∷ up) e h = cc
+
 -- ---- as more nodes come
-
-pub front-refl : (ns : List Node) → IsFront ns ns
-front-refl ns = ([], sym (append-nil ns))
-
-pub front-trans : (a b c : List Node) → IsFront a b → IsFront b c → IsFront a c
-front-trans a b c g h = (g.0 ++ h.0, h.1 ∙ ap (λ l. l ++ h.0) g.1 ∙ append_assoc a g.0 h.0)
 
 pub with_node-front : (ns : List Node) (n : Node) → IsFront ns (with_node ns n)
 with_node-front ns n = by (list_any (same_node n) ns)
   where
     by : (b : Bool) → IsFront ns (if b then ns else ns ++ n ∷ [])
-    by true = front-refl ns
+    by true = IsFront-refl ns
     by false = (n ∷ [], refl)
 
 pub fold-front : (ns needed : List Node) → IsFront ns (fold with_node ns needed)
-fold-front ns [] = front-refl ns
+fold-front ns [] = IsFront-refl ns
 fold-front ns (n ∷ needed) =
-    front-trans ns (with_node ns n) (fold with_node (with_node ns n) needed) (with_node-front ns n) (fold-front (with_node ns n) needed)
+    IsFront-trans ns (with_node ns n) (fold with_node (with_node ns n) needed) (with_node-front ns n) (fold-front (with_node ns n) needed)
 
 module _ (old new : List Node) (g : IsFront old new) where
   pub Has-grown : (n : Node) → Has old n → Has new n

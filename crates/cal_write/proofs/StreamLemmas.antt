@@ -17,7 +17,7 @@ use Rattle.cal_write.specs.Stream.{AddsLine, IsNodeOf, IsDescribed, IsOfBuiltIn,
 use Rattle.cal_write.specs.declared.described.DescribedNode.{DescribedNode}
 use Rattle.cal_write.specs.declared.stream.Lines.{Lines}
 use Rattle.cal_write.specs.declared.stream.Stream.{Stream}
-use Rattle.cal_write.proofs.PlaceLemmas.{Has-grown, HasAll-grown, IsThere-grown, parent_id-grown, id_in-grown, IsAt-grown, IsParent-grown, KnowsAttribute-grown, parent_one, Has-last, id_in-last, Has-push_cases, HasAll-append, HasAll-left, HasAll-right, front-trans}
+use Rattle.cal_write.proofs.PlaceLemmas.{Has-grown, HasAll-grown, IsThere-grown, parent_id-grown, id_in-grown, IsAt-grown, IsParent-grown, KnowsAttribute-grown, parent_one, Has-last, id_in-last, Has-push_cases, HasAll-append, HasAll-left, HasAll-right}
 use Rattle.cal_write.proofs.AfterLemmas.{after-known, after-new}
 
 -- ---- a path and its last entry
@@ -256,3 +256,10 @@ described-step old new s up e p a n id is parent knows small interns past adds i
     let place = adds.is ∙ is.next in
     written-step old new s up e p a id is parent knows fresh adds
     (rw (kept.1, ids, place) more)
+
+pub plain-step : (old : Stream) (lines : Lines) (s : Written) (up : Node) (e : Entry) (p : Option ℕ) (a id : ℕ) → IsStream old s → IsParent s.nodes up p → KnowsAttribute s.nodes e.attr a
+    → list_any (same_node (up ++ e ∷ [])) s.nodes ≡ false → 10 < a → AddsLine old.lines lines p a e.value id
+    → WritesTo (record old { lines = lines }) (after s ((up ++ e ∷ []) ∷ [])) (up ++ e ∷ []) id
+plain-step old lines s up e p a id is parent knows fresh large adds =
+    written-step old (record old { lines = lines }) s up e p a id is parent knows fresh adds
+    (described-plain s.nodes up e p a is.closed parent knows fresh old.described old.ids.items is.described large)

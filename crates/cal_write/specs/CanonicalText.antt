@@ -2,6 +2,7 @@ use Rattle.std.specs.Prelude.{ℕ, Bool, ◌==◌, ◌-◌, ◌&&◌, not, List,
 use Rattle.std.specs.List.{list_any, position_or_len}
 use Rattle.cal_value.specs.declared.attribute.Entry.{Entry}
 use Rattle.cal_value.specs.declared.record.Rec.{Rec}
+use Rattle.cal_value.specs.declared.record.Records.{Records}
 use Rattle.cal_write.specs.Nodes.{Node, same_node, node_of_attribute, built_in, needed_by_record, with_node, with_record, nodes}
 use Rattle.cal_write.specs.Lines.{node_line, record_line}
 
@@ -62,3 +63,7 @@ abbrev pub globals_text : List Node → Rec → List ℕ
 globals_text ns g =
     if (length (ends g) == 0) && (length g.imms == 0) then []
     else record_text (codes "globals") ns g
+-- The canonical text of records (the `.cali` format, in the order and numbering of this project):
+-- the rows, and then the globals.
+abbrev pub canonical_text : Records → List ℕ
+canonical_text rs = rows_text built_in rs.rows ++ globals_text (nodes rs.rows) rs.globals

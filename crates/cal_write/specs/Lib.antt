@@ -7,3 +7,7 @@ pub mod BuiltIn
 pub mod Memo
 pub mod Described
 pub mod Stream
+pub mod Kept
+pub mod SnapshotNeeds
+pub mod Writer
+pub mod WriterGrows

@@ -1,9 +1,9 @@
-use Rattle.std.specs.Prelude.{◌≡◌, ℕ, ◌+◌, ◌<◌, ◌≤◌, List, [], ◌∷◌, ◌++◌, Option, length, slice_index_or}
-use Rattle.std.specs.List.{Contains}
+use Rattle.std.specs.Prelude.{◌≡◌, ℕ, ◌+◌, ◌<◌, ◌≤◌, false, List, [], ◌∷◌, ◌++◌, Option, length, slice_index_or}
+use Rattle.std.specs.List.{Contains, list_any}
 use Rattle.cal_value.specs.declared.attribute.Entry.{Entry}
 use Rattle.cal_value.specs.declared.variant.Variant.{Variant}
 use Rattle.cal_context.specs.Lists.{IsFront}
-use Rattle.cal_write.specs.Nodes.{Node, node_of_attribute, built_in}
+use Rattle.cal_write.specs.Nodes.{Node, same_node, node_of_attribute, built_in}
 use Rattle.cal_write.specs.Lines.{node_line}
 use Rattle.cal_write.specs.CanonicalText.{id_in, parent_id}
 use Rattle.cal_write.specs.Places.{Has, IsAt, IsParent, KnowsAttribute, IsClosed}
@@ -64,4 +64,13 @@ abbrev pub AddsDescribed : Stream → Stream → Option ℕ → ℕ → Entry �
 AddsDescribed old new parent attribute e id =
     (s : Written) (up : Node) → IsStream old s → IsParent s.nodes up parent
     → KnowsAttribute s.nodes e.attr attribute → attribute ≤ 10
+    → WritesTo new (after s ((up ++ e ∷ []) ∷ [])) (up ++ e ∷ []) id
+
+-- The node of an entry was needed, below a node of this id. Where the attribute isn't a built-in
+-- one, the node was new.
+abbrev pub AddsEntry : Stream → Stream → Option ℕ → ℕ → Entry → ℕ → Type 0
+AddsEntry old new parent attribute e id =
+    (s : Written) (up : Node) → IsStream old s → IsParent s.nodes up parent
+    → KnowsAttribute s.nodes e.attr attribute
+    → (10 < attribute → list_any (same_node (up ++ e ∷ [])) s.nodes ≡ false)
     → WritesTo new (after s ((up ++ e ∷ []) ∷ [])) (up ++ e ∷ []) id

@@ -9,4 +9,9 @@ mod built_in;
 mod described;
 mod lines;
 mod memo;
+mod node_writer;
+mod snapshot_needs;
 mod stream;
+mod writer;
+
+pub use writer::Writer;

@@ -1,6 +1,6 @@
 ghost use Rattle.std.specs.Prelude.{IfOk};
 ghost use Rattle.cal_write.specs.Nodes.{node_of_props, node_of_attribute, needed_by_props, needed_by_attribute};
-ghost use Rattle.cal_write.specs.Stream.{AddsLine, AddsDescribed, Describes, IsBegun};
+ghost use Rattle.cal_write.specs.Stream.{AddsDescribed, AddsEntry, AddsLine, Describes, IsBegun};
 
 use crate::built_in::{BuiltIn, built_in_nodes};
 use crate::described::DescribedNode;
@@ -11,6 +11,8 @@ use std::alloc::Global;
 
 // properties without a node of their own
 const NO_PROPS: u32 = 0;
+
+const BUILT_IN_IDS: [u32; 12] = [0, 1, 2, 3, 4, 5, 6, 7, 8, 9, 10, 11];
 
 /// The lines of a stream, and the id that the next new node gets.
 #[derive(Drop)]
@@ -53,13 +55,9 @@ impl Stream {
     pub(crate) fn new(alloc: Global) -> Result<Stream, OutOfMemory>
         ensures { IfOk result IsBegun }
     {
-        let mut ids = Vec::new(alloc);
-        for id in 0..12 {
-            ids.push(id)?;
-        }
         Ok(Stream {
             described: built_in_nodes(alloc)?,
-            ids,
+            ids: BUILT_IN_IDS.to_vec(alloc)?,
             lines: Lines {
                 next: 12,
                 text: Text::new(alloc),
@@ -67,8 +65,33 @@ impl Stream {
         })
     }
 
+    /// Gives the id of a node, and writes its line where it is new. A node of another than a built-in
+    /// attribute is new, as the caller knows.
+    pub(crate) fn add(
+        &mut self,
+        alloc: Global,
+        parent: Option<u32>,
+        attribute: u32,
+        described: &Attribute,
+        value: &Variant,
+    ) -> Result<u32, OutOfMemory>
+        ensures { IfOk result (AddsEntry self.old self.new parent attribute
+            (record { attr = described.now; value = value.now })) }
+    {
+        if attribute > BuiltIn::OfProps.id() {
+            let id = self.lines.add(parent, attribute, value)?;
+            return Ok(id);
+        }
+        let entry = Entry {
+            attr: described.copy(alloc)?,
+            value: value.copy(alloc)?,
+        };
+        let id = self.add_described(parent, attribute, entry)?;
+        Ok(id)
+    }
+
     /// Gives the id of a node of a built-in attribute, and writes its line where it is new.
-    pub(crate) fn add_described(
+    fn add_described(
         &mut self,
         parent: Option<u32>,
         attribute: u32,
@@ -98,7 +121,8 @@ impl Stream {
         let parent = self.describe_props(alloc, attribute)?;
         let name = Variant::Text(attribute.name.copy(alloc)?);
         let entry = BuiltIn::OfNames.entry(alloc, name)?;
-        self.add_described(Some(parent), BuiltIn::OfNames.id(), entry)
+        let id = self.add_described(Some(parent), BuiltIn::OfNames.id(), entry)?;
+        Ok(id)
     }
 
     /// Writes the node of an attribute's properties, and gives its id, or that of the kind's node.
@@ -116,6 +140,7 @@ impl Stream {
             return Ok(kind);
         }
         let entry = BuiltIn::OfProps.entry(alloc, Variant::Int(i128::from(props)))?;
-        self.add_described(Some(kind), BuiltIn::OfProps.id(), entry)
+        let id = self.add_described(Some(kind), BuiltIn::OfProps.id(), entry)?;
+        Ok(id)
     }
 }
