@@ -1,9 +1,8 @@
-pub mod PlaceLemmas
-pub mod TableLemmas
-pub mod KeptLemmas
-pub mod EscapeLemmas
-pub mod LineLemmas
-pub mod BuiltInLemmas
-pub mod StepLemmas
-pub mod NeedLemmas
-pub mod CanonicalLemmas
+mod EscapeLemmas
+mod LineLemmas
+mod PlaceLemmas
+mod AfterLemmas
+mod StreamLemmas
+mod BuiltInLemmas
+mod DescribeLemmas
+mod KeptLemmas

@@ -4,7 +4,7 @@ use Rattle.std.specs.List.{flat_map}
 use Rattle.std.proofs.lemmas.List.{append-nil, append_assoc, map_more}
 use Rattle.std.proofs.lemmas.List.Concat.{flat_map-append}
 use Rattle.std.proofs.lemmas.Str.{encode_ascii}
-use Rattle.cal_write.specs.CanonicalText.{field}
+use Rattle.cal_write.specs.Lines.{field}
 
 pub equals_sign : encode_utf8 61 ≡ 61 ∷ []
 equals_sign = encode_ascii 61 (lit< tt)

@@ -1,60 +1,69 @@
-use Rattle.std.specs.Prelude.{ℕ, List, [], ◌∷◌, ◌++◌, codes, decimal, map, reverse, drop, length}
-use Rattle.std.specs.List.{flat_map, position_or_len}
+use Rattle.std.specs.Prelude.{ℕ, Bool, ◌==◌, ◌-◌, ◌&&◌, not, List, [], ◌∷◌, ◌++◌, Option, Some, None, codes, map, filter, fold, take, length, slice_get, if◌then◌else◌}
+use Rattle.std.specs.List.{list_any, position_or_len}
 use Rattle.cal_value.specs.declared.attribute.Entry.{Entry}
 use Rattle.cal_value.specs.declared.record.Rec.{Rec}
-use Rattle.cal_value.specs.Values.{value_text}
-use Rattle.cal_line.specs.Escapes.{escaped}
-use Rattle.cal_write.specs.Nodes.{Node, same_node, node_of_attribute, nodes}
+use Rattle.cal_value.specs.declared.record.Records.{Records}
+use Rattle.cal_write.specs.Nodes.{Node, same_node, node_of_attribute, built_in, needed_by_record, with_node, with_record, nodes}
+use Rattle.cal_write.specs.Lines.{node_line, record_line}
 
--- A node's id is its place among the nodes (the numbering is ours).
-abbrev pub id_text : List Node → Node → List ℕ
-id_text ns n = decimal (position_or_len (same_node n) ns)
+-- A node's id is its place among the nodes: the built-in ones have 0 to 11, and each new one the
+-- next number (this project's numbering). More nodes at the end leave it.
+abbrev pub id_in : List Node → Node → ℕ
+id_in ns n = position_or_len (same_node n) ns
 
--- a value as it is written
-abbrev pub written_value : Entry → List ℕ
-written_value e = escaped (value_text e.value)
+-- the id of a parent; the root has none
+abbrev pub parent_id : List Node → Node → Option ℕ
+parent_id ns [] = None
+parent_id ns (e ∷ up) = Some (id_in ns (e ∷ up))
 
--- a field of a line: its key, and `=` before each value; a list without values has no field
-abbrev pub field : List ℕ → List (List ℕ) → List ℕ
-field key [] = []
-field key (v ∷ vs) = codes "," ++ key ++ flat_map (λ w. codes "=" ++ w) (v ∷ vs)
+-- a node's parent is its path without the last entry
+abbrev pub parent_of : Node → Node
+parent_of n = take (length n - 1) n
 
--- the ids of a node's parent: one, or none for a node below the root
-abbrev pub parent_ids : List Node → Node → List (List ℕ)
-parent_ids ns [] = []
-parent_ids ns (e ∷ up) = id_text ns (e ∷ up) ∷ []
+-- the line of a node with this entry of its own; the root has no entry, and no line
+abbrev pub line_of_entry : List Node → Node → Option Entry → List ℕ
+line_of_entry ns n None = []
+line_of_entry ns n (Some e) =
+    node_line (id_in ns n) (id_in ns (node_of_attribute e.attr)) e.value
+    (parent_id ns (parent_of n))
 
--- the line of a node (the `.cali` format)
-abbrev pub node_line : List Node → Node → List ℕ
-node_line ns [] = []
-node_line ns (e ∷ up) =
-    codes "__rec=node" ++ field (codes "id") (id_text ns (e ∷ up) ∷ [])
-    ++ field (codes "attr") (id_text ns (node_of_attribute e.attr) ∷ [])
-    ++ field (codes "data") (written_value e ∷ []) ++ field (codes "parent") (parent_ids ns up) ++ codes "\n"
+-- the line of a node, whose own entry is its path's last one
+abbrev pub line_of_node : List Node → Node → List ℕ
+line_of_node ns n = line_of_entry ns n (slice_get n (length n - 1))
 
--- the node that a path leads to; a path without entries has none
-abbrev pub last_nodes : List Entry → List Node
-last_nodes [] = []
-last_nodes (e ∷ path) = reverse (e ∷ path) ∷ []
+-- the lines of needed nodes: each that is new is written where it is first needed
+abbrev pub lines_of_new : List Node → List Node → List ℕ
+lines_of_new ns [] = []
+lines_of_new ns (n ∷ needed) =
+    (if list_any (same_node n) ns then [] else line_of_node (ns ++ n ∷ []) n)
+    ++ lines_of_new (with_node ns n) needed
 
--- the line of a record (the `.cali` format)
-abbrev pub record_line : List Node → Rec → List ℕ
-record_line ns r =
-    codes "__rec=ctx" ++ field (codes "ref") (map (id_text ns) (flat_map last_nodes r.paths))
-    ++ field (codes "attr") (map (λ e. id_text ns (node_of_attribute e.attr)) r.imms)
-    ++ field (codes "data") (map written_value r.imms) ++ codes "\n"
+-- the nodes that a record's paths lead to; a path without entries leads to none
+abbrev pub ends : Rec → List Node
+ends r = filter (λ path. not (length path == 0)) r.paths
 
--- What a record adds to the text of those before it: the lines of the nodes that are new with it, and its own.
-abbrev pub record_text : List Rec → Rec → List ℕ
-record_text before r =
-    let all = nodes (before ++ r ∷ []) in
-    flat_map (node_line all) (drop (length (nodes before)) all) ++ record_line all r
+-- the line of a record
+abbrev pub line_of_record : List ℕ → List Node → Rec → List ℕ
+line_of_record sort ns r =
+    record_line sort (map (id_in ns) (ends r))
+    (map (λ e. id_in ns (node_of_attribute e.attr)) r.imms) (map (λ e. e.value) r.imms)
 
--- the text of records behind those before them
-abbrev pub text_behind : List Rec → List Rec → List ℕ
-text_behind before [] = []
-text_behind before (r ∷ rs) = record_text before r ++ text_behind (before ++ r ∷ []) rs
+-- A record behind these nodes: the lines of those that are new with it, and then its own.
+abbrev pub record_text : List ℕ → List Node → Rec → List ℕ
+record_text sort ns r =
+    lines_of_new ns (needed_by_record r) ++ line_of_record sort (with_record ns r) r
 
--- The canonical text of records (the `.cali` format, in the order and numbering of this project).
-abbrev pub canonical_text : List Rec → List ℕ
-canonical_text rs = text_behind [] rs
+-- rows behind these nodes, one after another
+abbrev pub rows_text : List Node → List Rec → List ℕ
+rows_text ns [] = []
+rows_text ns (r ∷ rows) = record_text (codes "ctx") ns r ++ rows_text (with_record ns r) rows
+
+-- globals behind these nodes; a record without entries stands for none
+abbrev pub globals_text : List Node → Rec → List ℕ
+globals_text ns g =
+    if (length (ends g) == 0) && (length g.imms == 0) then []
+    else record_text (codes "globals") ns g
+-- The canonical text of records (the `.cali` format, in the order and numbering of this project):
+-- the rows, and then the globals.
+abbrev pub canonical_text : Records → List ℕ
+canonical_text rs = rows_text built_in rs.rows ++ globals_text (nodes rs.rows) rs.globals

@@ -1,9 +1,13 @@
 pub mod Nodes
+pub mod Lines
 pub mod CanonicalText
 pub mod Written
 pub mod Places
-pub mod Added
-pub mod Table
+pub mod BuiltIn
+pub mod Memo
+pub mod Described
+pub mod Stream
 pub mod Kept
-pub mod Lines
-pub mod Steps
+pub mod SnapshotNeeds
+pub mod Writer
+pub mod WriterGrows

@@ -1,40 +1,38 @@
-use Rattle.std.specs.Prelude.{◌≡◌, ℕ, ◌<◌, true, List, [], ◌∷◌, ◌++◌, Option, Some, None, length, slice_index_or}
-use Rattle.std.specs.List.{list_any, position_or_len}
+use Rattle.std.specs.Prelude.{◌≡◌, ℕ, true, List, [], ◌∷◌, ◌++◌, Option}
+use Rattle.std.specs.List.{list_any}
 use Rattle.cal_value.specs.declared.attribute.Attribute.{Attribute}
-use Rattle.cal_value.specs.declared.attribute.Entry.{Entry}
-use Rattle.cal_write.specs.Nodes.{Node, same_node, node_of_attribute, needed_by_attribute}
+use Rattle.cal_write.specs.Nodes.{Node, same_node, node_of_attribute, needed_by_attribute, needed_below}
+use Rattle.cal_write.specs.CanonicalText.{id_in, parent_id}
 
--- a node has a place among the nodes, its first one
-pub record IsAt (ns : List Node) (n : Node) (place : ℕ) : Type 0 where
-  pub within : place < length ns
-  pub first : position_or_len (same_node n) ns ≡ place
+-- a node is there
+abbrev pub Has : List Node → Node → Type 0
+Has ns n = list_any (same_node n) ns ≡ true
 
 -- each of these nodes is there
 abbrev pub HasAll : List Node → List Node → Type 0
 HasAll ns [] = Unit {0}
-HasAll ns (n ∷ more) = (list_any (same_node n) ns ≡ true) × HasAll ns more
+HasAll ns (n ∷ more) = Has ns n × HasAll ns more
 
--- an attribute's node has this place, and all that it needs is there
-pub record KnowsAttribute (ns : List Node) (a : Attribute) (place : ℕ) : Type 0 where
-  pub at : IsAt ns (node_of_attribute a) place
+-- a node is there, or is the root
+abbrev pub IsThere : List Node → Node → Type 0
+IsThere ns [] = Unit {0}
+IsThere ns (e ∷ up) = Has ns (e ∷ up)
+
+-- a node is there, with this id
+pub record IsAt (ns : List Node) (n : Node) (id : ℕ) : Type 0 where
+  pub has : Has ns n
+  pub is : id ≡ id_in ns n
+
+-- a node below which others stand is there, with this id; or it is the root, without one
+pub record IsParent (ns : List Node) (up : Node) (id : Option ℕ) : Type 0 where
+  pub there : IsThere ns up
+  pub is : id ≡ parent_id ns up
+
+-- an attribute's node has this id, and all that the attribute needs is there
+pub record KnowsAttribute (ns : List Node) (a : Attribute) (id : ℕ) : Type 0 where
+  pub at : IsAt ns (node_of_attribute a) id
   pub needed : HasAll ns (needed_by_attribute a)
 
--- the node of an entry, below the node up, has this place, and all that its attribute needs is there
-pub record KnowsNode (ns : List Node) (e : Entry) (up : Node) (place : ℕ) : Type 0 where
-  pub at : IsAt ns (e ∷ up) place
-  pub needed : HasAll ns (needed_by_attribute e.attr)
-
--- the node at a place, or the root at none
-abbrev pub node_at : List Node → Option ℕ → Node
-node_at ns None = []
-node_at ns (Some p) = slice_index_or ns p []
-
--- a place where a node can be put below: a node's first one, or the root
-abbrev pub IsPlace : List Node → Option ℕ → Type 0
-IsPlace ns None = Unit {0}
-IsPlace ns (Some p) = IsAt ns (node_at ns (Some p)) p × (0 < length (node_at ns (Some p)))
-
--- the new nodes are the old ones, and more
-pub record Grows (old new : List Node) : Type 0 where
-  pub more : List Node
-  pub is : new ≡ old ++ more
+-- with a node all is there that is needed on the way down to it
+abbrev pub IsClosed : List Node → Type 0
+IsClosed ns = (n : Node) → Has ns n → HasAll ns (needed_below [] n)

@@ -1,14 +1,23 @@
-use Rattle.std.specs.Prelude.{◌≡◌, ℕ, List}
+use Rattle.std.specs.Prelude.{ℕ, List, ◌++◌, fold}
 use Rattle.cal_value.specs.declared.record.Rec.{Rec}
-use Rattle.cal_write.specs.Nodes.{Node, nodes}
-use Rattle.cal_write.specs.CanonicalText.{canonical_text}
+use Rattle.cal_write.specs.Nodes.{Node, built_in, with_node, nodes}
+use Rattle.cal_write.specs.CanonicalText.{lines_of_new, rows_text}
 
--- what a writer has: the nodes that it knows, in order of id, and the text so far
+-- a stream so far: its nodes in the order of their ids, and its text
 pub record Written : Type 0 where
   pub nodes : List Node
   pub text : List ℕ
 
--- a writer stands for the records whose nodes it knows, and whose text it has
-pub record StandsFor (w : Written) (rs : List Rec) : Type 0 where
-  pub nodes : w.nodes ≡ nodes rs
-  pub text : w.text ≡ canonical_text rs
+-- what is written of rows
+abbrev pub written : List Rec → Written
+written rows = record { nodes = nodes rows; text = rows_text built_in rows }
+
+-- a stream once these nodes were needed
+abbrev pub after : Written → List Node → Written
+after s needed = record {
+    nodes = fold with_node s.nodes needed;
+    text = s.text ++ lines_of_new s.nodes needed }
+
+-- a stream with a line more
+abbrev pub with_line : Written → List ℕ → Written
+with_line s line = record { nodes = s.nodes; text = s.text ++ line }

@@ -1,99 +1,93 @@
-ghost use Rattle.std.specs.Prelude.{◌≡◌, [], IfOk, OnOk, map, pos};
-ghost use Rattle.cal_value.specs.declared.variant.Variant.TheVariants as value;
-ghost use Rattle.cal_write.specs.Nodes.{built_in, first_kinds, name_attribute, node_of_kind, prop_attribute, type_attribute};
+ghost use Rattle.std.specs.Prelude.{◌≡◌, ◌∷◌, ◌++◌, [], IfOk, OnOk, map};
+ghost use Rattle.cal_write.specs.BuiltIn.{built_in_attribute, built_in_id, built_in_keys, key_of_built_in, key_of_kind};
+ghost use Rattle.cal_write.specs.Nodes.{first_kinds};
 
-use crate::nodes::Nodes;
+use crate::described::DescribedNode;
+use cal_context::Interner;
 use cal_value::{Attribute, Entry, Kind, OutOfMemory, Props, Text, Variant};
 use std::alloc::Global;
 
-/// The places of the nodes of the attributes for names, kinds and properties.
-pub(crate) const NAME: usize = 8;
+/// The attributes that say what an attribute is.
+#[derive(Clone, Copy)]
+pub(crate) enum BuiltIn {
+    OfNames,
+    OfKinds,
+    OfProps,
+}
 
-pub(crate) const TYPE: usize = 9;
+impl BuiltIn {
+    /// The id of the attribute's node in every stream.
+    pub(crate) fn id(self) -> u32
+        ensures { result ≡ built_in_id self }
+    {
+        match self {
+            BuiltIn::OfNames => 8,
+            BuiltIn::OfKinds => 9,
+            BuiltIn::OfProps => 10,
+        }
+    }
 
-pub(crate) const PROP: usize = 10;
+    fn kind(self) -> Kind
+        ensures { result ≡ (built_in_attribute self).kind }
+    {
+        match self {
+            BuiltIn::OfNames => Kind::Str,
+            BuiltIn::OfKinds => Kind::TypeName,
+            BuiltIn::OfProps => Kind::Int,
+        }
+    }
 
-/// The nodes that every stream has, with the attributes of names, kinds and properties known.
-pub(crate) fn built_in_nodes(alloc: Global) -> Result<Nodes, OutOfMemory>
-    ensures { IfOk result (λ nodes. nodes ≡ built_in) }
+    fn name(self) -> &'static str
+        ensures { result.now ≡ (built_in_attribute self).name }
+    {
+        match self {
+            BuiltIn::OfNames => "cali.attribute.name",
+            BuiltIn::OfKinds => "cali.attribute.type",
+            BuiltIn::OfProps => "cali.attribute.prop",
+        }
+    }
+
+    /// An entry of the attribute.
+    pub(crate) fn entry(self, alloc: Global, value: Variant) -> Result<Entry, OutOfMemory>
+        ensures { IfOk result (λ e. e ≡ record { attr = built_in_attribute self; value = value }) }
+    {
+        let attr = Attribute {
+            name: Text::from_str(alloc, self.name())?,
+            kind: self.kind(),
+            props: Props(0),
+        };
+        Ok(Entry { attr, value })
+    }
+
+    /// The node of the attribute, which has its name.
+    fn node(self, alloc: Global) -> Result<DescribedNode, OutOfMemory>
+        ensures { IfOk result (λ node. node ≡ key_of_built_in self) }
+    {
+        let name = Text::from_str(alloc, self.name())?;
+        Ok(DescribedNode {
+            parent: Some(self.kind().node() as u32),
+            entry: BuiltIn::OfNames.entry(alloc, Variant::Text(name))?,
+        })
+    }
+}
+
+/// The nodes that every stream has, in the order of their ids.
+pub(crate) fn built_in_nodes(alloc: Global) -> Result<Interner<DescribedNode>, OutOfMemory>
+    ensures { IfOk result (λ nodes. nodes ≡ built_in_keys) }
 {
-    let mut nodes = Nodes::new(alloc);
-    add_kinds(alloc, &mut nodes)?;
-    nodes.add(Some(3), name_entry(alloc, "cali.attribute.name")?, None)?;
-    nodes.add(Some(7), name_entry(alloc, "cali.attribute.type")?, None)?;
-    nodes.add(Some(1), name_entry(alloc, "cali.attribute.prop")?, None)?;
-    nodes.add(None, kind_entry(alloc, Kind::Ptr)?, None)?;
-    know_built_in(alloc, &mut nodes)?;
+    let mut nodes = first_nodes(alloc)?;
+    for attribute in [BuiltIn::OfNames, BuiltIn::OfKinds, BuiltIn::OfProps] {
+        nodes.intern(attribute.node(alloc)?)?;
+    }
+    nodes.intern(node_of_kind(alloc, Kind::Ptr)?)?;
     Ok(nodes)
 }
 
-/// An entry that names an attribute.
-pub(crate) fn name_entry(alloc: Global, name: &str) -> Result<Entry, OutOfMemory>
-    ensures { IfOk result (λ entry.
-        entry ≡ record { attr = name_attribute; value = value.Text name.now }) }
+/// The nodes of the kinds that come first.
+fn first_nodes(alloc: Global) -> Result<Interner<DescribedNode>, OutOfMemory>
+    ensures { IfOk result (λ nodes. nodes ≡ map key_of_kind first_kinds) }
 {
-    Ok(Entry {
-        attr: attribute_of_names(alloc)?,
-        value: Variant::Text(Text::from_str(alloc, name)?),
-    })
-}
-
-/// An entry that gives an attribute's properties.
-pub(crate) fn props_entry(alloc: Global, props: Props) -> Result<Entry, OutOfMemory>
-    ensures { IfOk result (λ entry.
-        entry ≡ record { attr = prop_attribute; value = value.Int (pos props.0) }) }
-{
-    Ok(Entry {
-        attr: attribute_of_props(alloc)?,
-        value: Variant::Int(i128::from(props.0)),
-    })
-}
-
-fn kind_entry(alloc: Global, kind: Kind) -> Result<Entry, OutOfMemory>
-    ensures { IfOk result (λ entry.
-        entry ≡ record { attr = type_attribute; value = value.Kind kind }) }
-{
-    Ok(Entry {
-        attr: attribute_of_kinds(alloc)?,
-        value: Variant::Kind(kind),
-    })
-}
-
-fn attribute_of_names(alloc: Global) -> Result<Attribute, OutOfMemory>
-    ensures { IfOk result (λ attribute. attribute ≡ name_attribute) }
-{
-    Ok(Attribute {
-        name: Text::from_str(alloc, "cali.attribute.name")?,
-        kind: Kind::Str,
-        props: Props(0),
-    })
-}
-
-fn attribute_of_kinds(alloc: Global) -> Result<Attribute, OutOfMemory>
-    ensures { IfOk result (λ attribute. attribute ≡ type_attribute) }
-{
-    Ok(Attribute {
-        name: Text::from_str(alloc, "cali.attribute.type")?,
-        kind: Kind::TypeName,
-        props: Props(0),
-    })
-}
-
-fn attribute_of_props(alloc: Global) -> Result<Attribute, OutOfMemory>
-    ensures { IfOk result (λ attribute. attribute ≡ prop_attribute) }
-{
-    Ok(Attribute {
-        name: Text::from_str(alloc, "cali.attribute.prop")?,
-        kind: Kind::Int,
-        props: Props(0),
-    })
-}
-
-/// Adds the nodes of the kinds that come first.
-fn add_kinds(alloc: Global, nodes: &mut Nodes) -> Result<(), OutOfMemory>
-    requires { nodes.old ≡ [] }
-    ensures { OnOk result (nodes.new ≡ map node_of_kind first_kinds) }
-{
+    let mut nodes = Interner::new(alloc);
     for kind in [
         Kind::Usr,
         Kind::Int,
@@ -104,17 +98,16 @@ fn add_kinds(alloc: Global, nodes: &mut Nodes) -> Result<(), OutOfMemory>
         Kind::Bool,
         Kind::TypeName,
     ] {
-        nodes.add(None, kind_entry(alloc, kind)?, None)?;
+        nodes.intern(node_of_kind(alloc, kind)?)?;
     }
-    Ok(())
+    Ok(nodes)
 }
 
-fn know_built_in(alloc: Global, nodes: &mut Nodes) -> Result<(), OutOfMemory>
-    requires { nodes.old ≡ built_in }
-    ensures { nodes.new ≡ built_in }
+fn node_of_kind(alloc: Global, kind: Kind) -> Result<DescribedNode, OutOfMemory>
+    ensures { IfOk result (λ node. node ≡ key_of_kind kind) }
 {
-    nodes.know(attribute_of_names(alloc)?, NAME)?;
-    nodes.know(attribute_of_kinds(alloc)?, TYPE)?;
-    nodes.know(attribute_of_props(alloc)?, PROP)?;
-    Ok(())
+    Ok(DescribedNode {
+        parent: None,
+        entry: BuiltIn::OfKinds.entry(alloc, Variant::Kind(kind))?,
+    })
 }

@@ -1,41 +1,20 @@
-ghost use Rattle.std.specs.Prelude.{◌≡◌, ◌++◌, [], if◌then◌else◌, OnOk, codes, decimal, map, option_to_list};
-ghost use Rattle.cal_value.specs.Values.{value_text};
-ghost use Rattle.cal_line.specs.Escapes.{escaped};
-ghost use Rattle.cal_write.specs.CanonicalText.{field, written_value};
-ghost use Rattle.cal_write.specs.Lines.{node_line_of, record_line_of};
+ghost use Rattle.std.specs.Prelude.{◌≡◌, ◌++◌, OnOk, codes, decimal, map, option_to_list};
+ghost use Rattle.cal_write.specs.Lines.{field, node_line, record_line, written_value};
 
-use crate::attribute_fields::AttributeFields;
-use crate::nodes::Added;
+use cal_context::Immediate;
 use cal_line::escape;
-use cal_value::{Entry, OutOfMemory, Text, Variant, print_value};
+use cal_value::{OutOfMemory, Text, Variant, print_value};
 use itoa::Buffer;
 
-/// Appends the line of a node, where it is new.
-pub(crate) fn write_added(
-    out: &mut Text,
-    added: Added,
-    attribute: usize,
-    value: &Variant,
-    parent: Option<usize>,
-) -> Result<(), OutOfMemory>
-    ensures { OnOk result (out.new ≡ out.old
-        ++ (if added.fresh then node_line_of added.place attribute value.now parent else [])) }
-{
-    if added.fresh {
-        write_node(out, added.place, attribute, value, parent)?;
-    }
-    Ok(())
-}
-
 /// Appends the line of a node.
-fn write_node(
+pub(crate) fn write_node(
     out: &mut Text,
-    id: usize,
-    attribute: usize,
+    id: u32,
+    attribute: u32,
     value: &Variant,
-    parent: Option<usize>,
+    parent: Option<u32>,
 ) -> Result<(), OutOfMemory>
-    ensures { OnOk result (out.new ≡ out.old ++ node_line_of id attribute value.now parent) }
+    ensures { OnOk result (out.new ≡ out.old ++ node_line id attribute value.now parent) }
 {
     out.push_str("__rec=node,id=")?;
     write_number(out, id)?;
@@ -48,25 +27,27 @@ fn write_node(
     Ok(())
 }
 
-/// Appends the line of a record.
+/// Appends the line of a record, by the ids of its nodes and of its immediates' attributes.
 pub(crate) fn write_record(
     out: &mut Text,
-    refs: &[usize],
-    attributes: &[usize],
-    fields: &mut AttributeFields,
-    imms: &[Entry],
+    sort: &str,
+    nodes: &[u32],
+    attributes: &[u32],
+    imms: &[Immediate],
 ) -> Result<(), OutOfMemory>
-    ensures { OnOk result (out.new ≡ out.old ++ record_line_of refs.now attributes.now imms.now) }
+    ensures { OnOk result (out.new ≡ out.old
+        ++ record_line sort.now nodes.now attributes.now (map (λ i. i.value) imms.now)) }
 {
-    out.push_str("__rec=ctx")?;
-    write_ids(out, "ref", refs)?;
-    fields.write(attributes, out)?;
+    out.push_str("__rec=")?;
+    out.push_str(sort)?;
+    write_ids(out, "ref", nodes)?;
+    write_ids(out, "attr", attributes)?;
     write_values(out, imms)?;
     out.push_str("\n")?;
     Ok(())
 }
 
-fn write_parent(out: &mut Text, parent: Option<usize>) -> Result<(), OutOfMemory>
+fn write_parent(out: &mut Text, parent: Option<u32>) -> Result<(), OutOfMemory>
     ensures { OnOk result (out.new ≡ out.old
         ++ field (codes "parent") (map decimal (option_to_list parent))) }
 {
@@ -78,7 +59,7 @@ fn write_parent(out: &mut Text, parent: Option<usize>) -> Result<(), OutOfMemory
 }
 
 /// Appends a field of these ids, or none where there is no id.
-pub(crate) fn write_ids(out: &mut Text, key: &str, ids: &[usize]) -> Result<(), OutOfMemory>
+fn write_ids(out: &mut Text, key: &str, ids: &[u32]) -> Result<(), OutOfMemory>
     ensures { OnOk result (out.new ≡ out.old ++ field key.now (map decimal ids.now)) }
 {
     if ids.is_empty() {
@@ -94,23 +75,24 @@ pub(crate) fn write_ids(out: &mut Text, key: &str, ids: &[usize]) -> Result<(), 
 }
 
 /// Appends the field of immediates' values, or none where there is no immediate.
-fn write_values(out: &mut Text, imms: &[Entry]) -> Result<(), OutOfMemory>
-    ensures { OnOk result (out.new ≡ out.old ++ field (codes "data") (map written_value imms.now)) }
+fn write_values(out: &mut Text, imms: &[Immediate]) -> Result<(), OutOfMemory>
+    ensures { OnOk result (out.new ≡ out.old
+        ++ field (codes "data") (map written_value (map (λ i. i.value) imms.now))) }
 {
     if imms.is_empty() {
         return Ok(());
     }
     out.push_str(",data")?;
-    for entry in imms {
+    for imm in imms {
         out.push('=')?;
-        write_value(out, &entry.value)?;
+        write_value(out, &imm.value)?;
     }
     Ok(())
 }
 
 /// Appends a value as it is written. The texts of the other variants hold nothing to escape.
 fn write_value(out: &mut Text, value: &Variant) -> Result<(), OutOfMemory>
-    ensures { OnOk result (out.new ≡ out.old ++ escaped (value_text value.now)) }
+    ensures { OnOk result (out.new ≡ out.old ++ written_value value.now) }
 {
     match value {
         Variant::Text(text) => escape(text.as_str(), out),
@@ -121,7 +103,7 @@ fn write_value(out: &mut Text, value: &Variant) -> Result<(), OutOfMemory>
     }
 }
 
-fn write_number(out: &mut Text, number: usize) -> Result<(), OutOfMemory>
+fn write_number(out: &mut Text, number: u32) -> Result<(), OutOfMemory>
     ensures { OnOk result (out.new ≡ out.old ++ decimal number) }
 {
     let mut digits = Buffer::new();

@@ -1,161 +1,104 @@
-ghost use Rattle.std.specs.Prelude.{◌≡◌, [], ◌∷◌, IfOk, OnOk};
-ghost use Rattle.cal_write.specs.Lines.{record_line_of};
-ghost use Rattle.cal_write.specs.Nodes.{built_in, needed_by_attribute, node_of_props, way_down};
-ghost use Rattle.cal_write.specs.Places.{node_at, IsPlace, KnowsAttribute};
-ghost use Rattle.cal_write.specs.Steps.{AddsLine, Writes, WritesEntry, WritesTo};
+ghost use Rattle.std.specs.Prelude.{◌≡◌, ℕ, ◌<◌, [], length, IfOk, OnOk, None};
+ghost use Rattle.cal_context.specs.Children.{IsLinked};
+ghost use Rattle.cal_context.specs.Tree.{Tree};
+ghost use Rattle.cal_write.specs.Kept.{AddsNode, IsKept, NeedsAttribute, NeedsNode};
+ghost use Rattle.cal_write.specs.Memo.{memo_at};
+ghost use Rattle.cal_write.specs.Written.{written};
 
-use crate::attribute_fields::AttributeFields;
-use crate::built_in::{NAME, PROP, built_in_nodes, name_entry, props_entry};
-use crate::hints::Hints;
-use crate::lines::{write_added, write_record};
-use crate::nodes::{Known, Nodes};
-use cal_value::{Attribute, Entry, Kind, OutOfMemory, Props, Text, TryCopy};
+use crate::memo::Memo;
+use crate::stream::Stream;
+use cal_context::{AttributeNumber, Context, Link, NodeNumber};
+use cal_value::OutOfMemory;
 use std::alloc::Global;
-use std::marker::Model;
 
-// properties without a node of their own
-const NO_PROPS: u32 = 0;
-
-/// Writes the nodes that records need, each where it is first needed, and the lines of records. What came behind
-/// the same node or attribute the last time is tried first, so that most are found without a look-up.
+/// Writes what is needed of a context, each node where it is first needed, and notes the ids beside
+/// the numbers of the nodes and attributes.
 #[derive(Drop)]
 pub(crate) struct NodeWriter {
     alloc: Global,
-    pub(crate) nodes: Nodes,
-    pub(crate) node_hints: Hints,
-    pub(crate) attribute_hints: Hints,
-    text: Text,
-}
-
-impl Model for NodeWriter {
-    ghost use Rattle.cal_write.specs.Nodes.{built_in};
-    ghost use Rattle.cal_write.specs.Places.{Grows};
-    ghost use Rattle.cal_write.specs.Written.{Written};
-
-    ghost Value = { Written };
-
-    ghost view = { λ w. record { nodes = w.nodes; text = w.text } };
-
-    ghost invariant = { λ w. Grows built_in w.nodes };
+    pub(crate) stream: Stream,
+    nodes: Memo,
+    attributes: Memo,
 }
 
 impl NodeWriter {
-    /// The built-in nodes, and no text.
+    /// Nothing is written yet.
     pub(crate) fn new(alloc: Global) -> Result<NodeWriter, OutOfMemory>
-        ensures { IfOk result (λ writer. writer ≡ record { nodes = built_in; text = [] }) }
+        ensures { IfOk result (λ writer. (t : Tree) → IsKept t writer (written [])) }
     {
         Ok(NodeWriter {
             alloc,
-            nodes: built_in_nodes(alloc)?,
-            node_hints: Hints::new(alloc),
-            attribute_hints: Hints::new(alloc),
-            text: Text::new(alloc),
+            stream: Stream::new(alloc)?,
+            nodes: Memo::new(alloc),
+            attributes: Memo::new(alloc),
         })
     }
 
-    pub(crate) fn text(&self) -> &str
-        ensures { result.now ≡ self.now.text }
-    {
-        self.text.as_str()
-    }
-
-    pub(crate) fn into_text(self) -> Text
-        ensures { result ≡ self.text }
-    {
-        self.text
-    }
-
-    /// Writes the line of a record, by the ids of its paths' last nodes and of its immediates' attributes.
-    pub(crate) fn write_record(
+    /// Writes what a node and those above it need, and gives its id, if it isn't the root.
+    pub(crate) fn need_node(
         &mut self,
-        refs: &[usize],
-        attributes: &[usize],
-        fields: &mut AttributeFields,
-        imms: &[Entry],
-    ) -> Result<(), OutOfMemory>
-        ensures { OnOk result
-            (AddsLine self.old self.new (record_line_of refs.now attributes.now imms.now)) }
+        context: &Context,
+        node: NodeNumber,
+    ) -> Result<Option<u32>, OutOfMemory>
+        requires { node.0 < length context.now.paths }
+        ensures needs { IfOk result (NeedsNode context.now self.old self.new node) }
+        ensures later { OnOk result ((k : ℕ) → node.0 < k
+            → memo_at self.new.nodes k ≡ memo_at self.old.nodes k) }
     {
-        let _ = &self.nodes;
-        write_record(&mut self.text, refs, attributes, fields, imms)
+        if let Some(id) = self.nodes.get(node.0) {
+            return Ok(Some(id));
+        }
+        let Some(link) = context.link(node) else {
+            return Ok(None);
+        };
+        let parent = self.need_node(context, link.parent)?;
+        let id = self.add_node(context, node, link, parent)?;
+        Ok(Some(id))
     }
 
-    /// Looks the node of an entry below a node up, and gives its place. What isn't there is written: first what the
-    /// entry's attribute needs, and then the node. It stays out of line, so that its locals cost nothing where a
-    /// hint was right.
-    #[inline(never)]
-    pub(crate) fn find_entry(
+    /// Writes what an attribute needs, and gives the id of its node.
+    pub(crate) fn need_attribute(
         &mut self,
-        parent: Option<usize>,
-        entry: &Entry,
-    ) -> Result<usize, OutOfMemory>
-        requires { IsPlace self.old.nodes parent }
-        ensures { IfOk result (WritesEntry self.old self.new parent entry.now) }
+        context: &Context,
+        attribute: AttributeNumber,
+    ) -> Result<u32, OutOfMemory>
+        requires { attribute.0 < length context.now.attributes }
+        ensures needs { IfOk result (NeedsAttribute context.now self.old self.new attribute) }
+        ensures nodes { OnOk result (self.new.nodes ≡ self.old.nodes) }
     {
-        if let Some(found) = self.nodes.add_known(parent, entry)? {
-            write_added(
-                &mut self.text,
-                found.added,
-                found.attribute,
-                &entry.value,
-                parent,
-            )?;
-            return Ok(found.added.place);
+        if let Some(id) = self.attributes.get(attribute.0) {
+            return Ok(id);
         }
-        let attribute = self.find_attribute(&entry.attr)?;
-        let place = self.add(parent, entry, attribute.place)?;
-        Ok(place)
+        let described = context.attribute_at(attribute);
+        let id = self.stream.describe(self.alloc, described)?;
+        self.attributes.set(attribute.0, id)?;
+        Ok(id)
     }
 
-    /// Looks the node of an attribute up, and gives the attribute's number and the place. What isn't there is
-    /// written. It stays out of line too.
-    #[inline(never)]
-    pub(crate) fn find_attribute(&mut self, attribute: &Attribute) -> Result<Known, OutOfMemory>
-        ensures writes { OnOk result (Writes self.old self.new (needed_by_attribute attribute.now)) }
-        ensures at { IfOk result (λ known.
-            KnowsAttribute self.new.nodes attribute.now known.place) }
-    {
-        if let Some(known) = self.nodes.attribute(attribute) {
-            return Ok(known);
-        }
-        let parent = self.need_props(attribute.kind, attribute.props)?;
-        let entry = name_entry(self.alloc, attribute.name.as_str())?;
-        let place = self.add(Some(parent), &entry, NAME)?;
-        let number = self.nodes.know(attribute.copy(self.alloc)?, place)?;
-        Ok(Known { number, place })
-    }
-
-    /// Writes the node of an attribute's properties, and gives its place, or that of the attribute's kind.
-    fn need_props(&mut self, kind: Kind, props: Props) -> Result<usize, OutOfMemory>
-        ensures { let n = node_of_props props kind in
-            IfOk result (WritesTo self.old self.new (way_down n) n) }
-    {
-        let alloc = self.alloc;
-        let parent = kind.node() as usize;
-        if props.0 == NO_PROPS {
-            return Ok(parent);
-        }
-        let entry = props_entry(alloc, props)?;
-        let place = self.add(Some(parent), &entry, PROP)?;
-        Ok(place)
-    }
-
-    /// Writes the node of an entry whose attribute's node is at this place, and gives its place.
-    fn add(
+    /// Writes what a node's attribute needs, and the node's line where it is new, and notes its id.
+    fn add_node(
         &mut self,
-        parent: Option<usize>,
-        entry: &Entry,
-        attribute: usize,
-    ) -> Result<usize, OutOfMemory>
-        requires parent { IsPlace self.old.nodes parent }
-        requires attribute { KnowsAttribute self.old.nodes entry.now.attr attribute }
-        ensures { let n = entry.now ∷ node_at self.old.nodes parent in
-            IfOk result (WritesTo self.old self.new (n ∷ []) n) }
+        context: &Context,
+        node: NodeNumber,
+        link: Link,
+        parent: Option<u32>,
+    ) -> Result<u32, OutOfMemory>
+        requires linked { IsLinked context.now link node }
+        requires unknown { memo_at self.old.nodes node.0 ≡ None }
+        ensures adds { IfOk result (AddsNode context.now self.old self.new link node parent) }
+        ensures others { OnOk result ((k : ℕ) → node.0 < k
+            → memo_at self.new.nodes k ≡ memo_at self.old.nodes k) }
     {
-        let added = self
-            .nodes
-            .add(parent, entry.copy(self.alloc)?, Some(attribute))?;
-        write_added(&mut self.text, added, attribute, &entry.value, parent)?;
-        Ok(added.place)
+        context.has_each_once();
+        let attribute = self.need_attribute(context, link.attribute)?;
+        let id = self.stream.add(
+            self.alloc,
+            parent,
+            attribute,
+            context.attribute_at(link.attribute),
+            context.value_at(link.value),
+        )?;
+        self.nodes.set(node.0, id)?;
+        Ok(id)
     }
 }

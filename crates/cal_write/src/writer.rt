@@ -1,73 +1,104 @@
-ghost use Rattle.std.specs.Prelude.{◌≡◌, List, [], ◌∷◌, ◌++◌, IfOk, OnOk};
-ghost use Rattle.cal_value.specs.declared.record.Rec.{Rec};
-ghost use Rattle.cal_write.specs.Written.{StandsFor};
+ghost use Rattle.std.specs.Prelude.{◌≡◌, [], ◌∷◌, IfOk, IsErr, OnErr, OnOk};
+ghost use Rattle.cal_context.specs.Snapshots.{IsIn, meaning};
+ghost use Rattle.cal_context.specs.Taking.{TakesMore};
+ghost use Rattle.cal_context.specs.Tree.{Tree};
 
-use crate::attribute_fields::AttributeFields;
+use crate::lines::write_record;
 use crate::node_writer::NodeWriter;
-use cal_value::{OutOfMemory, Rec, Text};
+use crate::snapshot_needs::{need_immediates, need_nodes};
+use cal_context::{Context, Snapshot, Taker};
+use cal_value::{OutOfMemory, Text};
 use std::alloc::Global;
-use std::marker::Model;
 
-/// Writes records as they come. It copies only what is new with a record.
+/// Writes records as they come, as snapshots over a context. A record takes time in its nodes and
+/// immediates and in what is new with it, however deep its paths are.
 #[derive(Drop)]
 pub struct Writer {
     nodes: NodeWriter,
-    refs: Vec<usize>,
-    attributes: Vec<usize>,
-    fields: AttributeFields,
-}
-
-impl Model for Writer {
-    ghost use Rattle.cal_write.specs.Written.{Written};
-
-    ghost Value = { Written };
-
-    ghost view = { λ w. w.nodes };
+    // the ids of a record's nodes, and of its immediates' attributes
+    refs: Vec<u32>,
+    columns: Vec<u32>,
+    // memory was refused
+    refused: bool,
 }
 
 impl Writer {
+    ghost use Rattle.cal_write.specs.Writer.{EndsWith, HasTaken, WritesRecord};
+
     /// A writer of no record yet.
     pub fn new(alloc: Global) -> Result<Writer, OutOfMemory>
-        ensures { IfOk result (λ writer. StandsFor writer []) }
+        ensures { IfOk result (λ writer. (t : Tree) → HasTaken writer t []) }
     {
         Ok(Writer {
             nodes: NodeWriter::new(alloc)?,
             refs: Vec::new(alloc),
-            attributes: Vec::new(alloc),
-            fields: AttributeFields::new(alloc)?,
+            columns: Vec::new(alloc),
+            refused: false,
         })
     }
 
-    /// Writes the next record. It takes time in the record's size and in what is new with it, and least where
-    /// the record has the paths and the attributes of the one before. Nothing is said of the writer after an
-    /// `Err`.
-    pub fn put(&mut self, rec: &Rec) -> Result<(), OutOfMemory>
-        ensures { (rs : List Rec) → StandsFor self.old rs
-            → OnOk result (StandsFor self.new (rs ++ rec.now ∷ [])) }
+    /// The text of what was taken and of the globals, which are written last, if they have an entry.
+    pub fn finish(self, context: &Context, globals: &Snapshot) -> Result<Text, OutOfMemory>
+        requires { IsIn context.now globals.now }
+        ensures { IfOk result
+            (EndsWith (HasTaken self context.now) (meaning context.now globals.now)) }
     {
-        let imms = rec.imms.as_slice();
-        self.nodes.need_paths(rec.paths.as_slice(), &mut self.refs)?;
-        self.nodes.need_attributes(imms, &mut self.attributes)?;
-        self.nodes.write_record(
-            self.refs.as_slice(),
-            self.attributes.as_slice(),
-            &mut self.fields,
-            imms,
-        )?;
-        Ok(())
+        let mut writer = self;
+        if writer.refused {
+            return Err(OutOfMemory);
+        }
+        if !globals.nodes.is_empty() || !globals.imms.is_empty() {
+            writer.write(context, "globals", globals)?;
+        }
+        Ok(writer.nodes.stream.lines.text)
     }
 
-    /// The text so far. It takes no memory.
-    pub fn text(&self) -> &str
-        ensures { result.now ≡ self.now.text }
+    /// Writes what a snapshot's record needs, and its line.
+    fn write(
+        &mut self,
+        context: &Context,
+        sort: &str,
+        snapshot: &Snapshot,
+    ) -> Result<(), OutOfMemory>
+        requires { IsIn context.now snapshot.now }
+        ensures { OnOk result (WritesRecord context.now self.old.nodes self.new.nodes
+            sort.now (meaning context.now snapshot.now)) }
     {
-        self.nodes.text()
+        need_nodes(&mut self.nodes, context, &snapshot.nodes, &mut self.refs)?;
+        need_immediates(&mut self.nodes, context, &snapshot.imms, &mut self.columns)?;
+        write_record(
+            &mut self.nodes.stream.lines.text,
+            sort,
+            &self.refs,
+            &self.columns,
+            &snapshot.imms,
+        )
+    }
+}
+
+impl Taker for Writer {
+    ghost use Rattle.cal_write.specs.Writer.{HasTaken, IsRefused};
+    ghost use Rattle.cal_write.specs.WriterGrows.{HasTaken-stays};
+
+    ghost has_taken = { HasTaken };
+
+    /// Writes the next record. After an `Err` the writer refuses.
+    fn take(&mut self, context: &Context, snapshot: &Snapshot) -> Result<(), OutOfMemory>
+        requires { IsIn context.now snapshot.now }
+        ensures taken { OnOk result (TakesMore
+            (HasTaken self.old context.now)
+            (HasTaken self.new context.now)
+            (meaning context.now snapshot.now ∷ [])) }
+        ensures refused { OnErr result (IsRefused self.new) }
+        ensures again { IsRefused self.old → IsErr result }
+    {
+        if self.refused {
+            return Err(OutOfMemory);
+        }
+        let written = self.write(context, "ctx", snapshot);
+        self.refused = written.is_err();
+        written
     }
 
-    /// The text. It takes no memory.
-    pub fn into_text(self) -> Text
-        ensures { result ≡ self.text }
-    {
-        self.nodes.into_text()
-    }
+    ghost stays = { HasTaken-stays };
 }

@@ -1,16 +1,9 @@
-use Rattle.cal_write.proofs.BuiltInLemmas.{built_in-laid}
+use Rattle.std.proofs.Common.{◌<◌, subst, arith}
+use Rattle.cal_context.specs.Lists.{Interns}
+use Rattle.cal_write.proofs.BuiltInLemmas.{names-step}
 use Rattle.cal_write.proofs.built_in.built_in_nodes.Goals as goal
 
-pub know_built_in-requires : goal.know_built_in-requires
-know_built_in-requires c =
-    rw (
-      c.in_ok-add-4.ensures.added.nodes,
-      c.in_ok-kind_entry.ensures,
-      c.in_ok-add-3.ensures.added.nodes,
-      c.in_ok-name_entry-3.ensures,
-      c.in_ok-add-2.ensures.added.nodes,
-      c.in_ok-name_entry-2.ensures,
-      c.in_ok-add.ensures.added.nodes,
-      c.in_ok-name_entry.ensures,
-      c.in_ok-add_kinds.ensures,
-    ) built_in-laid
+pub loop-attribute-preserved : goal.loop-attribute-preserved
+loop-attribute-preserved c =
+    names-step c.loop-attribute.attribute-index (omega arith) _ c.loop-attribute.nodes c.intern.new.self c.in_ok-intern.field-0 c.loop-attribute.invariant
+    (subst (λ key. Interns c.loop-attribute.nodes key c.intern.new.self c.in_ok-intern.field-0) c.in_ok-node.ensures c.in_ok-intern.ensures.interned)

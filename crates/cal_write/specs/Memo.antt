@@ -1,0 +1,5 @@
+use Rattle.std.specs.Prelude.{ℕ, List, Option, None, slice_index_or}
+
+-- what is noted at a number, which is nothing past the end
+abbrev pub memo_at : List (Option ℕ) → ℕ → Option ℕ
+memo_at m n = slice_index_or m n None
