@@ -5,8 +5,7 @@ use Rattle.cal_value.specs.declared.record.Rec.{Rec}
 use Rattle.cal_script.specs.declared.script.Script.{Script}
 use Rattle.cal_script.specs.declared.script.Line as lines
 use Rattle.cal_script.specs.declared.script.Line.TheVariants as line
-use Rattle.cal_write.specs.CanonicalText.{canonical_text}
-use Rattle.caliper.specs.Board.{Board, no_values, board_after, snapshot_of}
+use Rattle.cal_core.specs.Board.{Board, no_values, board_after, snapshot_of}
 
 -- the snapshots that a line takes: `snapshot` one of the board that it finds, another line none
 abbrev pub snapshots_at : Board → lines.Line → List Rec
@@ -30,7 +29,3 @@ channel_records script = flat_map (snapshots script) script.threads
 -- The records of a run: those of the channels in order, each of which keeps every snapshot (the order is ours).
 abbrev pub records_of : Script → List Rec
 records_of script = flat_map (λ channel. channel_records script) script.channels
-
--- the text that a run of the script writes
-abbrev pub text_of : Script → List ℕ
-text_of script = canonical_text (records_of script)
