@@ -5,7 +5,7 @@ use Rattle.cal_script.specs.Faults.{IsFirstFault}
 use Rattle.cal_script.specs.Lines.{lines_of}
 use Rattle.cal_script.specs.Reading.{meaning}
 use Rattle.cal_script.specs.declared.kind.ScriptKind.TheVariants.{NotYet}
-use Rattle.caliper.specs.Runs.{text_of}
+use Rattle.caliper.specs.Texts.{text_of}
 use Rattle.caliper.specs.declared.fault.InputKind.{InputKind}
 use Rattle.caliper.specs.declared.fault.InputKind.TheVariants.{Script}
 use Rattle.caliper.specs.declared.words.Command.{Command}

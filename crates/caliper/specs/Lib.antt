@@ -1,7 +1,5 @@
 pub mod Words
-pub mod Board
-pub mod Kept
-pub mod Runs
+pub mod Texts
 pub mod Faults
 pub mod Inputs
 pub mod Causes

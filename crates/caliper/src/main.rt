@@ -7,7 +7,6 @@
 #![tactic(auto)]
 
 mod about;
-mod board;
 mod fault;
 mod outcome;
 mod report;
@@ -19,7 +18,6 @@ mod tests;
 mod words;
 
 pub use about::about;
-pub use board::Board;
 use cal_base::{StdSink, StdSource};
 pub use fault::{Fault, InputKind};
 pub use outcome::Outcome;
