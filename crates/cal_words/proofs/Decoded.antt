@@ -1,4 +1,6 @@
-use Rattle.std.proofs.Common.{◌≡◌, ℕ, ℤ, zero, suc, ◌+◌, ◌*◌, ◌/◌, ◌%◌, ◌^◌, ◌<◌, true, false, cond, eqb, List, [], ◌∷◌, length, get_or, map, sym, refl, ap, ◌∙◌, lit<, arith}
+use Rattle.std.proofs.Common.{◌≡◌, ℕ, ℤ, zero, suc, ◌+◌, ◌*◌, ◌/◌, ◌%◌, ◌^◌, ◌<◌, true, false, cond}
+use Rattle.std.proofs.Common.{eqb, List, [], ◌∷◌, length, get_or, map, sym, refl, ap, ◌∙◌, lit<}
+use Rattle.std.proofs.Common.{arith}
 use Rattle.std.specs.Int.{cast_signed, cast_unsigned, to_le_bytes, w64, w128}
 use Rattle.std.specs.Prelude.{FitsSigned}
 use Rattle.std.specs.List.{range_with_len}
@@ -17,8 +19,9 @@ use Rattle.cal_words.proofs.Bytes.{AreBytes, get_or-text_word, get_or-text_words
 -- the kind of a node
 abbrev kind_from : ℕ → kinds.Kind
 kind_from n =
-    cond (eqb n 1) kind.Int (cond (eqb n 2) kind.Uint (cond (eqb n 3) kind.Str (cond (eqb n 4) kind.Addr
-    (cond (eqb n 5) kind.Double (cond (eqb n 6) kind.Bool (cond (eqb n 7) kind.TypeName (cond (eqb n 11) kind.Ptr kind.Usr)))))))
+    cond (eqb n 1) kind.Int (cond (eqb n 2) kind.Uint (cond (eqb n 3) kind.Str
+    (cond (eqb n 4) kind.Addr (cond (eqb n 5) kind.Double (cond (eqb n 6) kind.Bool
+    (cond (eqb n 7) kind.TypeName (cond (eqb n 11) kind.Ptr kind.Usr)))))))
 
 kind_from-kind_node : (k : kinds.Kind) → kind_from (kind_node k) ≡ k
 kind_from-kind_node kind.Usr = refl
@@ -82,9 +85,12 @@ value_of kind count words =
     (cond (eqb kind 5) (double_of count words)
     (cond (eqb kind 6) (variant.Bool (eqb (get_or words 0 0) 1))
     (cond (eqb kind 7) (variant.Kind (kind_from (get_or words 0 0)))
-    (cond (eqb kind 11) (variant.Ptr (text_of count words)) (variant.Usr (text_of count words)))))))))
+    (cond (eqb kind 11) (variant.Ptr (text_of count words))
+    (variant.Usr (text_of count words)))))))))
 
-value_of-value_words : (v : variants.Variant) → IsValue v → value_of (kind_node (kind_of v)) (text_length v) (value_words v) ≡ v
+value_of-value_words :
+    (v : variants.Variant) → IsValue v
+    → value_of (kind_node (kind_of v)) (text_length v) (value_words v) ≡ v
 value_of-value_words (variant.Int n) is = ap variant.Int (number_of-number_words n is)
 value_of-value_words (variant.Fixed n) is = ap variant.Fixed (number_of-number_words n is)
 value_of-value_words (variant.Uint n) is = refl
@@ -110,10 +116,15 @@ text_length_below (variant.Addr a) is = lit< tt
 text_length_below (variant.Kind k) is = lit< tt
 
 -- valid values with equal kinds, lengths and words are equal
-pub equal_values : (v w : variants.Variant) → IsValue v → IsValue w → kind_node (kind_of v) * 2 ^ 32 + text_length v ≡ kind_node (kind_of w) * 2 ^ 32 + text_length w → value_words v ≡ value_words w → v ≡ w
+pub equal_values :
+    (v w : variants.Variant) → IsValue v → IsValue w
+    → kind_node (kind_of v) * 2 ^ 32 + text_length v
+    ≡ kind_node (kind_of w) * 2 ^ 32 + text_length w
+    → value_words v ≡ value_words w → v ≡ w
 equal_values v w is_v is_w shape words =
     let a = text_length_below v is_v in
     let b = text_length_below w is_w in
     let kinds : kind_node (kind_of v) ≡ kind_node (kind_of w) = omega arith in
     let lengths : text_length v ≡ text_length w = omega arith in
-    sym (value_of-value_words v is_v) ∙ (λ i. value_of (kinds i) (lengths i) (words i)) ∙ value_of-value_words w is_w
+    sym (value_of-value_words v is_v) ∙ (λ i. value_of (kinds i) (lengths i) (words i))
+    ∙ value_of-value_words w is_w

@@ -7,13 +7,14 @@ use Rattle.cal_value.proofs.fixed_read.read_parts.Goals as goal
 
 pub returns-in_err-whole-clause-value : goal.returns-in_err-whole-clause-value
 returns-in_err-whole-clause-value c =
-    let none = without_whole (number_of 10 c.args.whole.now) (rest_nanos c.args.rest.now) (sym c.in_err-whole.ensures.value) in
-    c.from_residual.ensures ∙ sym none
+    let whole = sym c.in_err-whole.ensures.value in
+    c.from_residual.ensures ∙ sym (without_whole _ (rest_nanos c.args.rest.now) whole)
 
 pub returns-in_err-rest-clause-value : goal.returns-in_err-rest-clause-value
 returns-in_err-rest-clause-value c =
-    let none = without_rest (number_of 10 c.args.whole.now) (rest_nanos c.args.rest.now) (sym c.in_err-rest.ensures) in
-    c.from_residual-in_err-rest.ensures ∙ sym none
+    let rest = sym c.in_err-rest.ensures in
+    c.from_residual-in_err-rest.ensures
+    ∙ sym (without_rest (number_of 10 c.args.whole.now) _ rest)
 
 pub returns-then-nanos-gt-MOST-clause-value : goal.returns-then-nanos-gt-MOST-clause-value
 returns-then-nanos-gt-MOST-clause-value c =
