@@ -88,12 +88,3 @@ fields_of-start line = sym (fields_before-nil (fields_of line))
 pub fields_of-comma : (line : List ℕ) (values : List Span) (fields : List FieldSpans) (place : ℕ) → ReadsFields line values fields place → place < length line → fields_of line ≡ fields_before (fields_at line values fields) (fields_of (drop (place + 1) line))
 fields_of-comma line values fields place reads within =
     reads.read ∙ ap (λ bytes. fields_before (fields_at line values fields) (further_fields bytes)) (drop_more line place 0 within)
-
--- at the end all fields are read
-pub SplitsLine-end : (line : List ℕ) (values : List Span) (fields : List FieldSpans) (place : ℕ) → ReadsFields line values fields place → length line ≤ place → SplitsLine line values fields
-SplitsLine-end line values fields place reads past = record {
-  spans = reads.spans;
-  read = reads.read
-      ∙ ap (λ bytes. fields_before (fields_at line values fields) (further_fields bytes)) (drop_all place line past)
-      ∙ ap Some (append-nil (fields_at line values fields));
-}

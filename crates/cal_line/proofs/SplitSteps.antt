@@ -49,11 +49,6 @@ PushesValues-more line start place old values span pushes within sign is_span at
           ∙ ap (λ (front : List Token). before front rest) tokens;
     }
 
--- a lone backslash in a value leaves nothing
-pub tokens_of-bad_value : (line : List ℕ) (start place : ℕ) (old values : List Span) → PushesValues line start old values place → place < length line → get_or line place 0 ≡ 61 → tokens_of (drop (place + 1) line) ≡ None → tokens_of (drop start line) ≡ None
-tokens_of-bad_value line start place old values pushes within sign bad =
-    pushes.read ∙ ap (before (value_tokens (map (text_at line) pushes.more))) (tokens_of-equals line place within sign ∙ ap (onto equals) bad)
-
 -- the tokens of a field, key and values
 pub tokens_of-field : (line : List ℕ) (start : ℕ) (key : Span) (end : ℕ) (old values : List Span) → tokens_of (drop start line) ≡ before (map character (text_at line key)) (tokens_of (drop key.end line)) → (pushes : PushesValues line key.end old values end)
     → tokens_of (drop start line) ≡ before (field_tokens (text_at line key) (map (text_at line) pushes.more)) (tokens_of (drop end line))
