@@ -5,7 +5,7 @@ use Rattle.std.specs.Str.{IsUtf8}
 use Rattle.std.proofs.lemmas.List.{take_more, take_all}
 use Rattle.std.proofs.lemmas.Str.{IsCharBoundary-after_ascii}
 use Rattle.cal_line.specs.Escapes.{escaped, escaped_byte}
-use Rattle.cal_line.proofs.Runs.{Runs, Runs-start, Runs-more, Runs-put, Runs-end}
+use Rattle.cal_line.proofs.Runs.{Runs, Runs-more, Runs-put, Runs-end}
 
 -- what is written of one text and then of another
 pub escaped-append : (xs ys : List ℕ) → escaped (xs ++ ys) ≡ escaped xs ++ escaped ys

@@ -1,13 +1,13 @@
 -- What a splitter has read of a line.
-use Rattle.std.proofs.Common.{◌≡◌, ◌≢◌, ℕ, ◌+◌, ◌<◌, ◌≤◌, List, [], ◌∷◌, ◌++◌, Option, None, Some, map, length, get_or, take, drop, refl, sym, ap, subst, ◌∙◌, append_assoc, append-nil, length-append, arith}
-use Rattle.std.specs.List.{All, between}
+use Rattle.std.proofs.Common.{◌≡◌, ℕ, ◌+◌, ◌<◌, ◌≤◌, List, [], ◌∷◌, ◌++◌, Option, None, Some, map, length, drop, refl, sym, ap, ◌∙◌, append_assoc, length-append, arith}
+use Rattle.std.specs.List.{All}
 use Rattle.std.specs.Option.{option_map}
-use Rattle.std.proofs.lemmas.List.{map-append, drop_more, drop_all, take-append-le}
+use Rattle.std.proofs.lemmas.List.{map-append, drop_more, take-append-le}
 use Rattle.std.proofs.lemmas.List.Elements.{All-nil, All-head, All-tail, All-append, All-push, All-weaker}
 use Rattle.std.proofs.lemmas.Slice.{between_is}
 use Rattle.cal_line.specs.Fields.{fields_of}
 use Rattle.cal_line.specs.Spans.{IsSpan, IsFieldAt, AreSpans, text_at, value_spans, field_at, fields_at}
-use Rattle.cal_line.specs.Steps.{further_fields, EndsAtComma, PushesField, SplitsLine}
+use Rattle.cal_line.specs.Steps.{further_fields, EndsAtComma, PushesField}
 use Rattle.cal_line.specs.declared.field.Field.{Field}
 use Rattle.cal_line.specs.declared.spans.Span.{Span}
 use Rattle.cal_line.specs.declared.spans.FieldSpans.{FieldSpans}

@@ -1,17 +1,16 @@
 -- What a splitter has pushed.
-use Rattle.std.proofs.Common.{◌≡◌, ◌≢◌, ℕ, ◌+◌, ◌-◌, ◌<◌, ◌≤◌, Bool, true, false, eqb, List, [], ◌∷◌, ◌++◌, Option, None, Some, map, length, get_or, take, drop, refl, sym, ap, subst, ◌∙◌, append_assoc, append-nil, length-append, arith, ◌⊎◌, inl, inr}
-use Rattle.std.specs.List.{All, between}
+use Rattle.std.proofs.Common.{◌≡◌, ◌≢◌, ℕ, ◌+◌, ◌<◌, ◌≤◌, List, [], ◌∷◌, ◌++◌, None, map, length, get_or, drop, refl, sym, ap, ◌∙◌, append_assoc, append-nil, length-append, arith, ◌⊎◌, inl, inr}
+use Rattle.std.specs.List.{between}
 use Rattle.std.specs.Option.{option_map}
-use Rattle.std.proofs.lemmas.List.{map-append, length-map, drop_more, drop_all}
+use Rattle.std.proofs.lemmas.List.{map-append, length-map}
 use Rattle.std.proofs.lemmas.List.Edits.{between_none, length-between}
-use Rattle.std.proofs.lemmas.List.Elements.{All-nil, All-cons, All-head, All-tail, All-append, All-push, All-weaker}
+use Rattle.std.proofs.lemmas.List.Elements.{All-nil, All-push}
 use Rattle.std.proofs.lemmas.Slice.{between_to_end}
 use Rattle.std.proofs.Math.Seq.{drop-append_seam}
 use Rattle.cal_line.specs.Tokens.{Token, character, equals, onto, tokens_of}
 use Rattle.cal_line.specs.Fields.{field_of, fields_of}
-use Rattle.cal_line.specs.Spans.{IsSpan, IsFieldAt, AreSpans, text_of, text_at, value_spans, field_at, fields_at}
-use Rattle.cal_line.specs.Steps.{before, value_tokens, further_fields, EndsAtComma, PushesValues, PushesField, SplitsLine}
-use Rattle.cal_line.specs.declared.field.Field.{Field}
+use Rattle.cal_line.specs.Spans.{IsSpan, text_of, text_at, value_spans}
+use Rattle.cal_line.specs.Steps.{before, value_tokens, further_fields, EndsAtComma, PushesValues, PushesField}
 use Rattle.cal_line.specs.declared.spans.Span.{Span}
 use Rattle.cal_line.specs.declared.spans.FieldSpans.{FieldSpans}
 use Rattle.cal_line.proofs.TokenSteps.{before-nil, before-before, tokens_of-equals, Spell-nil}
