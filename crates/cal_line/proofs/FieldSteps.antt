@@ -1,16 +1,16 @@
 -- How the tokens of a line are cut into fields.
-use Rattle.std.proofs.Common.{◌≡◌, ◌≢◌, ℕ, ◌+◌, ◌<◌, ◌≤◌, Bool, true, false, List, [], ◌∷◌, ◌++◌, Option, None, Some, map, length, get_or, drop, refl, sym, ap, subst, ◌∙◌, append_assoc, append-nil, arith, inl, inr, ⊎_elim}
-use Rattle.std.specs.List.{All, slice_split}
+use Rattle.std.proofs.Common.{◌≡◌, ◌≢◌, ℕ, ◌+◌, false, List, [], ◌∷◌, ◌++◌, Option, None, Some, map, length, drop, refl, sym, ap, ◌∙◌, append_assoc, append-nil, inl, inr}
+use Rattle.std.specs.List.{All}
 use Rattle.std.specs.Option.{option_map, option_and_then}
 use Rattle.std.proofs.lemmas.Bool.{cases_lt}
 use Rattle.std.proofs.lemmas.List.{drop_more, drop_all}
-use Rattle.std.proofs.lemmas.List.Elements.{All-nil, All-cons, All-append}
+use Rattle.std.proofs.lemmas.List.Elements.{All-nil, All-cons, All-append, All-map}
 use Rattle.std.proofs.lemmas.List.Splits.{slice_split_none, slice_split_at}
-use Rattle.cal_line.specs.Tokens.{Token, character, comma, equals, Spell, tokens_of, byte_of}
+use Rattle.cal_line.specs.Tokens.{Token, character, comma, equals, tokens_of, byte_of}
 use Rattle.cal_line.specs.Fields.{is_comma, is_equals, pieces_of, field_of, all_fields, fields_among, fields_of, IsFields}
 use Rattle.cal_line.specs.Steps.{before, value_tokens, further_fields, EndsAtComma}
 use Rattle.cal_line.specs.declared.field.Field.{Field}
-use Rattle.cal_line.proofs.TokenSteps.{tokens_of-spelled, Spell-tokens_of, tokens_of-itself, tokens_of-comma, bytes_of-characters, before-before}
+use Rattle.cal_line.proofs.TokenSteps.{tokens_of-spelled, Spell-tokens_of, tokens_of-comma, bytes_of-characters}
 
 -- the fields of a line, by the spelling and by the reading of its tokens
 pub fields_of-IsFields : (line : List ℕ) (fields : List Field) → IsFields line fields → fields_of line ≡ Some fields
@@ -25,12 +25,10 @@ IsFields-fields_of line fields read = by_tokens (tokens_of line) refl (read)
 
 -- the characters of a text are no marks
 characters-no_comma : (text : List ℕ) → All (λ token. is_comma token ≡ false) (map character text)
-characters-no_comma [] = All-nil (λ token. is_comma token ≡ false)
-characters-no_comma (b ∷ text) = All-cons (λ token. is_comma token ≡ false) (character b) (map character text) refl (characters-no_comma text)
+characters-no_comma text = All-map (λ token. is_comma token ≡ false) character text (λ k d within. refl)
 
 characters-no_equals : (text : List ℕ) → All (λ token. is_equals token ≡ false) (map character text)
-characters-no_equals [] = All-nil (λ token. is_equals token ≡ false)
-characters-no_equals (b ∷ text) = All-cons (λ token. is_equals token ≡ false) (character b) (map character text) refl (characters-no_equals text)
+characters-no_equals text = All-map (λ token. is_equals token ≡ false) character text (λ k d within. refl)
 
 -- the tokens of a field: its key, and its values, each behind an equals sign
 abbrev pub field_tokens : List ℕ → List (List ℕ) → List Token

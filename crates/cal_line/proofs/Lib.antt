@@ -2,6 +2,7 @@ pub mod TokenSteps
 pub mod FieldSteps
 pub mod Written
 pub mod ScanSteps
+pub mod Runs
 pub mod Exits
 pub mod TextSteps
 pub mod LineSteps

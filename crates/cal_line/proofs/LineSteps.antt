@@ -1,13 +1,13 @@
 -- What a splitter has read of a line.
-use Rattle.std.proofs.Common.{◌≡◌, ◌≢◌, ℕ, ◌+◌, ◌<◌, ◌≤◌, List, [], ◌∷◌, ◌++◌, Option, None, Some, map, length, get_or, take, drop, refl, sym, ap, subst, ◌∙◌, append_assoc, append-nil, length-append, arith}
-use Rattle.std.specs.List.{All, between}
+use Rattle.std.proofs.Common.{◌≡◌, ℕ, ◌+◌, ◌<◌, ◌≤◌, List, [], ◌∷◌, ◌++◌, Option, None, Some, map, length, drop, refl, sym, ap, ◌∙◌, append_assoc, length-append, arith}
+use Rattle.std.specs.List.{All}
 use Rattle.std.specs.Option.{option_map}
-use Rattle.std.proofs.lemmas.List.{map-append, drop_more, drop_all, take-append-le}
+use Rattle.std.proofs.lemmas.List.{map-append, drop_more, take-append-le}
 use Rattle.std.proofs.lemmas.List.Elements.{All-nil, All-head, All-tail, All-append, All-push, All-weaker}
 use Rattle.std.proofs.lemmas.Slice.{between_is}
 use Rattle.cal_line.specs.Fields.{fields_of}
 use Rattle.cal_line.specs.Spans.{IsSpan, IsFieldAt, AreSpans, text_at, value_spans, field_at, fields_at}
-use Rattle.cal_line.specs.Steps.{further_fields, EndsAtComma, PushesField, SplitsLine}
+use Rattle.cal_line.specs.Steps.{further_fields, EndsAtComma, PushesField}
 use Rattle.cal_line.specs.declared.field.Field.{Field}
 use Rattle.cal_line.specs.declared.spans.Span.{Span}
 use Rattle.cal_line.specs.declared.spans.FieldSpans.{FieldSpans}
@@ -88,12 +88,3 @@ fields_of-start line = sym (fields_before-nil (fields_of line))
 pub fields_of-comma : (line : List ℕ) (values : List Span) (fields : List FieldSpans) (place : ℕ) → ReadsFields line values fields place → place < length line → fields_of line ≡ fields_before (fields_at line values fields) (fields_of (drop (place + 1) line))
 fields_of-comma line values fields place reads within =
     reads.read ∙ ap (λ bytes. fields_before (fields_at line values fields) (further_fields bytes)) (drop_more line place 0 within)
-
--- at the end all fields are read
-pub SplitsLine-end : (line : List ℕ) (values : List Span) (fields : List FieldSpans) (place : ℕ) → ReadsFields line values fields place → length line ≤ place → SplitsLine line values fields
-SplitsLine-end line values fields place reads past = record {
-  spans = reads.spans;
-  read = reads.read
-      ∙ ap (λ bytes. fields_before (fields_at line values fields) (further_fields bytes)) (drop_all place line past)
-      ∙ ap Some (append-nil (fields_at line values fields));
-}

@@ -1,5 +1,5 @@
 -- What a scan of a piece has seen.
-use Rattle.std.proofs.Common.{◌≡◌, ◌≢◌, ℕ, ◌+◌, ◌<◌, ◌≤◌, Bool, true, false, cond, eqb, ◌||◌, inl, inr, List, [], ◌∷◌, ◌++◌, map, length, get_or, drop, refl, sym, ap, subst, ◌∙◌, arith}
+use Rattle.std.proofs.Common.{◌≡◌, ◌≢◌, ℕ, ◌+◌, ◌<◌, ◌≤◌, Bool, true, false, cond, eqb, ◌||◌, inl, inr, List, [], ◌∷◌, ◌++◌, map, length, get_or, drop, sym, ap, subst, ◌∙◌, arith}
 use Rattle.std.specs.List.{between}
 use Rattle.std.specs.Str.{IsCharBoundary}
 use Rattle.std.proofs.lemmas.Bool.{cases_lt}
@@ -7,8 +7,8 @@ use Rattle.std.proofs.lemmas.Bool.Decides.{nat_tests}
 use Rattle.std.proofs.lemmas.Str.{IsCharBoundary-before_ascii, IsCharBoundary-end}
 use Rattle.std.proofs.lemmas.List.{map-append}
 use Rattle.std.proofs.lemmas.List.Edits.{between_more, between_none}
-use Rattle.cal_line.specs.Tokens.{Token, character, token, taken, Spell, nothing, IsPiece, tokens_of}
-use Rattle.cal_line.specs.Spans.{text_of, text_at, IsSpan, IsWritten}
+use Rattle.cal_line.specs.Tokens.{Token, character, token, taken, Spell, IsPiece, tokens_of}
+use Rattle.cal_line.specs.Spans.{text_at, IsSpan}
 use Rattle.cal_line.specs.Steps.{before, EndsAtMark}
 use Rattle.cal_line.specs.declared.spans.Span.{Span}
 use Rattle.cal_line.proofs.TokenSteps.{Spell-start, Spell-itself, Spell-taken, tokens_of-rest, text_of-piece}

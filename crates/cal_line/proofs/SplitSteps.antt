@@ -1,17 +1,16 @@
 -- What a splitter has pushed.
-use Rattle.std.proofs.Common.{◌≡◌, ◌≢◌, ℕ, ◌+◌, ◌-◌, ◌<◌, ◌≤◌, Bool, true, false, eqb, List, [], ◌∷◌, ◌++◌, Option, None, Some, map, length, get_or, take, drop, refl, sym, ap, subst, ◌∙◌, append_assoc, append-nil, length-append, arith, ◌⊎◌, inl, inr}
-use Rattle.std.specs.List.{All, between}
+use Rattle.std.proofs.Common.{◌≡◌, ◌≢◌, ℕ, ◌+◌, ◌<◌, ◌≤◌, List, [], ◌∷◌, ◌++◌, None, map, length, get_or, drop, refl, sym, ap, ◌∙◌, append_assoc, append-nil, length-append, arith, ◌⊎◌, inl, inr}
+use Rattle.std.specs.List.{between}
 use Rattle.std.specs.Option.{option_map}
-use Rattle.std.proofs.lemmas.List.{map-append, length-map, drop_more, drop_all}
+use Rattle.std.proofs.lemmas.List.{map-append, length-map}
 use Rattle.std.proofs.lemmas.List.Edits.{between_none, length-between}
-use Rattle.std.proofs.lemmas.List.Elements.{All-nil, All-cons, All-head, All-tail, All-append, All-push, All-weaker}
+use Rattle.std.proofs.lemmas.List.Elements.{All-nil, All-push}
 use Rattle.std.proofs.lemmas.Slice.{between_to_end}
 use Rattle.std.proofs.Math.Seq.{drop-append_seam}
 use Rattle.cal_line.specs.Tokens.{Token, character, equals, onto, tokens_of}
 use Rattle.cal_line.specs.Fields.{field_of, fields_of}
-use Rattle.cal_line.specs.Spans.{IsSpan, IsFieldAt, AreSpans, text_of, text_at, value_spans, field_at, fields_at}
-use Rattle.cal_line.specs.Steps.{before, value_tokens, further_fields, EndsAtComma, PushesValues, PushesField, SplitsLine}
-use Rattle.cal_line.specs.declared.field.Field.{Field}
+use Rattle.cal_line.specs.Spans.{IsSpan, text_of, text_at, value_spans}
+use Rattle.cal_line.specs.Steps.{before, value_tokens, further_fields, EndsAtComma, PushesValues, PushesField}
 use Rattle.cal_line.specs.declared.spans.Span.{Span}
 use Rattle.cal_line.specs.declared.spans.FieldSpans.{FieldSpans}
 use Rattle.cal_line.proofs.TokenSteps.{before-nil, before-before, tokens_of-equals, Spell-nil}
@@ -48,11 +47,6 @@ PushesValues-more line start place old values span pushes within sign is_span at
           ∙ before-before (value_tokens texts) (value_tokens (text_at line span ∷ [])) rest
           ∙ ap (λ (front : List Token). before front rest) tokens;
     }
-
--- a lone backslash in a value leaves nothing
-pub tokens_of-bad_value : (line : List ℕ) (start place : ℕ) (old values : List Span) → PushesValues line start old values place → place < length line → get_or line place 0 ≡ 61 → tokens_of (drop (place + 1) line) ≡ None → tokens_of (drop start line) ≡ None
-tokens_of-bad_value line start place old values pushes within sign bad =
-    pushes.read ∙ ap (before (value_tokens (map (text_at line) pushes.more))) (tokens_of-equals line place within sign ∙ ap (onto equals) bad)
 
 -- the tokens of a field, key and values
 pub tokens_of-field : (line : List ℕ) (start : ℕ) (key : Span) (end : ℕ) (old values : List Span) → tokens_of (drop start line) ≡ before (map character (text_at line key)) (tokens_of (drop key.end line)) → (pushes : PushesValues line key.end old values end)

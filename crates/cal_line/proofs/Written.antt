@@ -1,12 +1,11 @@
 -- What is written spells what it is written of.
-use Rattle.std.proofs.Common.{◌≡◌, ◌≢◌, ℕ, Bool, true, false, ◌||◌, eqb, List, [], ◌∷◌, ◌++◌, Option, None, Some, map, refl, sym, ap, subst, ◌∙◌, append-nil, arith, eqb-true}
+use Rattle.std.proofs.Common.{◌≡◌, ℕ, Bool, true, false, ◌||◌, eqb, List, [], ◌∷◌, ◌++◌, Some, map, refl, ap, subst, ◌∙◌, append-nil, arith, eqb-true}
 use Rattle.std.specs.List.{AllByRecursion}
 use Rattle.std.proofs.lemmas.Bool.{eqb-false}
 use Rattle.std.proofs.lemmas.Bool.Decides.{nat_tests}
 use Rattle.cal_line.specs.Escapes.{escaped, escaped_byte}
-use Rattle.cal_line.specs.Tokens.{Token, character, comma, equals, token, taken, Spell, nothing, itself, behind_backslash, IsPiece}
-use Rattle.cal_line.specs.Fields.{field_of, fields_among, IsFields}
-use Rattle.cal_line.specs.Steps.{value_tokens}
+use Rattle.cal_line.specs.Tokens.{character, comma, token, taken, Spell, nothing, itself, behind_backslash, IsPiece}
+use Rattle.cal_line.specs.Fields.{fields_among, IsFields}
 use Rattle.cal_line.specs.WrittenFields.{IsWritable, written_pieces, written_fields}
 use Rattle.cal_line.specs.declared.field.Field.{Field}
 use Rattle.cal_line.proofs.TokenSteps.{Spell-append}

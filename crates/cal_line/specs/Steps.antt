@@ -1,6 +1,6 @@
 -- What the steps of a splitter do (private).
 use Rattle.std.specs.Prelude.{◌≡◌, ℕ, ◌<◌, ◌≤◌, true, ◌==◌, ◌||◌, List, [], ◌∷◌, ◌++◌}
-use Rattle.std.specs.Prelude.{Option, None, Some, map, length, drop, slice_index}
+use Rattle.std.specs.Prelude.{Option, Some, map, length, drop, slice_index}
 use Rattle.std.specs.List.{All}
 use Rattle.std.specs.Option.{option_map}
 use Rattle.cal_line.specs.Tokens.{Token, character, equals, tokens_of}

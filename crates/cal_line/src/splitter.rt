@@ -29,7 +29,7 @@ impl Splitter {
     }
 
     /// The fields of a line, in order, which stay in the line. Time and memory are in its length; a
-    /// line no longer than an earlier one takes no memory.
+    /// line with no more fields and values than an earlier one takes no memory.
     pub fn split<'a>(&'a mut self, line: &'a str) -> Result<Fields<'a>, FieldEnd>
         ensures found { IfOk result (λ fields. fields_of line.now ≡ Some fields) }
         ensures refused { IsErrOf result FieldEnd.BadField → fields_of line.now ≡ None }

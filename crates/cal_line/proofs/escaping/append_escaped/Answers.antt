@@ -1,12 +1,13 @@
 use Rattle.std.proofs.Common.{◌<◌, ◌++◌, length, ap, ◌∙◌, arith}
 use Rattle.std.specs.List.{between}
 use Rattle.std.proofs.lemmas.Result.{on_ok_weaker}
-use Rattle.cal_line.proofs.EscapeSteps.{Writes-none, Writes-plain, Writes-special, Writes-all}
+use Rattle.cal_line.proofs.EscapeSteps.{Writes-plain, Writes-special, Writes-all}
+use Rattle.cal_line.proofs.Runs.{Runs-start}
 use Rattle.cal_line.proofs.escaping.append_escaped.Goals as goal
 use Rattle.cal_line.proofs.escaping.append_escaped.Goals.{in-Some+in_ok-push_str+in_ok-push_str-2, in_default}
 
 pub loop-place-init : goal.loop-place-init
-loop-place-init c = Writes-none c.args.text.now c.args.out.now c.utf8.text
+loop-place-init c = Runs-start c.args.text.now c.args.out.now c.utf8.text
 
 pub loop-place-preserved : goal.loop-place-preserved
 loop-place-preserved c =

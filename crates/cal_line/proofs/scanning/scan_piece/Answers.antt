@@ -1,4 +1,4 @@
-use Rattle.std.proofs.Common.{◌≡◌, ◌≢◌, ◌+◌, ◌<◌, true, false, length, get_or, arith, sym, ◌∙◌, ap, eqb, ◌||◌}
+use Rattle.std.proofs.Common.{◌≡◌, ◌≢◌, true, false, length, get_or, arith, sym, ◌∙◌, ap, eqb, ◌||◌}
 use Rattle.cal_line.proofs.TokenSteps.{tokens_of-lone}
 use Rattle.cal_line.proofs.ScanSteps.{Scanned-start, Scanned-itself, Scanned-taken, IsSpan-scanned, tokens_of-scanned, IsCharBoundary-at_mark}
 use Rattle.cal_line.proofs.scanning.scan_piece.Goals as goal

@@ -1,6 +1,6 @@
 use Rattle.std.proofs.Common.{◌≡◌, ◌<◌, length, get_or, ap, arith}
 use Rattle.std.proofs.lemmas.Str.{IsCharBoundary-after_ascii}
-use Rattle.cal_line.proofs.SplitSteps.{PushesValues-start, PushesValues-more, tokens_of-bad_value}
+use Rattle.cal_line.proofs.SplitSteps.{PushesValues-start, PushesValues-more}
 use Rattle.cal_line.proofs.splitter.push_values.Goals as goal
 
 pub loop-place-init : goal.loop-place-init

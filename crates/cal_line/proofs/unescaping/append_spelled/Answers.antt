@@ -14,7 +14,7 @@ loop-place-preserved-then-bytes-place-ne92 c =
     Unescaped-itself c.args.written.now c.args.out.now c.loop-place.out c.loop-place.run c.loop-place.place c.loop-place.invariant (omega (arith, ap length c.as_bytes-bytes.ensures.value)) other
 
 pub returns-then-place-bytes-clause-front : goal.returns-then-place-bytes-clause-front
-returns-then-place-bytes-clause-front c = (c.loop-place.invariant.text, c.loop-place.invariant.appended)
+returns-then-place-bytes-clause-front c = (c.loop-place.invariant.runs.text, c.loop-place.invariant.runs.appended)
 
 pub returns-then-place-bytes-clause-bad : goal.returns-then-place-bytes-clause-bad
 returns-then-place-bytes-clause-bad c = λ _.
@@ -22,7 +22,7 @@ returns-then-place-bytes-clause-bad c = λ _.
     spelled_text-lone c.args.written.now c.loop-place.place c.loop-place.invariant.tokens c.loop-place.invariant.spell (omega (arith, ap length c.as_bytes-bytes.ensures.value)) backslash
 
 pub returns-in_err-push_str-clause-front : goal.returns-in_err-push_str-clause-front
-returns-in_err-push_str-clause-front c = (c.loop-place.invariant.text, c.in_err-push_str.ensures.err ∙ c.loop-place.invariant.appended)
+returns-in_err-push_str-clause-front c = (c.loop-place.invariant.runs.text, c.in_err-push_str.ensures.err ∙ c.loop-place.invariant.runs.appended)
 
 pub loop-place-preserved : goal.loop-place-preserved
 unfolding lib.Utf8.encode
@@ -44,11 +44,11 @@ loop-place-preserved c =
     ]
 
 pub returns-in_err-push_str-2-clause-front : goal.returns-in_err-push_str-2-clause-front
-returns-in_err-push_str-2-clause-front c = (c.loop-place.invariant.text, c.in_err-push_str-2.ensures.err ∙ c.loop-place.invariant.appended)
+returns-in_err-push_str-2-clause-front c = (c.loop-place.invariant.runs.text, c.in_err-push_str-2.ensures.err ∙ c.loop-place.invariant.runs.appended)
 
 pub returns-clause-spelled : goal.returns-clause-spelled
 returns-clause-spelled c =
-    text_of-unescaped c.args.written.now c.args.out.now c.loop-place.out c.loop-place.run c.loop-place.place c.loop-place.invariant (omega (arith, ap length c.as_bytes-bytes.ensures.value))
+    (text_of-unescaped c.args.written.now c.args.out.now c.loop-place.out c.loop-place.run c.loop-place.place c.loop-place.invariant (omega (arith, ap length c.as_bytes-bytes.ensures.value))).0
 
 pub returns-clause-appended : goal.returns-clause-appended
 returns-clause-appended c =
