@@ -8,6 +8,7 @@ use lib.Seq.{set-get_or}
 use Rattle.std.proofs.lemmas.Bool.{eq-eqb, ne_eqb}
 use Rattle.atomic_table.specs.Table.{State, Me, step, keeps, stepped, Allows}
 use Rattle.atomic_table.proofs.Lists.{at_set, set_here}
+use Rattle.cal_words.specs.declared.sort.RecSort.{Ghosts as RecSort}
 use Rattle.cal_once.specs.declared.view.View.{View}
 use Rattle.cal_once.specs.declared.view.Plan.{Plan}
 use Rattle.cal_once.specs.Layout.{IsWithin, size_in, start_in, slot_of}
@@ -24,9 +25,9 @@ seen_looked noted place found v i x h = dite (ℕ_discrete found 0)
     (λ e. inl (subst (λ (b : Bool). Saw (cond b v.seen ((place + 1, found) ∷ v.seen)) i x) (eq-eqb found 0 e) h))
     (λ ne. ⊎_elim (λ t. inr (ne, t.0, t.1)) inl (subst (λ (b : Bool). Saw (cond b v.seen ((place + 1, found) ∷ v.seen)) i x) (ne_eqb found 0 ne) h))
 
-module _ {S : Type 0} (IsRecord : S → List ℕ → Type 0) (home_of : ℕ → List ℕ → ℕ) (MayPublish : S → ℕ → List ℕ → Type 0) (long_record : (sort : S) (ws : List ℕ) → IsRecord sort ws → 2 ≤ length ws) (plan : Plan S) where
+module _ {S : Type 0} (law : RecSort S) (plan : Plan S) where
   abbrev pub Rule : State ℕ (View S) → Type 0
-  Rule = Kept IsRecord home_of MayPublish plan
+  Rule = Kept law plan
 
   pub sits_of : (s : State ℕ (View S)) (k : Rule s) (id : ℕ) (v : View S) → get_elem? s.views id ≡ some v → v.plan ≡ Some plan → Sits plan s.words k.used k.published id v
   sits_of s k id v at live = ⊎_elim (λ none. absurd (cc (none, live))) (λ sits. sits) (k.seats id v at)
@@ -45,7 +46,7 @@ module _ {S : Type 0} (IsRecord : S → List ℕ → Type 0) (home_of : ℕ → 
 
   -- the seat id has another view, and the words are others
   pub moved : (s : State ℕ (View S)) (k : Rule s) (id : ℕ) (v w : View S) (words : List ℕ) (used : ℕ → ℕ) (published : ℕ → List ℕ) → get_elem? s.views id ≡ some v → v.plan ≡ Some plan
-      → IsLaid IsRecord home_of MayPublish plan words used published → Sits plan words used published id w → w.others ≡ v.others
+      → IsLaid law plan words used published → Sits plan words used published id w → w.others ≡ v.others
       → ((n : ℕ) → n ≢ id → (used n ≡ k.used n) × (published n ≡ k.published n)) → ((j : ℕ) (u : View S) → j ≢ id → Sits plan s.words k.used k.published j u → Sits plan words used published j u)
       → Rule record { words = words; homes = s.homes; views = set s.views id w }
   moved s k id v w words used published at live laid mine same apart others =
@@ -66,15 +67,15 @@ module _ {S : Type 0} (IsRecord : S → List ℕ → Type 0) (home_of : ℕ → 
       }
 
   -- what the rule says of a seat
-  pub sound_in : (s : State ℕ (View S)) (k : Rule s) (id : ℕ) (v : View S) → get_elem? s.views id ≡ some v → v.plan ≡ Some plan → IsSound IsRecord MayPublish plan v
+  pub sound_in : (s : State ℕ (View S)) (k : Rule s) (id : ℕ) (v : View S) → get_elem? s.views id ≡ some v → v.plan ≡ Some plan → IsSound law plan v
   sound_in s k id v at live =
       let below = at_below s.views v id at in
       let few = k.few in
-      is_sound IsRecord home_of MayPublish long_record plan s.words k.used k.published k.laid s.views id v (sits_of s k id v at live) (λ e. k.first v (subst (λ (i : ℕ). get_elem? s.views i ≡ some v) e at)) (λ n past. (k.unmade n past).1) (omega arith)
+      is_sound law plan s.words k.used k.published k.laid s.views id v (sits_of s k id v at live) (λ e. k.first v (subst (λ (i : ℕ). get_elem? s.views i ≡ some v) e at)) (λ n past. (k.unmade n past).1) (omega arith)
 
   pub empty_in : (s : State ℕ (View S)) (k : Rule s) (id : ℕ) (v : View S) (place : ℕ) → get_elem? s.views id ≡ some v → v.plan ≡ Some plan → place < plan.shape.slots → slot_of s.words place ≡ 0 → WasEmpty plan v place
   empty_in s k id v place at live h empty =
-      was_empty IsRecord home_of MayPublish long_record plan s.words k.used k.published k.laid s.views id v (sits_of s k id v at live) (λ e. k.first v (subst (λ (i : ℕ). get_elem? s.views i ≡ some v) e at)) (λ n past. (k.unmade n past).1) place h empty
+      was_empty law plan s.words k.used k.published k.laid s.views id v (sits_of s k id v at live) (λ e. k.first v (subst (λ (i : ℕ). get_elem? s.views i ≡ some v) e at)) (λ n past. (k.unmade n past).1) place h empty
 
   -- a step that changes no word
   pub unmoved : (s : State ℕ (View S)) (k : Rule s) (i id : ℕ) (cs : List (ℕ × ℕ)) (v w : View S) → get_elem? s.views id ≡ some v → v.plan ≡ Some plan → Sits plan s.words k.used k.published id w → w.others ≡ v.others
@@ -83,7 +84,7 @@ module _ {S : Type 0} (IsRecord : S → List ℕ → Type 0) (home_of : ℕ → 
       (moved s k id v w s.words k.used k.published at live k.laid mine same (λ _ _. (refl, refl)) (λ _ _ _ sits. sits))
 
   -- what is told of the seat after its step
-  pub told : (s : State ℕ (View S)) (words : List ℕ) (id : ℕ) (v w : View S) → Rule record { words = words; homes = s.homes; views = set s.views id w } → get_elem? s.views id ≡ some v → w.plan ≡ Some plan → IsSound IsRecord MayPublish plan w
+  pub told : (s : State ℕ (View S)) (words : List ℕ) (id : ℕ) (v w : View S) → Rule record { words = words; homes = s.homes; views = set s.views id w } → get_elem? s.views id ≡ some v → w.plan ≡ Some plan → IsSound law plan w
   told s words id v w k at live = sound_in record { words = words; homes = s.homes; views = set s.views id w } k id w (set_here s.views id w (at_below s.views v id at)) live
 
   -- one plan is known
@@ -103,7 +104,7 @@ module _ {S : Type 0} (IsRecord : S → List ℕ → Type 0) (home_of : ℕ → 
     seen = λ i x saw. ⊎_elim (λ t. record { here = ap (λ (j : ℕ). get_or s.words j 0) (sym t.0) ∙ is ∙ t.1; fixed = let e = t.0 in inl (omega arith, omega arith, λ z. ne (t.1 ∙ z)) }) (sits.seen i x) saw;
   }
 
-  pub allows_look : (noted : Bool) (slots id place : ℕ) (me : Me ℕ (View S)) → me.0.plan ≡ Some plan → place < plan.shape.slots → Allows Rule slots id me (place + 1) (λ x. x) (looks IsRecord MayPublish noted (step slots (place + 1) 0 0 none) me)
+  pub allows_look : (noted : Bool) (slots id place : ℕ) (me : Me ℕ (View S)) → me.0.plan ≡ Some plan → place < plan.shape.slots → Allows Rule slots id me (place + 1) (λ x. x) (looks law noted (step slots (place + 1) 0 0 none) me)
   allows_look noted slots id place me live h s k _ at _ =
       let v : View S = me.0 in
       let found : ℕ = slot_of s.words place in
@@ -123,21 +124,21 @@ module _ {S : Type 0} (IsRecord : S → List ℕ → Type 0) (home_of : ℕ → 
         keeps,
         tt,
         kept,
-        λ there is. let same : place ≡ there = omega arith in subst (λ (p : ℕ). Looked IsRecord MayPublish noted p me found (w, me.1)) same record {
+        λ there is. let same : place ≡ there = omega arith in subst (λ (p : ℕ). Looked law noted p me found (w, me.1)) same record {
           view = refl;
-          sound = of_plan (λ (p : Plan S). IsSound IsRecord MayPublish p w) v live (told s (set s.words (place + 1) found) id v w kept at live);
+          sound = of_plan (λ (p : Plan S). IsSound law p w) v live (told s (set s.words (place + 1) found) id v w kept at live);
           empty = of_plan (λ (p : Plan S). found ≡ 0 → WasEmpty p v place) v live (empty_in s k id v place at live h);
         },
       )
 
   pub allows_read : (slots id i place slot : ℕ) (me : Me ℕ (View S)) → me.0.plan ≡ Some plan → place < plan.shape.slots → Saw me.0.seen (place + 1) slot → start_in slot ≤ i → i < start_in slot + size_in slot
-      → Allows Rule slots id me i (λ x. x) (reads IsRecord MayPublish (step slots i 0 0 none) me)
+      → Allows Rule slots id me i (λ x. x) (reads law (step slots i 0 0 none) me)
   allows_read slots id i place slot me live h known low high s k _ at _ =
       let v : View S = me.0 in
       let found : ℕ = get_or s.words i 0 in
       let w : View S = read i found v in
       let sits = sits_of s k id v at live in
-      let there = seen_slot IsRecord home_of MayPublish long_record plan s.words k.used k.published k.laid place slot h (sits.seen (place + 1) slot known) in
+      let there = seen_slot law plan s.words k.used k.published k.laid place slot h (sits.seen (place + 1) slot known) in
       let st = k.laid.stands place h there.1 in
       let within : IsWithin plan.shape st.number (k.used st.number) slot = subst (λ (x : ℕ). IsWithin plan.shape st.number (k.used st.number) x) there.0 st.within in
       let mine : Sits plan s.words k.used k.published id w = record {
@@ -154,5 +155,5 @@ module _ {S : Type 0} (IsRecord : S → List ℕ → Type 0) (home_of : ℕ → 
         keeps,
         tt,
         kept,
-        record { view = refl; sound = of_plan (λ (p : Plan S). IsSound IsRecord MayPublish p w) v live (told s (set s.words i found) id v w kept at live) },
+        record { view = refl; sound = of_plan (λ (p : Plan S). IsSound law p w) v live (told s (set s.words i found) id v w kept at live) },
       )

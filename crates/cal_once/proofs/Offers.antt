@@ -7,6 +7,7 @@ use lib.ListN.{get_elem?}
 use prog.Atomic.{either}
 use Rattle.std.proofs.lemmas.Bool.{cases_lt, eq-eqb, ne_eqb}
 use Rattle.atomic_table.specs.Table.{State, Me, step, keeps, stepped, Allows}
+use Rattle.cal_words.specs.declared.sort.RecSort.{Ghosts as RecSort}
 use Rattle.cal_once.specs.declared.view.View.{View}
 use Rattle.cal_once.specs.declared.view.Plan.{Plan}
 use Rattle.cal_once.specs.Layout.{IsWithin, AreApart, arena_start, size_in, start_in, slot_for, slot_of, record_at, probe, times}
@@ -36,12 +37,12 @@ times-one_more p q l ne = times-append p l (q ∷ []) ∙ (λ i. times p l + (co
 times-this_more : (p : ℕ) (l : List ℕ) → times p (l ++ p ∷ []) ≡ times p l + 1
 times-this_more p l = times-append p l (p ∷ []) ∙ (λ i. times p l + (cond (eq-eqb p p refl i) 1 0 + 0)) ∙ (omega arith)
 
-module _ {S : Type 0} (IsRecord : S → List ℕ → Type 0) (home_of : ℕ → List ℕ → ℕ) (MayPublish : S → ℕ → List ℕ → Type 0) (long_record : (sort : S) (ws : List ℕ) → IsRecord sort ws → 2 ≤ length ws) (plan : Plan S) where
+module _ {S : Type 0} (law : RecSort S) (plan : Plan S) where
   abbrev R : State ℕ (View S) → Type 0
-  R = Rule IsRecord home_of MayPublish long_record plan
+  R = Rule law plan
 
   -- the slot of `place` is empty, and the seat `id` may offer its draft there
-  module _ (s : State ℕ (View S)) (k : R s) (id place distance : ℕ) (v : View S) (at : get_elem? s.views id ≡ some v) (live : v.plan ≡ Some plan) (may : MayOffer IsRecord MayPublish home_of plan v place distance) (empty : slot_of s.words place ≡ 0) where
+  module _ (s : State ℕ (View S)) (k : R s) (id place distance : ℕ) (v : View S) (at : get_elem? s.views id ≡ some v) (live : v.plan ≡ Some plan) (may : MayOffer law plan v place distance) (empty : slot_of s.words place ≡ 0) where
     abbrev ws : List ℕ
     ws = v.draft
 
@@ -61,10 +62,10 @@ module _ {S : Type 0} (IsRecord : S → List ℕ → Type 0) (home_of : ℕ → 
     published = changed k.published id (v.published ++ place ∷ [])
 
     sits : Sits plan s.words k.used k.published id v
-    sits = sits_of IsRecord home_of MayPublish long_record plan s k id v at live
+    sits = sits_of law plan s k id v at live
 
     two : 2 ≤ length ws
-    two = long_record plan.sort ws may.is_record
+    two = law.has_parent plan.sort ws may.is_record
 
     is_arena : id < plan.shape.arenas
     is_arena = let few = k.few in let below = at_below s.views v id at in omega arith
@@ -106,7 +107,7 @@ module _ {S : Type 0} (IsRecord : S → List ℕ → Type 0) (home_of : ℕ → 
         let w = st.within in
         let from = w.from in
         let p = may.is_place in
-        record_at-set s.words (place + 1) word q (λ e. let same : q ≡ place = omega arith in filled (ap (slot_of s.words) same ∙ empty)) (inl (omega arith)) (inside IsRecord home_of MayPublish long_record plan s.words k.used k.published k.laid q st)
+        record_at-set s.words (place + 1) word q (λ e. let same : q ≡ place = omega arith in filled (ap (slot_of s.words) same ∙ empty)) (inl (omega arith)) (inside law plan s.words k.used k.published k.laid q st)
 
     new_record : record_at words place ≡ ws
     new_record =
@@ -135,26 +136,26 @@ module _ {S : Type 0} (IsRecord : S → List ℕ → Type 0) (home_of : ℕ → 
     some_slot : 0 < plan.shape.slots
     some_slot = let h = may.is_place in omega arith
 
-    new_stands : Stands IsRecord home_of MayPublish plan words used published place
+    new_stands : Stands law plan words used published place
     new_stands =
-        let home : List ℕ → ℕ = home_of plan.shape.homes in
+        let home : List ℕ → ℕ = law.home_of plan.shape.homes in
         let back : ws ≡ record_at words place = sym new_record in
         record {
           number = id;
           within = subst (λ (x : ℕ). IsWithin plan.shape id (used id) x) (sym here)
               (let a = size_is in let b = start_is in let t = two in let e = starts in let u = sits.used_is in let c = changed_here k.used id (v.used + length ws) in record { is_arena = is_arena; two_words = omega arith; from = omega arith; to = omega arith });
           listed = ap (times place) own_list ∙ times-this_more place v.published ∙ (let none = not_listed id in let same : times place v.published ≡ times place (k.published id) = ap (times place) sits.published_is in omega arith);
-          is_record = subst (λ (l : List ℕ). IsRecord plan.sort l) back may.is_record;
-          may_publish = subst (λ (l : List ℕ). MayPublish plan.sort id l) back (subst (λ (n : ℕ). MayPublish plan.sort n ws) sits.number_is may.may_publish);
+          is_record = subst (λ (l : List ℕ). law.is_record plan.sort l) back may.is_record;
+          may_publish = subst (λ (l : List ℕ). law.may_publish plan.sort id l) back (subst (λ (n : ℕ). law.may_publish plan.sort n ws) sits.number_is may.may_publish);
           distance = distance;
           near = may.near;
           at = may.at ∙ ap (λ (l : List ℕ). probe plan.shape (home l) distance) back;
           before = subst (λ (l : List ℕ). (e : ℕ) → e < distance → HoldsAnother words (probe plan.shape (home l) e) l) back
-              (λ e less. let q : ℕ = probe plan.shape (home ws) e in let b = held_other IsRecord home_of MayPublish long_record plan s.words k.used k.published k.laid s.views id v sits q ws (probe_below plan.shape (home ws) e some_slot) (may.before e less) in
+              (λ e less. let q : ℕ = probe plan.shape (home ws) e in let b = held_other law plan s.words k.used k.published k.laid s.views id v sits q ws (probe_below plan.shape (home ws) e some_slot) (may.before e less) in
               let r = records q (probe_below plan.shape (home ws) e some_slot) b.0 in ((λ none. b.0 (sym r.0 ∙ none)), (λ one. b.1 (sym r.1 ∙ one))));
           has_parent = subst (λ (l : List ℕ). HasParent plan.shape.slots words l) back
               (⊎_elim inl (λ t.
-              let f = seen_slot IsRecord home_of MayPublish long_record plan s.words k.used k.published k.laid t.0 t.1 t.3 (sits.seen (t.0 + 1) t.1 t.5) in
+              let f = seen_slot law plan s.words k.used k.published k.laid t.0 t.1 t.3 (sits.seen (t.0 + 1) t.1 t.5) in
               let st = k.laid.stands t.0 t.3 f.1 in
               let w = st.within in
               let long = w.two_words in
@@ -186,15 +187,15 @@ module _ {S : Type 0} (IsRecord : S → List ℕ → Type 0) (home_of : ℕ → 
     old_filled : (q : ℕ) → q ≢ place → slot_of words q ≢ 0 → slot_of s.words q ≢ 0
     old_filled q ne f e = f (elsewhere q ne ∙ e)
 
-    new_laid : IsLaid IsRecord home_of MayPublish plan words used published
+    new_laid : IsLaid law plan words used published
     new_laid = record {
       shape = k.laid.shape;
       long = length-set s.words (place + 1) word ∙ k.laid.long;
       zero_word = get_or-set_other s.words (place + 1) 0 word 0 (λ e. omega arith) ∙ k.laid.zero_word;
       room = λ n. dite (ℕ_discrete n id) (λ e. let c : used n ≡ v.used + length ws = ap used e ∙ changed_here k.used id (v.used + length ws) in let room = sits.room in omega arith)
           (λ ne. let c = changed_else k.used id (v.used + length ws) n ne in let room = k.laid.room n in omega arith);
-      stands = λ q h f. dite (ℕ_discrete q place) (λ e. subst (λ (n : ℕ). Stands IsRecord home_of MayPublish plan words used published n) (sym e) new_stands)
-          (λ ne. let g = old_filled q ne f in let st = k.laid.stands q h g in stands_kept IsRecord home_of MayPublish long_record plan s.words words k.used used k.published published some_slot records more q h g st (same_times q st.number ne));
+      stands = λ q h f. dite (ℕ_discrete q place) (λ e. subst (λ (n : ℕ). Stands law plan words used published n) (sym e) new_stands)
+          (λ ne. let g = old_filled q ne f in let st = k.laid.stands q h g in stands_kept law plan s.words words k.used used k.published published some_slot records more q h g st (same_times q st.number ne));
       apart = λ p q hp hq other fp fq. dite (ℕ_discrete p place)
           (λ e. let ne : q ≢ place = λ same. other (e ∙ sym same) in subst (λ (z : ℕ × ℕ). AreApart z.0 z.1) (λ j. (sym (ap (slot_of words) e ∙ here) j, sym (elsewhere q ne) j)) (new_apart q hq ne (old_filled q ne fq)))
           (λ np. dite (ℕ_discrete q place)
@@ -251,7 +252,7 @@ module _ {S : Type 0} (IsRecord : S → List ℕ → Type 0) (home_of : ℕ → 
     }
 
     pub published_there : R record { words = words; homes = s.homes; views = set s.views id (offered place word 0 v) }
-    published_there = moved IsRecord home_of MayPublish long_record plan s k id v (offered place word 0 v) words used published at live new_laid new_sits refl
+    published_there = moved law plan s k id v (offered place word 0 v) words used published at live new_laid new_sits refl
         (λ n ne. (changed_else k.used id (v.used + length ws) n ne, changed_else k.published id (v.published ++ place ∷ []) n ne)) new_others
 
   offered_miss : (place word found : ℕ) (v : View S) → found ≢ 0 → offered place word found v ≡ record v { seen = (place + 1, found) ∷ v.seen }
@@ -262,12 +263,12 @@ module _ {S : Type 0} (IsRecord : S → List ℕ → Type 0) (home_of : ℕ → 
     seen = cond b ((place + 1, word) ∷ placed (start_in word) v.draft ++ v.seen) ((place + 1, found) ∷ v.seen);
   } in w) (ne_eqb found 0 ne)
 
-  pub allows_offer : (slots id place distance word : ℕ) (me : Me ℕ (View S)) → me.0.plan ≡ Some plan → MayOffer IsRecord MayPublish home_of plan me.0 place distance → word ≡ slot_for (length me.0.draft) (arena_start plan.shape me.0.number + me.0.used)
-      → Allows R slots id me (place + 1) (λ n. either (eqb n 0) word n) (offers IsRecord MayPublish (step slots (place + 1) 0 word none) me)
+  pub allows_offer : (slots id place distance word : ℕ) (me : Me ℕ (View S)) → me.0.plan ≡ Some plan → MayOffer law plan me.0 place distance → word ≡ slot_for (length me.0.draft) (arena_start plan.shape me.0.number + me.0.used)
+      → Allows R slots id me (place + 1) (λ n. either (eqb n 0) word n) (offers law (step slots (place + 1) 0 word none) me)
   allows_offer slots id place distance word me live may named s k _ at _ =
       let v : View S = me.0 in
       let found : ℕ = slot_of s.words place in
-      let sits = sits_of IsRecord home_of MayPublish long_record plan s k id v at live in
+      let sits = sits_of law plan s k id v at live in
       dite (ℕ_discrete found 0)
       (λ empty.
       let w : View S = offered place word 0 v in
@@ -276,20 +277,20 @@ module _ {S : Type 0} (IsRecord : S → List ℕ → Type 0) (home_of : ℕ → 
         keeps,
         tt,
         subst (λ (b : Bool). R (stepped s (place + 1) (either b word found) id me.1 w keeps)) (sym (eq-eqb found 0 empty)) kept,
-        λ there is. let same : place ≡ there = omega arith in subst (λ (p : ℕ). Offered IsRecord MayPublish p word me found (w, me.1)) same record {
+        λ there is. let same : place ≡ there = omega arith in subst (λ (p : ℕ). Offered law p word me found (w, me.1)) same record {
           view = ap (λ (x : ℕ). (offered place word x v, me.1)) (sym empty);
-          sound = of_plan IsRecord home_of MayPublish long_record plan (λ (p : Plan S). IsSound IsRecord MayPublish p w) v live (told IsRecord home_of MayPublish long_record plan s (set s.words (place + 1) word) id v w kept at live);
+          sound = of_plan law plan (λ (p : Plan S). IsSound law p w) v live (told law plan s (set s.words (place + 1) word) id v w kept at live);
         },
       ))
       (λ ne.
       let w : View S = record v { seen = (place + 1, found) ∷ v.seen } in
-      let kept = unmoved IsRecord home_of MayPublish long_record plan s k (place + 1) id me.1 v w at live (met IsRecord home_of MayPublish long_record plan s k id place found v sits may.is_place refl ne) refl in (
+      let kept = unmoved law plan s k (place + 1) id me.1 v w at live (met law plan s k id place found v sits may.is_place refl ne) refl in (
         w,
         keeps,
         tt,
         subst (λ (b : Bool). R (stepped s (place + 1) (either b word found) id me.1 w keeps)) (sym (ne_eqb found 0 ne)) kept,
-        λ there is. let same : place ≡ there = omega arith in subst (λ (p : ℕ). Offered IsRecord MayPublish p word me found (w, me.1)) same record {
+        λ there is. let same : place ≡ there = omega arith in subst (λ (p : ℕ). Offered law p word me found (w, me.1)) same record {
           view = ap (λ (x : View S). (x, me.1)) (sym (offered_miss place word found v ne));
-          sound = of_plan IsRecord home_of MayPublish long_record plan (λ (p : Plan S). IsSound IsRecord MayPublish p w) v live (told IsRecord home_of MayPublish long_record plan s (set s.words (place + 1) found) id v w kept at live);
+          sound = of_plan law plan (λ (p : Plan S). IsSound law p w) v live (told law plan s (set s.words (place + 1) found) id v w kept at live);
         },
       ))

@@ -4,14 +4,15 @@ use Rattle.std.proofs.Math.ListN.{length-replicate, get_or-replicate}
 use mathlib.Core.Option.{some}
 use lib.ListN.{get_elem?}
 use Rattle.atomic_table.specs.Table.{opening}
+use Rattle.cal_words.specs.declared.sort.RecSort.{Ghosts as RecSort}
 use Rattle.cal_once.specs.declared.view.View.{View}
 use Rattle.cal_once.specs.declared.view.Plan.{Plan}
 use Rattle.cal_once.specs.Layout.{IsShape, word_count, slot_of}
 use Rattle.cal_once.specs.Views.{first_seat}
 use Rattle.cal_once.specs.Rule.{Sits, Leads, Kept}
 
-module _ {S : Type 0} (IsRecord : S → List ℕ → Type 0) (home_of : ℕ → List ℕ → ℕ) (MayPublish : S → ℕ → List ℕ → Type 0) where
-  pub opens : (plan : Plan S) → IsShape plan.shape → Kept IsRecord home_of MayPublish plan (opening (replicate (word_count plan.shape) 0) [] (first_seat plan))
+module _ {S : Type 0} (law : RecSort S) where
+  pub opens : (plan : Plan S) → IsShape plan.shape → Kept law plan (opening (replicate (word_count plan.shape) 0) [] (first_seat plan))
   opens plan shape =
       let words : List ℕ = replicate (word_count plan.shape) 0 in
       let zero_at : (i : ℕ) → i < word_count plan.shape → get_or words i 0 ≡ 0 = λ i h. get_or-replicate (word_count plan.shape) i 0 0 h in

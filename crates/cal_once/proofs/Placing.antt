@@ -1,6 +1,7 @@
 -- What an offered draft leaves.
 use Rattle.std.proofs.Common.{◌≡◌, ◌≢◌, ℕ, ◌+◌, ◌^◌, ◌<◌, ◌≤◌, Bool, cond, List, [], ◌∷◌, ◌++◌, length, get_or, sym, refl, ap, ◌∙◌, subst, inl, inr, ⊎_elim, arith}
 use Rattle.std.proofs.lemmas.Bool.{ne_eqb}
+use Rattle.cal_words.specs.declared.sort.RecSort.{Ghosts as RecSort}
 use Rattle.cal_once.specs.declared.shape.Shape.{Shape}
 use Rattle.cal_once.specs.declared.view.View.{View}
 use Rattle.cal_once.specs.declared.view.Plan.{Plan}
@@ -57,14 +58,14 @@ module _ {S : Type 0} where
         },
       )
 
-  module _ (IsRecord : S → List ℕ → Type 0) (home_of : ℕ → List ℕ → ℕ) (MayPublish : S → ℕ → List ℕ → Type 0) where
-    pub may_offer : (plan : Plan S) (home number : ℕ) (u v : View S) (words : List ℕ) (place distance : ℕ) → Learns u v → IsRecord plan.sort words → number ≡ u.number → MayPublish plan.sort number words → KnowsParent u plan.shape.slots words
-        → home ≡ home_of plan.shape.homes words → place < plan.shape.slots → distance < plan.shape.slots → place ≡ probe plan.shape home distance → ((e : ℕ) → e < distance → HoldsOther v (probe plan.shape home e) words)
-        → MayOffer IsRecord MayPublish home_of plan (record v { draft = words }) place distance
+  module _ (law : RecSort S) where
+    pub may_offer : (plan : Plan S) (home number : ℕ) (u v : View S) (words : List ℕ) (place distance : ℕ) → Learns u v → law.is_record plan.sort words → number ≡ u.number → law.may_publish plan.sort number words → KnowsParent u plan.shape.slots words
+        → home ≡ law.home_of plan.shape.homes words → place < plan.shape.slots → distance < plan.shape.slots → place ≡ probe plan.shape home distance → ((e : ℕ) → e < distance → HoldsOther v (probe plan.shape home e) words)
+        → MayOffer law plan (record v { draft = words }) place distance
     may_offer plan home number u v words place distance l is_record own may parent is_home is_place near at before = record {
       is_place = is_place;
       is_record = is_record;
-      may_publish = subst (λ (n : ℕ). MayPublish plan.sort n words) (own ∙ sym (ap (λ (z : View S). z.number) l.same)) may;
+      may_publish = subst (λ (n : ℕ). law.may_publish plan.sort n words) (own ∙ sym (ap (λ (z : View S). z.number) l.same)) may;
       parent = parent_later u v plan.shape.slots words l.more parent;
       near = near;
       at = at ∙ ap (λ (h : ℕ). probe plan.shape h distance) is_home;

@@ -4,6 +4,7 @@ use mathlib.Core.Option.{some}
 use lib.ListN.{get_elem?}
 use Rattle.atomic_table.specs.Table.{State, Splits, Joins}
 use Rattle.atomic_table.proofs.Lists.{at_set, at_longer, set_else}
+use Rattle.cal_words.specs.declared.sort.RecSort.{Ghosts as RecSort}
 use Rattle.cal_once.specs.declared.view.View.{View}
 use Rattle.cal_once.specs.declared.view.Plan.{Plan}
 use Rattle.cal_once.specs.Views.{split_off, new_seat, joined, joined_with, spent}
@@ -11,13 +12,13 @@ use Rattle.cal_once.specs.Rule.{Sits, Leads}
 use Rattle.cal_once.proofs.Seen.{Saw_either, at_below, at_end, at_joined, joined_else, joined_here, length-joined}
 use Rattle.cal_once.proofs.Moves.{Rule, sits_of}
 
-module _ {S : Type 0} (IsRecord : S → List ℕ → Type 0) (home_of : ℕ → List ℕ → ℕ) (MayPublish : S → ℕ → List ℕ → Type 0) (long_record : (sort : S) (ws : List ℕ) → IsRecord sort ws → 2 ≤ length ws) (plan : Plan S) where
+module _ {S : Type 0} (law : RecSort S) (plan : Plan S) where
   abbrev R : State ℕ (View S) → Type 0
-  R = Rule IsRecord home_of MayPublish long_record plan
+  R = Rule law plan
 
   pub allows_split : (id : ℕ) (v : View S) → v.plan ≡ Some plan → v.number ≡ 0 → length v.others + 1 < plan.shape.arenas → Splits R id v (split_off v) (new_seat v)
   allows_split id v live first room s k at =
-      let sits = sits_of IsRecord home_of MayPublish long_record plan s k id v at live in
+      let sits = sits_of law plan s k id v at live in
       let is_first : id ≡ 0 = sym sits.number_is ∙ first in
       let old = k.first v (subst (λ (i : ℕ). get_elem? s.views i ≡ some v) is_first at) in
       let made = old.made in
@@ -60,9 +61,9 @@ module _ {S : Type 0} (IsRecord : S → List ℕ → Type 0) (home_of : ℕ → 
   pub allows_join : (id : ℕ) (v : View S) (other : ℕ) (w : View S) → v.plan ≡ Some plan → v.number ≡ 0 → w.plan ≡ Some plan → Joins R id v other w (joined v w) spent
   allows_join id v other w live first live_other s k at apart there =
       let both : View S = joined v w in
-      let sits = sits_of IsRecord home_of MayPublish long_record plan s k id v at live in
+      let sits = sits_of law plan s k id v at live in
       let at_other : get_elem? s.views other ≡ some w = sym (set_else s.views id other both apart) ∙ there in
-      let sits_other = sits_of IsRecord home_of MayPublish long_record plan s k other w at_other live_other in
+      let sits_other = sits_of law plan s k other w at_other live_other in
       let is_first : id ≡ 0 = sym sits.number_is ∙ first in
       let old = k.first v (subst (λ (i : ℕ). get_elem? s.views i ≡ some v) is_first at) in
       let number = sits_other.number_is in

@@ -3,6 +3,7 @@ use Rattle.std.proofs.Common.{◌≡◌, ◌≢◌, ℕ, ◌+◌, ◌<◌, ◌�
 use mathlib.Core.Logic.{dite}
 use native.Mathlib.Decide.{ℕ_discrete}
 use Rattle.std.proofs.lemmas.Bool.{cases_lt}
+use Rattle.cal_words.specs.declared.sort.RecSort.{Ghosts as RecSort}
 use Rattle.cal_once.specs.declared.view.View.{View}
 use Rattle.cal_once.specs.declared.view.Plan.{Plan}
 use Rattle.cal_once.specs.Layout.{IsWithin, AreApart, size_in, start_in, slot_of, record_at, probe, times}
@@ -13,14 +14,14 @@ use Rattle.cal_once.specs.Steps.{WasEmpty}
 use Rattle.cal_once.proofs.Seen.{seen_to_be, times-append, sum_from, sum_from_none, sum_from_one, times-gathered}
 use Rattle.cal_once.proofs.Regions.{part_is, length-part, get_or-part, arena_inside, one_region}
 
-module _ {S : Type 0} (IsRecord : S → List ℕ → Type 0) (home_of : ℕ → List ℕ → ℕ) (MayPublish : S → ℕ → List ℕ → Type 0) where
-  module _ (long_record : (sort : S) (ws : List ℕ) → IsRecord sort ws → 2 ≤ length ws) (plan : Plan S) (words : List ℕ) (used : ℕ → ℕ) (published : ℕ → List ℕ) (laid : IsLaid IsRecord home_of MayPublish plan words used published) where
+module _ {S : Type 0} (law : RecSort S) where
+  module _ (plan : Plan S) (words : List ℕ) (used : ℕ → ℕ) (published : ℕ → List ℕ) (laid : IsLaid law plan words used published) where
     -- a slot's word that was seen is there, and isn't 0
     pub seen_slot : (place x : ℕ) → place < plan.shape.slots → IsFixed plan words used (place + 1) x → (slot_of words place ≡ x) × (slot_of words place ≢ 0)
     seen_slot place x h f = let here = f.here in (here, ⊎_elim (λ t e. t.2 (sym here ∙ e)) (λ t. let low = t.1 in absurd (omega arith)) f.fixed)
 
     -- a filled slot's record lies within the words
-    pub inside : (place : ℕ) → Stands IsRecord home_of MayPublish plan words used published place → start_in (slot_of words place) + size_in (slot_of words place) ≤ length words
+    pub inside : (place : ℕ) → Stands law plan words used published place → start_in (slot_of words place) + size_in (slot_of words place) ≤ length words
     inside place st = let w = st.within in let to = w.to in let e = arena_inside plan.shape st.number (used st.number) w.is_arena (laid.room st.number) in let l = laid.long in omega arith
 
     -- a number's words don't reach past its arena
@@ -28,7 +29,7 @@ module _ {S : Type 0} (IsRecord : S → List ℕ → Type 0) (home_of : ℕ → 
     widened n w x = let r = laid.room n in let t = x.to in record { is_arena = x.is_arena; two_words = x.two_words; from = x.from; to = omega arith }
 
     -- a place stands in the list of one number alone
-    pub one_list : (place : ℕ) → place < plan.shape.slots → slot_of words place ≢ 0 → (st : Stands IsRecord home_of MayPublish plan words used published place) → (m : ℕ) → m ≢ st.number → times place (published m) ≡ 0
+    pub one_list : (place : ℕ) → place < plan.shape.slots → slot_of words place ≢ 0 → (st : Stands law plan words used published place) → (m : ℕ) → m ≢ st.number → times place (published m) ≡ 0
     one_list place h filled st m other = dite (ℕ_discrete (times place (published m)) 0) (λ z. z)
         (λ some_times. let l = laid.listed m place (omega arith) in absurd (other (one_region plan.shape m st.number plan.shape.arena plan.shape.arena (slot_of words place) (omega arith) (omega arith) l.2 (widened st.number (slot_of words place) st.within))))
 
@@ -83,7 +84,7 @@ module _ {S : Type 0} (IsRecord : S → List ℕ → Type 0) (home_of : ℕ → 
           let x = laid.stands p hp a.0 in
           let y = laid.stands q hq b.0 in
           let e : record_at words p ≡ record_at words q = a.1 ∙ sym b.1 in
-          let P : List ℕ → ℕ → ℕ = λ ws d. probe plan.shape (home_of plan.shape.homes ws) d in
+          let P : List ℕ → ℕ → ℕ = λ ws d. probe plan.shape (law.home_of plan.shape.homes ws) d in
           ⊎_elim
           (λ (less : x.distance < y.distance). absurd ((y.before x.distance less).1 (ap (record_at words) (sym (x.at ∙ ap (λ (l : List ℕ). P l x.distance) e)) ∙ e)))
           (λ (more : y.distance ≤ x.distance). ⊎_elim
@@ -92,14 +93,14 @@ module _ {S : Type 0} (IsRecord : S → List ℕ → Type 0) (home_of : ℕ → 
           (cases_lt y.distance x.distance))
           (cases_lt x.distance y.distance)
 
-      is_lawful : (place : ℕ) (ws : List ℕ) → place < plan.shape.slots → Holds v place ws → IsLawful IsRecord MayPublish plan v place ws
+      is_lawful : (place : ℕ) (ws : List ℕ) → place < plan.shape.slots → Holds v place ws → IsLawful law plan v place ws
       is_lawful place ws h k =
           let a = held place ws h k in
           let st = laid.stands place h a.0 in
           record {
-            is_record = subst (λ (l : List ℕ). IsRecord plan.sort l) a.1 st.is_record;
+            is_record = subst (λ (l : List ℕ). law.is_record plan.sort l) a.1 st.is_record;
             number = st.number;
-            may_publish = subst (λ (l : List ℕ). MayPublish plan.sort st.number l) a.1 st.may_publish;
+            may_publish = subst (λ (l : List ℕ). law.may_publish plan.sort st.number l) a.1 st.may_publish;
             own = λ mine. ap (λ (l : List ℕ). times place l) (sits.published_is ∙ ap published (sym sits.number_is ∙ sym mine)) ∙ st.listed;
           }
 
@@ -134,7 +135,7 @@ module _ {S : Type 0} (IsRecord : S → List ℕ → Type 0) (home_of : ℕ → 
             let one = sum_from_one (listed_in place) 1 (length v.others) st.number (omega arith) (omega arith) others in
             let l = st.listed in all_times all place ∙ omega arith)
 
-        pub is_sound : number < plan.shape.arenas → IsSound IsRecord MayPublish plan v
+        pub is_sound : number < plan.shape.arenas → IsSound law plan v
         is_sound is_arena = record {
           own_arena = subst (λ (n : ℕ). n < plan.shape.arenas) (sym sits.number_is) is_arena;
           room = sits.room;

@@ -7,6 +7,7 @@ use mathlib.Core.Option.{none}
 use native.Mathlib.Decide.{ℕ_discrete}
 use Rattle.std.proofs.lemmas.Bool.{cases_lt}
 use Rattle.atomic_table.specs.Table.{Me, step, keeps, Allows}
+use Rattle.cal_words.specs.declared.sort.RecSort.{Ghosts as RecSort}
 use Rattle.cal_once.specs.declared.view.View.{View}
 use Rattle.cal_once.specs.declared.view.Plan.{Plan}
 use Rattle.cal_once.specs.Layout.{IsWithin, AreApart, arena_start, size_in, start_in, slot_of, record_at, probe, times}
@@ -33,12 +34,12 @@ record_at-set words i x place other outside inside =
     (λ j low high. get_or-set_other words i j x 0 (λ e. ⊎_elim (λ before. absurd (omega arith)) (λ after. absurd (omega arith)) outside)) (let l = length-set words i x in omega arith) in
     (slot, (λ j. take (size_in (slot j)) (drop (start_in (slot j)) (set words i x))) ∙ part)
 
-module _ {S : Type 0} (IsRecord : S → List ℕ → Type 0) (home_of : ℕ → List ℕ → ℕ) (MayPublish : S → ℕ → List ℕ → Type 0) (long_record : (sort : S) (ws : List ℕ) → IsRecord sort ws → 2 ≤ length ws) (plan : Plan S) where
+module _ {S : Type 0} (law : RecSort S) (plan : Plan S) where
   abbrev Laid : List ℕ → (ℕ → ℕ) → (ℕ → List ℕ) → Type 0
-  Laid = IsLaid IsRecord home_of MayPublish plan
+  Laid = IsLaid law plan
 
   abbrev StandsIn : List ℕ → (ℕ → ℕ) → (ℕ → List ℕ) → ℕ → Type 0
-  StandsIn = Stands IsRecord home_of MayPublish plan
+  StandsIn = Stands law plan
 
   -- what stood stands still where the records are kept
   pub stands_kept : (words words' : List ℕ) (used used' : ℕ → ℕ) (published published' : ℕ → List ℕ) → 0 < plan.shape.slots → KeepsRecords plan.shape.slots words words' → ((n : ℕ) → used n ≤ used' n)
@@ -47,14 +48,14 @@ module _ {S : Type 0} (IsRecord : S → List ℕ → Type 0) (home_of : ℕ → 
       let same = same_records place h filled in
       let back : record_at words place ≡ record_at words' place = sym same.1 in
       let slots : ℕ = plan.shape.slots in
-      let home : List ℕ → ℕ = home_of plan.shape.homes in
+      let home : List ℕ → ℕ = law.home_of plan.shape.homes in
       let far : (ws : List ℕ) (e : ℕ) → probe plan.shape (home ws) e < slots = λ ws e. probe_below plan.shape (home ws) e some_slot in
       record {
         number = st.number;
         within = let w = st.within in let to = w.to in let m = more st.number in subst (λ (x : ℕ). IsWithin plan.shape st.number (used' st.number) x) (sym same.0) record { is_arena = w.is_arena; two_words = w.two_words; from = w.from; to = omega arith };
         listed = listed ∙ st.listed;
-        is_record = subst (λ (l : List ℕ). IsRecord plan.sort l) back st.is_record;
-        may_publish = subst (λ (l : List ℕ). MayPublish plan.sort st.number l) back st.may_publish;
+        is_record = subst (λ (l : List ℕ). law.is_record plan.sort l) back st.is_record;
+        may_publish = subst (λ (l : List ℕ). law.may_publish plan.sort st.number l) back st.may_publish;
         distance = st.distance;
         near = st.near;
         at = subst (λ (l : List ℕ). place ≡ probe plan.shape (home l) st.distance) back st.at;
@@ -82,7 +83,7 @@ module _ {S : Type 0} (IsRecord : S → List ℕ → Type 0) (home_of : ℕ → 
     slot_same place h = get_or-set_other words i (place + 1) x 0 (λ e. omega arith)
 
     store_keeps : KeepsRecords plan.shape.slots words (set words i x)
-    store_keeps place h filled = record_at-set words i x place (λ e. omega arith) (unused_apart place h filled) (inside IsRecord home_of MayPublish long_record plan words used published laid place (laid.stands place h filled))
+    store_keeps place h filled = record_at-set words i x place (λ e. omega arith) (unused_apart place h filled) (inside law plan words used published laid place (laid.stands place h filled))
 
     laid_store : Laid (set words i x) used published
     laid_store =
@@ -124,11 +125,11 @@ module _ {S : Type 0} (IsRecord : S → List ℕ → Type 0) (home_of : ℕ → 
     }
 
   pub allows_store : (slots id i k x : ℕ) (me : Me ℕ (View S)) → me.0.plan ≡ Some plan → k ≤ length me.0.draft → me.0.used + k < plan.shape.arena → i ≡ arena_start plan.shape me.0.number + me.0.used + k
-      → Allows (Rule IsRecord home_of MayPublish long_record plan) slots id me i (λ _. x) (λ _. drafts (step slots i x 0 none) me x)
+      → Allows (Rule law plan) slots id me i (λ _. x) (λ _. drafts (step slots i x 0 none) me x)
   allows_store slots id i k x me live past room place s kept _ at _ =
       let v : View S = me.0 in
       let w : View S = drafted k x v in
-      let sits = sits_of IsRecord home_of MayPublish long_record plan s kept id v at live in
+      let sits = sits_of law plan s kept id v at live in
       let number : v.number ≡ id = sits.number_is in
       let used : v.used ≡ kept.used id = sits.used_is in
       let where_it_starts : arena_start plan.shape v.number ≡ arena_start plan.shape id = ap (arena_start plan.shape) number in
@@ -156,7 +157,7 @@ module _ {S : Type 0} (IsRecord : S → List ℕ → Type 0) (home_of : ℕ → 
         w,
         keeps,
         tt,
-        moved IsRecord home_of MayPublish long_record plan s kept id v w (set s.words i x) kept.used kept.published at live (laid_store s.words kept.used kept.published kept.laid id i x low high) mine refl (λ _ _. (refl, refl))
+        moved law plan s kept id v w (set s.words i x) kept.used kept.published at live (laid_store s.words kept.used kept.published kept.laid id i x low high) mine refl (λ _ _. (refl, refl))
             (others_store s.words kept.used kept.published kept.laid id i x low high),
         λ p j is there. let same : plan ≡ p = cc in
             let starts : arena_start plan.shape v.number ≡ arena_start p.shape v.number = ap (λ (q : Plan S). arena_start q.shape v.number) same in

@@ -4,6 +4,7 @@ use Rattle.std.specs.Prelude.{◌≡◌, ◌≢◌, ◌⊎◌, ℕ, ◌+◌, ◌
 use mathlib.Core.Option.{some}
 use lib.ListN.{get_elem?}
 use Rattle.atomic_table.specs.Table.{State}
+use Rattle.cal_words.specs.declared.sort.RecSort.{Ghosts as RecSort}
 use Rattle.cal_once.specs.declared.view.View.{View}
 use Rattle.cal_once.specs.declared.view.Plan.{Plan}
 use Rattle.cal_once.specs.Layout.{IsShape, IsWithin, AreApart, word_count, arena_start, probe, times, slot_of, record_at}
@@ -39,19 +40,19 @@ pub record Leads {S : Type 0} (published : ℕ → List ℕ) (views : List (View
   pub back : (k : ℕ) (places : List ℕ) → get_elem? others k ≡ some (Some places) → (places ≡ published (k + 1)) × ((w : View S) → get_elem? views (k + 1) ≡ some w → w.plan ≡ None)
   pub gone : (k : ℕ) (w : View S) → get_elem? views (k + 1) ≡ some w → w.plan ≡ None → (places : List ℕ) × (get_elem? others k ≡ some (Some places))
 
-module _ {S : Type 0} (IsRecord : S → List ℕ → Type 0) (home_of : ℕ → List ℕ → ℕ) (MayPublish : S → ℕ → List ℕ → Type 0) where
+module _ {S : Type 0} (law : RecSort S) where
   -- A filled slot. Its record lies in the used part of one arena, in whose number's list the place stands once. It is a
   -- record of the sort that this number may publish, at a distance from its home behind slots with other records.
   pub record Stands (plan : Plan S) (words : List ℕ) (used : ℕ → ℕ) (published : ℕ → List ℕ) (place : ℕ) : Type 0 where
     pub number : ℕ
     pub within : IsWithin plan.shape number (used number) (slot_of words place)
     pub listed : times place (published number) ≡ 1
-    pub is_record : IsRecord plan.sort (record_at words place)
-    pub may_publish : MayPublish plan.sort number (record_at words place)
+    pub is_record : law.is_record plan.sort (record_at words place)
+    pub may_publish : law.may_publish plan.sort number (record_at words place)
     pub distance : ℕ
     pub near : distance < plan.shape.slots
-    pub at : place ≡ probe plan.shape (home_of plan.shape.homes (record_at words place)) distance
-    pub before : (e : ℕ) → e < distance → HoldsAnother words (probe plan.shape (home_of plan.shape.homes (record_at words place)) e) (record_at words place)
+    pub at : place ≡ probe plan.shape (law.home_of plan.shape.homes (record_at words place)) distance
+    pub before : (e : ℕ) → e < distance → HoldsAnother words (probe plan.shape (law.home_of plan.shape.homes (record_at words place)) e) (record_at words place)
     pub has_parent : HasParent plan.shape.slots words (record_at words place)
 
   -- the words alone: word 0 is 0, and each filled slot stands; different slots name regions without common words

@@ -1,4 +1,5 @@
 use Rattle.std.specs.Prelude.{◌≡◌, ◌≢◌, ◌⊎◌, ℕ, ◌+◌, ◌<◌, ◌≤◌, List, length}
+use Rattle.cal_words.specs.declared.sort.RecSort.{Ghosts as RecSort}
 use Rattle.cal_once.specs.declared.view.View.{View}
 use Rattle.cal_once.specs.declared.view.Plan.{Plan}
 use Rattle.cal_once.specs.Layout.{IsWithin, AreApart, start_in, times}
@@ -9,12 +10,12 @@ abbrev pub IsBelow : {S : Type 0} → Plan S → View S → ℕ → ℕ → Type
 IsBelow plan v parent depth = ((parent ≡ 0) × (depth ≡ 1))
     ⊎ ((place : ℕ) × (parent ≡ place + 1) × (place < plan.shape.slots) × ((slot above : ℕ) → Saw v.seen (place + 1) slot → Saw v.seen (start_in slot + 1) above → depth ≡ above + 1))
 
-module _ {S : Type 0} (IsRecord : S → List ℕ → Type 0) (MayPublish : S → ℕ → List ℕ → Type 0) where
+module _ {S : Type 0} (law : RecSort S) where
   -- the record is one of the table's sort, and stands in the list of the one seat whose number published it
   pub record IsLawful (plan : Plan S) (v : View S) (place : ℕ) (words : List ℕ) : Type 0 where
-    pub is_record : IsRecord plan.sort words
+    pub is_record : law.is_record plan.sort words
     pub number : ℕ
-    pub may_publish : MayPublish plan.sort number words
+    pub may_publish : law.may_publish plan.sort number words
     pub own : number ≡ v.number → times place v.published ≡ 1
 
   -- What each seat knows of the table, whatever the other seats do. Each word stands for good, each slot's record

@@ -15,7 +15,7 @@ impl<S: RecSort> Rows<S> {
         ensures learns { Learns seat.old.me.0 seat.new.me.0 }
         ensures known { result ≡ known_count seat.new.me.0 (plan_of self.now).shape.slots }
         ensures all { AllJoined seat.new.me.0 → result ≡ length (all_published seat.new.me.0) }
-        ensures sound { IsSound S.is_record S.may_publish (plan_of self.now) seat.new.me.0 }
+        ensures sound { IsSound S.RecSort (plan_of self.now) seat.new.me.0 }
     {
         let mut count = 0;
         for place in 0..self.plan.shape.slots {
@@ -35,7 +35,7 @@ impl<S: RecSort> Rows<S> {
         ensures looks { (view seat.new).looks ≡ (view seat.old).looks }
         ensures known { result ≡ known_count (view seat.new) (plan_of self.now).shape.slots }
         ensures all { AllJoined (view seat.new) → result ≡ length (all_published (view seat.new)) }
-        ensures sound { IsSound S.is_record S.may_publish (plan_of self.now) (view seat.new) }
+        ensures sound { IsSound S.RecSort (plan_of self.now) (view seat.new) }
     {
         self.count(&mut seat.seat)
     }

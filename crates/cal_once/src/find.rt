@@ -26,7 +26,7 @@ impl<S: RecSort> Rows<S> {
         ensures seat { IsAt self.now seat.new × (seat.new.me.1 ≡ seat.old.me.1) }
         ensures found { Finds (plan_of self.now) home seat.old.me.0 seat.new.me.0 (P.words rec.now)
             result }
-        ensures sound { IsSound S.is_record S.may_publish (plan_of self.now) seat.new.me.0 }
+        ensures sound { IsSound S.RecSort (plan_of self.now) seat.new.me.0 }
     {
         let slots = self.plan.shape.slots;
         let mut distance = from;

@@ -19,6 +19,6 @@ pub fn known_for_good<S>()
 /// Two places that a seat knows are one exactly where their records are equal.
 pub fn one_place_each<S: RecSort>()
     ensures { (plan : Plan S) (v : View S) (p q : ℕ) (a b : List ℕ) →
-        IsSound S.is_record S.may_publish plan v → p < plan.shape.slots → q < plan.shape.slots →
+        IsSound S.RecSort plan v → p < plan.shape.slots → q < plan.shape.slots →
         Holds v p a → Holds v q b → ((p ≡ q) ↔ (a ≡ b)) }
 {}

@@ -23,8 +23,6 @@ mod rule;
 mod seat;
 mod shape;
 mod split;
-#[cfg(test)]
-mod tests;
 mod view;
 
 pub use answer::Put;

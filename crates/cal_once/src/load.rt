@@ -16,7 +16,7 @@ impl<S: RecSort> Rows<S> {
         requires seat { IsAt self.now seat.old }
         requires place { place < (plan_of self.now).shape.slots }
         ensures seat { IsAt self.now seat.new }
-        ensures looked { Looked S.is_record S.may_publish false place seat.old.me result
+        ensures looked { Looked S.RecSort false place seat.old.me result
             seat.new.me }
     {
         self.table.shared.load::<Peek>(seat, place as usize + 1)
@@ -27,7 +27,7 @@ impl<S: RecSort> Rows<S> {
         requires seat { IsAt self.now seat.old }
         requires place { place < (plan_of self.now).shape.slots }
         ensures seat { IsAt self.now seat.new }
-        ensures looked { Looked S.is_record S.may_publish true place seat.old.me result
+        ensures looked { Looked S.RecSort true place seat.old.me result
             seat.new.me }
     {
         self.table.shared.load::<Look>(seat, place as usize + 1)
@@ -38,10 +38,10 @@ impl<S: RecSort> Rows<S> {
         requires seat { IsAt self.now seat.old }
         requires place { place < (plan_of self.now).shape.slots }
         requires known { Saw seat.old.me.0.seen (place + 1) slot }
-        requires sound { IsSound S.is_record S.may_publish (plan_of self.now) seat.old.me.0 }
+        requires sound { IsSound S.RecSort (plan_of self.now) seat.old.me.0 }
         requires inside { (start_in slot ≤ i) × (i < start_in slot + size_in slot) }
         ensures seat { IsAt self.now seat.new }
-        ensures read { ReadsWord S.is_record S.may_publish i seat.old.me result seat.new.me }
+        ensures read { ReadsWord S.RecSort i seat.old.me result seat.new.me }
     {
         let _place = place;
         let _slot = slot;

@@ -19,7 +19,7 @@ impl<S: RecSort> Rows<S> {
         ensures empty { OnFalse result (WasEmpty (plan_of self.now) (view seat.old) place) }
         ensures looks { (view seat.new).looks
             ≡ (if result then (view seat.old).looks else (view seat.old).looks ++ place ∷ []) }
-        ensures sound { IsSound S.is_record S.may_publish (plan_of self.now) (view seat.new) }
+        ensures sound { IsSound S.RecSort (plan_of self.now) (view seat.new) }
     {
         self.note(&mut seat.seat, place) != 0
     }
@@ -32,7 +32,7 @@ impl<S: RecSort> Rows<S> {
         ensures own { KeepsOwn (view seat.old) (view seat.new) }
         ensures looks { (view seat.new).looks ≡ (view seat.old).looks }
         ensures size { IsSizeOf (view seat.new) place result }
-        ensures sound { IsSound S.is_record S.may_publish (plan_of self.now) (view seat.new) }
+        ensures sound { IsSound S.RecSort (plan_of self.now) (view seat.new) }
     {
         self.peek(&mut seat.seat, place) / (1 << 32)
     }
@@ -46,7 +46,7 @@ impl<S: RecSort> Rows<S> {
         ensures own { KeepsOwn (view seat.old) (view seat.new) }
         ensures looks { (view seat.new).looks ≡ (view seat.old).looks }
         ensures word { IsWordOf (view seat.new) place i result }
-        ensures sound { IsSound S.is_record S.may_publish (plan_of self.now) (view seat.new) }
+        ensures sound { IsSound S.RecSort (plan_of self.now) (view seat.new) }
     {
         let slot = self.peek(&mut seat.seat, place);
         let start = slot % (1 << 32);

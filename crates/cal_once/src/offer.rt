@@ -52,10 +52,10 @@ impl<S: RecSort> Rows<S> {
     ) -> u64
         requires seat { IsAt self.now seat.old }
         requires word { word ≡ slot_for (length seat.old.me.0.draft) (next_word self.now seat.old.me.0) }
-        requires may { MayOffer S.is_record S.may_publish S.home_of (plan_of self.now) seat.old.me.0
+        requires may { MayOffer S.RecSort (plan_of self.now) seat.old.me.0
             place distance }
         ensures seat { IsAt self.now seat.new }
-        ensures offered { Offered S.is_record S.may_publish place word seat.old.me result
+        ensures offered { Offered S.RecSort place word seat.old.me result
             seat.new.me }
     {
         let _distance = distance;

@@ -38,15 +38,15 @@ impl<S: RecSort> Rows<S> {
     ) -> u64
         requires seat { IsAt self.now seat.old }
         requires own { (own.number ≡ seat.old.me.0.number) × (own.used ≡ seat.old.me.0.used) }
-        requires sound { IsSound S.is_record S.may_publish (plan_of self.now) seat.old.me.0 }
+        requires sound { IsSound S.RecSort (plan_of self.now) seat.old.me.0 }
         requires room { own.used + length (P.words rec.now) ≤ (plan_of self.now).shape.arena }
         requires drafted { IsTrue drafted → seat.old.me.0.draft ≡ P.words rec.now }
-        requires may { MayOffer S.is_record S.may_publish S.home_of (plan_of self.now)
+        requires may { MayOffer S.RecSort (plan_of self.now)
             (drafting (P.words rec.now) seat.old.me.0) at.place at.distance }
         ensures seat { IsAt self.now seat.new }
         ensures offered { seat.new.me
             ≡ (claimed self.now own at.place (P.words rec.now) result seat.old.me.0, seat.old.me.1) }
-        ensures sound { IsSound S.is_record S.may_publish (plan_of self.now) seat.new.me.0 }
+        ensures sound { IsSound S.RecSort (plan_of self.now) seat.new.me.0 }
     {
         let shape = self.plan.shape;
         let start = 1 + shape.slots + own.number * shape.arena + own.used;
@@ -80,7 +80,7 @@ impl<S: RecSort> Rows<S> {
         ensures not_empty { IsNotEmpty result }
         ensures found { Finds (plan_of self.now) home seat.old.me.0 seat.new.me.0 (P.words rec.now)
             result }
-        ensures sound { IsSound S.is_record S.may_publish (plan_of self.now) seat.new.me.0 }
+        ensures sound { IsSound S.RecSort (plan_of self.now) seat.new.me.0 }
     {
         let slots = self.plan.shape.slots;
         let mut drafted = false;

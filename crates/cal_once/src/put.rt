@@ -37,7 +37,7 @@ impl<S: RecSort> Rows<S> {
         ensures used { (view seat.new).used
             ≡ used_after result (length (P.words rec.now)) (view seat.old).used }
         ensures looks { UnlessArenaFull result ((view seat.new).looks ≡ (view seat.old).looks) }
-        ensures sound { IsSound S.is_record S.may_publish (plan_of self.now) (view seat.new) }
+        ensures sound { IsSound S.RecSort (plan_of self.now) (view seat.new) }
     {
         let need = rec.len();
         let home = rec.home(self.plan.shape.homes);

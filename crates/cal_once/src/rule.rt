@@ -9,7 +9,7 @@ impl<S: RecSort> TableRule<u8, View<S>, Plan<S>> for WriteOnce {
     ghost use Rattle.cal_once.specs.Rule.{Kept};
     ghost use Rattle.cal_once.specs.Views.{first_seat};
 
-    ghost holds = { λ plan state. Kept S.is_record S.home_of S.may_publish plan state };
+    ghost holds = { λ plan state. Kept S.RecSort plan state };
 
     ghost first = { first_seat };
 }
@@ -21,7 +21,7 @@ impl<S: RecSort> Play<u8, View<S>> for Peek {
     ghost use Rattle.std.specs.Prelude.{false};
     ghost use Rattle.cal_once.specs.Steps.{looks};
 
-    ghost then = { looks S.is_record S.may_publish false };
+    ghost then = { looks S.RecSort false };
 }
 
 /// A load of a slot, which is noted where it is empty.
@@ -31,7 +31,7 @@ impl<S: RecSort> Play<u8, View<S>> for Look {
     ghost use Rattle.std.specs.Prelude.{true};
     ghost use Rattle.cal_once.specs.Steps.{looks};
 
-    ghost then = { looks S.is_record S.may_publish true };
+    ghost then = { looks S.RecSort true };
 }
 
 /// A load of a record's word.
@@ -40,7 +40,7 @@ pub struct Read;
 impl<S: RecSort> Play<u8, View<S>> for Read {
     ghost use Rattle.cal_once.specs.Steps.{reads};
 
-    ghost then = { reads S.is_record S.may_publish };
+    ghost then = { reads S.RecSort };
 }
 
 /// A store of a word of a draft.
@@ -58,7 +58,7 @@ pub struct Offer;
 impl<S: RecSort> Play<u8, View<S>> for Offer {
     ghost use Rattle.cal_once.specs.Steps.{offers};
 
-    ghost then = { offers S.is_record S.may_publish };
+    ghost then = { offers S.RecSort };
 }
 
 /// The first seat gives away a new one.

@@ -13,4 +13,4 @@ is_drafted g c = elim c.if-not-drafted.branch [
 ]
 
 pub offer-requires-clause-may : goal.offer-requires-clause-may
-offer-requires-clause-may g c = subst (λ (v : View _). MayOffer g.S.RecSort.is_record g.S.RecSort.may_publish g.S.RecSort.home_of (plan_of c.args.self.now) v c.args.at.place c.args.at.distance) (sym (is_drafted g c)) c.requires.may
+offer-requires-clause-may g c = subst (λ (v : View _). MayOffer g.S.RecSort (plan_of c.args.self.now) v c.args.at.place c.args.at.distance) (sym (is_drafted g c)) c.requires.may

@@ -12,7 +12,7 @@ invariant-loop-place g l = record {
   at : IsAt l.self l.seat;
   hand : l.seat.me.1 ≡ l.initial.seat.me.1;
   learns : Learns l.initial.seat.me.0 l.seat.me.0;
-  sound : 0 < l.place → IsSound g.S.RecSort.is_record g.S.RecSort.may_publish (plan_of l.self) l.seat.me.0;
+  sound : 0 < l.place → IsSound g.S.RecSort (plan_of l.self) l.seat.me.0;
   few : l.count ≤ l.place;
   known : l.count ≡ known_count l.seat.me.0 l.place;
   all : AllJoined l.initial.seat.me.0 → l.count ≡ sum_from (λ p. times p (all_published l.initial.seat.me.0)) 0 l.place;

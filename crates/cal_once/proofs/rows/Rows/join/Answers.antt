@@ -13,7 +13,7 @@ join_seat-requires g c =
       ap (λ s. s.table_id) c.into_seat.ensures.seat ∙ c.requires.seats.1.table,
       c.into_seat.ensures.bare,
       omega arith,
-      allows_join g.S.RecSort.is_record g.S.RecSort.home_of g.S.RecSort.may_publish g.S.RecSort.has_parent plan c.args.seat.now.seat.id c.args.seat.now.seat.me.0 c.into_seat.result.id c.into_seat.result.me.0 c.requires.seats.0.plan c.requires.first
+      allows_join g.S.RecSort plan c.args.seat.now.seat.id c.args.seat.now.seat.me.0 c.into_seat.result.id c.into_seat.result.me.0 c.requires.seats.0.plan c.requires.first
           (ap (λ s. s.me.0.plan) c.into_seat.ensures.seat ∙ c.requires.seats.1.plan),
     )
 

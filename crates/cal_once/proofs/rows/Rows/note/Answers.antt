@@ -9,7 +9,7 @@ load-requires g c =
     let long = words_are rows.plan rows.table.shared.key rows.table.shared.table_id.words rows.plan_is rows.long in (
       c.requires.seat.table,
       slot_inside rows.table.shared.key.shape rows.table.shared.table_id.words c.args.place long c.requires.place,
-      allows_look g.S.RecSort.is_record g.S.RecSort.home_of g.S.RecSort.may_publish g.S.RecSort.has_parent rows.table.shared.key true rows.table.shared.table_id.slots c.args.seat.now.id c.args.place c.args.seat.now.me c.requires.seat.plan c.requires.place,
+      allows_look g.S.RecSort rows.table.shared.key true rows.table.shared.table_id.slots c.args.seat.now.id c.args.place c.args.seat.now.me c.requires.seat.plan c.requires.place,
     )
 
 pub returns-clause-seat : goal.returns-clause-seat

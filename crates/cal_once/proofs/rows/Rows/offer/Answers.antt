@@ -10,7 +10,7 @@ compare_exchange-requires g c =
     let long = words_are rows.plan plan rows.table.shared.table_id.words rows.plan_is rows.long in (
       c.requires.seat.table,
       slot_inside plan.shape rows.table.shared.table_id.words c.args.place long c.requires.may.is_place,
-      allows_offer g.S.RecSort.is_record g.S.RecSort.home_of g.S.RecSort.may_publish g.S.RecSort.has_parent plan rows.table.shared.table_id.slots c.args.seat.now.id c.args.place c.args.distance c.args.word c.args.seat.now.me c.requires.seat.plan c.requires.may
+      allows_offer g.S.RecSort plan rows.table.shared.table_id.slots c.args.seat.now.id c.args.place c.args.distance c.args.word c.args.seat.now.me c.requires.seat.plan c.requires.may
           c.requires.word,
     )
 

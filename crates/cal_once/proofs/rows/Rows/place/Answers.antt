@@ -45,7 +45,7 @@ claim-slot-requires g c =
       sound = sound;
       room = c.requires.room;
       drafted = λ t. ap (λ m. m.0.draft) c.peek-slot.ensures.looked.view ∙ c.loop-distance.invariant.written t;
-      may = may_offer g.S.RecSort.is_record g.S.RecSort.home_of g.S.RecSort.may_publish (plan_of c.args.self.now) c.args.home c.args.own.number c.args.seat.now.me.0 c.peek-slot.new.seat.me.0 (g.P.Packed.words c.args.rec.now)
+      may = may_offer g.S.RecSort (plan_of c.args.self.now) c.args.home c.args.own.number c.args.seat.now.me.0 c.peek-slot.new.seat.me.0 (g.P.Packed.words c.args.rec.now)
           ((c.args.home + c.loop-distance.distance) % c.args.self.now.plan.shape.slots) c.loop-distance.distance all c.requires.is_record c.requires.own.0 c.requires.may_publish c.requires.parent c.requires.home (is_place g d) (is_near g d) (is_probe g d) (passed g d);
     }
 
@@ -70,7 +70,7 @@ returns-then-slot-eq0-2 g c =
 -- what is known once the slot was found filled
 abbrev Met : (g : _) (c : Joined-slot-eq0 g) → Seat ℕ (View g.row.S.Denot) → ℕ → Bool → Type 0
 Met g c seat slot drafted = IsAt c.args.self.now seat × (seat.me.1 ≡ c.args.seat.now.me.1) × Learns c.loop-distance.seat.me.0 seat.me.0 × Saw seat.me.0.seen ((c.args.home + c.loop-distance.distance) % c.args.self.now.plan.shape.slots + 1) slot
-    × IsSound g.S.RecSort.is_record g.S.RecSort.may_publish (plan_of c.args.self.now) seat.me.0 × (IsTrue drafted → seat.me.0.draft ≡ g.P.Packed.words c.args.rec.now)
+    × IsSound g.S.RecSort (plan_of c.args.self.now) seat.me.0 × (IsTrue drafted → seat.me.0.draft ≡ g.P.Packed.words c.args.rec.now)
 
 is_met : (g : _) (c : Joined-slot-eq0 g) → Met g c c.if-slot-eq0.seat c.if-slot-eq0.slot c.if-slot-eq0.drafted
 is_met g c =

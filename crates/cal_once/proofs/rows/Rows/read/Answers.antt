@@ -10,6 +10,6 @@ load-requires g c =
     let within = (c.requires.sound.within c.args.place c.args.slot c.requires.place c.requires.known).1 in (
       c.requires.seat.table,
       region_inside plan.shape rows.table.shared.table_id.words within.0 c.args.slot c.args.i long within.1 c.requires.inside.1,
-      allows_read g.S.RecSort.is_record g.S.RecSort.home_of g.S.RecSort.may_publish g.S.RecSort.has_parent plan rows.table.shared.table_id.slots c.args.seat.now.id c.args.i c.args.place c.args.slot c.args.seat.now.me c.requires.seat.plan c.requires.place c.requires.known
+      allows_read g.S.RecSort plan rows.table.shared.table_id.slots c.args.seat.now.id c.args.i c.args.place c.args.slot c.args.seat.now.me c.requires.seat.plan c.requires.place c.requires.known
           c.requires.inside.0 c.requires.inside.1,
     )

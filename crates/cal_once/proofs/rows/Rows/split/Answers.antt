@@ -10,7 +10,7 @@ split_seat-new-requires g c =
     let long = words_are rows.plan plan rows.table.shared.table_id.words rows.plan_is rows.long in (
       c.requires.seat.table,
       omega arith,
-      allows_split g.S.RecSort.is_record g.S.RecSort.home_of g.S.RecSort.may_publish g.S.RecSort.has_parent plan c.args.seat.now.seat.id c.args.seat.now.seat.me.0 c.requires.seat.plan c.requires.first c.requires.some_left,
+      allows_split g.S.RecSort plan c.args.seat.now.seat.id c.args.seat.now.seat.me.0 c.requires.seat.plan c.requires.first c.requires.some_left,
     )
 
 pub overflow_add-seat : goal.overflow_add-seat

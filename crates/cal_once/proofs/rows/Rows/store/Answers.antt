@@ -13,7 +13,7 @@ store-requires g c =
     let room = c.requires.room in (
       c.requires.seat.table,
       arena_word_inside plan.shape rows.table.shared.table_id.words c.args.seat.now.me.0.number (c.args.start + c.args.k) long c.requires.arena (omega arith),
-      allows_store g.S.RecSort.is_record g.S.RecSort.home_of g.S.RecSort.may_publish g.S.RecSort.has_parent plan rows.table.shared.table_id.slots c.args.seat.now.id (c.args.start + c.args.k) c.args.k c.args.word c.args.seat.now.me c.requires.seat.plan
+      allows_store g.S.RecSort plan rows.table.shared.table_id.slots c.args.seat.now.id (c.args.start + c.args.k) c.args.k c.args.word c.args.seat.now.me c.requires.seat.plan
           c.requires.next c.requires.room (omega arith),
     )
 
