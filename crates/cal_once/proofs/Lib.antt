@@ -7,7 +7,6 @@ pub mod Offers
 pub mod Seats
 pub mod Within
 pub mod Learning
-pub mod Finding
-pub mod Placing
+pub mod Answering
 pub mod Opening
 pub mod Counts

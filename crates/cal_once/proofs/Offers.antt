@@ -14,7 +14,8 @@ use Rattle.cal_once.specs.Layout.{IsWithin, AreApart, arena_start, size_in, star
 use Rattle.cal_once.specs.Views.{placed, offered}
 use Rattle.cal_once.specs.Sound.{IsSound}
 use Rattle.cal_once.specs.Rule.{HasParent, HoldsAnother, IsFixed, Stands, IsLaid, Sits}
-use Rattle.cal_once.specs.Steps.{MayOffer, Offered, offers}
+use Rattle.cal_once.specs.Puts.{MayOffer}
+use Rattle.cal_once.specs.Steps.{Offered, offers}
 use Rattle.cal_once.proofs.Seen.{Saw_either, at_below, placed_at, times-append}
 use Rattle.cal_once.proofs.Regions.{part_is, get_or-part, arena_inside, arena_before, size-slot_for, start-slot_for, probe_below}
 use Rattle.cal_once.proofs.Sounds.{inside, seen_slot, held_other}
@@ -65,7 +66,7 @@ module _ {S : Type 0} (law : RecSort S) (plan : Plan S) where
     sits = sits_of law plan s k id v at live
 
     two : 2 ≤ length ws
-    two = law.has_parent plan.sort ws may.is_record
+    two = law.has_parent plan.sort ws may.may.is_record
 
     is_arena : id < plan.shape.arenas
     is_arena = let few = k.few in let below = at_below s.views v id at in omega arith
@@ -93,20 +94,20 @@ module _ {S : Type 0} (law : RecSort S) (plan : Plan S) where
     start_is = start-slot_for (length ws) start small.1
 
     here : slot_of words place ≡ word
-    here = let b = small.0 in let e = starts in let h = may.is_place in get_or-set_same s.words (place + 1) word 0 (omega arith)
+    here = let b = small.0 in let e = starts in let h = may.reached.is_place in get_or-set_same s.words (place + 1) word 0 (omega arith)
 
     elsewhere : (q : ℕ) → q ≢ place → slot_of words q ≡ slot_of s.words q
     elsewhere q ne = get_or-set_other s.words (place + 1) (q + 1) word 0 (λ e. ne (omega arith))
 
     beyond : (i : ℕ) → 1 + plan.shape.slots ≤ i → get_or words i 0 ≡ get_or s.words i 0
-    beyond i h = let p = may.is_place in get_or-set_other s.words (place + 1) i word 0 (λ e. omega arith)
+    beyond i h = let p = may.reached.is_place in get_or-set_other s.words (place + 1) i word 0 (λ e. omega arith)
 
     records : KeepsRecords plan.shape.slots s.words words
     records q h filled =
         let st = k.laid.stands q h filled in
         let w = st.within in
         let from = w.from in
-        let p = may.is_place in
+        let p = may.reached.is_place in
         record_at-set s.words (place + 1) word q (λ e. let same : q ≡ place = omega arith in filled (ap (slot_of s.words) same ∙ empty)) (inl (omega arith)) (inside law plan s.words k.used k.published k.laid q st)
 
     new_record : record_at words place ≡ ws
@@ -134,7 +135,7 @@ module _ {S : Type 0} (law : RecSort S) (plan : Plan S) where
         (λ other. ap (times q) (changed_else k.published id (v.published ++ place ∷ []) n other))
 
     some_slot : 0 < plan.shape.slots
-    some_slot = let h = may.is_place in omega arith
+    some_slot = let h = may.reached.is_place in omega arith
 
     new_stands : Stands law plan words used published place
     new_stands =
@@ -145,13 +146,13 @@ module _ {S : Type 0} (law : RecSort S) (plan : Plan S) where
           within = subst (λ (x : ℕ). IsWithin plan.shape id (used id) x) (sym here)
               (let a = size_is in let b = start_is in let t = two in let e = starts in let u = sits.used_is in let c = changed_here k.used id (v.used + length ws) in record { is_arena = is_arena; two_words = omega arith; from = omega arith; to = omega arith });
           listed = ap (times place) own_list ∙ times-this_more place v.published ∙ (let none = not_listed id in let same : times place v.published ≡ times place (k.published id) = ap (times place) sits.published_is in omega arith);
-          is_record = subst (λ (l : List ℕ). law.is_record plan.sort l) back may.is_record;
-          may_publish = subst (λ (l : List ℕ). law.may_publish plan.sort id l) back (subst (λ (n : ℕ). law.may_publish plan.sort n ws) sits.number_is may.may_publish);
+          is_record = subst (λ (l : List ℕ). law.is_record plan.sort l) back may.may.is_record;
+          may_publish = subst (λ (l : List ℕ). law.may_publish plan.sort id l) back (subst (λ (n : ℕ). law.may_publish plan.sort n ws) sits.number_is may.may.may_publish);
           distance = distance;
-          near = may.near;
-          at = may.at ∙ ap (λ (l : List ℕ). probe plan.shape (home l) distance) back;
+          near = may.reached.near;
+          at = may.reached.at ∙ ap (λ (l : List ℕ). probe plan.shape (home l) distance) back;
           before = subst (λ (l : List ℕ). (e : ℕ) → e < distance → HoldsAnother words (probe plan.shape (home l) e) l) back
-              (λ e less. let q : ℕ = probe plan.shape (home ws) e in let b = held_other law plan s.words k.used k.published k.laid s.views id v sits q ws (probe_below plan.shape (home ws) e some_slot) (may.before e less) in
+              (λ e less. let q : ℕ = probe plan.shape (home ws) e in let b = held_other law plan s.words k.used k.published k.laid s.views id v sits q ws (probe_below plan.shape (home ws) e some_slot) (may.reached.before e less) in
               let r = records q (probe_below plan.shape (home ws) e some_slot) b.0 in ((λ none. b.0 (sym r.0 ∙ none)), (λ one. b.1 (sym r.1 ∙ one))));
           has_parent = subst (λ (l : List ℕ). HasParent plan.shape.slots words l) back
               (⊎_elim inl (λ t.
@@ -161,7 +162,7 @@ module _ {S : Type 0} (law : RecSort S) (plan : Plan S) where
               let long = w.two_words in
               let r = records t.0 t.3 f.1 in
               let depth : get_or (record_at s.words t.0) 1 0 ≡ t.2 = get_or-part s.words (size_in (slot_of s.words t.0)) (start_in (slot_of s.words t.0)) 1 (omega arith) ∙ ap (λ (n : ℕ). get_or s.words (start_in n + 1) 0) f.0 ∙ (sits.seen (start_in t.1 + 1) t.2 t.6).here in
-              inr (t.0, t.3, t.4, (λ none. f.1 (sym r.0 ∙ none)), t.7 ∙ ap (λ (n : ℕ). n + 1) (sym (ap (λ (l : List ℕ). get_or l 1 0) r.1 ∙ depth)))) may.parent);
+              inr (t.0, t.3, t.4, (λ none. f.1 (sym r.0 ∙ none)), t.7 ∙ ap (λ (n : ℕ). n + 1) (sym (ap (λ (l : List ℕ). get_or l 1 0) r.1 ∙ depth)))) may.may.parent);
         }
 
     new_apart : (q : ℕ) → q < plan.shape.slots → q ≢ place → slot_of s.words q ≢ 0 → AreApart word (slot_of s.words q)
@@ -206,7 +207,7 @@ module _ {S : Type 0} (law : RecSort S) (plan : Plan S) where
           (λ same. let room = sits.room in let u = sits.used_is in
           let w : IsWithin plan.shape id plan.shape.arena word = (let a = size_is in let b = start_is in let t = two in let o = starts in record { is_arena = is_arena; two_words = omega arith; from = omega arith; to = omega arith }) in
           let slot : slot_of words q ≡ word = ap (slot_of words) e ∙ here in
-          let h = may.is_place in
+          let h = may.reached.is_place in
           (omega arith, (λ none. let t = two in let a : word ≡ 0 = sym slot ∙ none in absurd (omega arith)), subst (λ (z : ℕ × ℕ). IsWithin plan.shape z.0 plan.shape.arena z.1) (λ j. (sym same j, sym slot j)) w))
           (λ other. let none = not_listed n in let c : times q (published n) ≡ times place (k.published n) = (λ j. times (e j) (changed_else k.published id (v.published ++ place ∷ []) n other j)) in absurd (omega arith)))
           (λ ne. let c = same_times q n ne in let l = k.laid.listed n q (omega arith) in (l.0, (λ none. l.1 (sym (elsewhere q ne) ∙ none)), subst (λ (x : ℕ). IsWithin plan.shape n plan.shape.arena x) (sym (elsewhere q ne)) l.2));
@@ -214,7 +215,7 @@ module _ {S : Type 0} (law : RecSort S) (plan : Plan S) where
 
     new_fixed : (i x : ℕ) → IsFixed plan s.words k.used i x → IsFixed plan words used i x
     new_fixed i x f =
-        let p = may.is_place in
+        let p = may.reached.is_place in
         record {
           here = get_or-set_other s.words (place + 1) i word 0 (λ e. ⊎_elim (λ t. t.2 (sym f.here ∙ ap (λ (n : ℕ). get_or s.words n 0) e ∙ empty)) (λ t. let low = t.1 in absurd (omega arith)) f.fixed) ∙ f.here;
           fixed = ⊎_elim inl (λ t. let m = more t.0 in let high = t.2 in inr (t.0, t.1, omega arith)) f.fixed;
@@ -230,7 +231,7 @@ module _ {S : Type 0} (law : RecSort S) (plan : Plan S) where
           published_is = sym own_list;
           room = let room = sits.room in omega arith;
           draft = λ j l. absurd (omega arith);
-          seen = λ i x saw. ⊎_elim (λ t. let h = may.is_place in record { here = ap (λ (n : ℕ). get_or words n 0) (sym t.0) ∙ here ∙ t.1; fixed = let e = t.0 in let two_words = two in let y = t.1 in inl (omega arith, omega arith, λ z. absurd (omega arith)) })
+          seen = λ i x saw. ⊎_elim (λ t. let h = may.reached.is_place in record { here = ap (λ (n : ℕ). get_or words n 0) (sym t.0) ∙ here ∙ t.1; fixed = let e = t.0 in let two_words = two in let y = t.1 in inl (omega arith, omega arith, λ z. absurd (omega arith)) })
               (λ t. ⊎_elim (λ u. let q = placed_at (start_in word) ws i x u in let o = start_is in let first = starts in let less = q.1 in let place_is = q.2 in
               let index : i ≡ start + q.0 = omega arith in
               record {
@@ -284,7 +285,7 @@ module _ {S : Type 0} (law : RecSort S) (plan : Plan S) where
       ))
       (λ ne.
       let w : View S = record v { seen = (place + 1, found) ∷ v.seen } in
-      let kept = unmoved law plan s k (place + 1) id me.1 v w at live (met law plan s k id place found v sits may.is_place refl ne) refl in (
+      let kept = unmoved law plan s k (place + 1) id me.1 v w at live (met law plan s k id place found v sits may.reached.is_place refl ne) refl in (
         w,
         keeps,
         tt,

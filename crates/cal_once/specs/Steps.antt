@@ -40,17 +40,6 @@ module _ {S : Type 0} (law : RecSort S) where
   abbrev pub reads : Step ℕ → Mine S → ℕ → Mine S → Type 0
   reads step before found after = Read step.word before found after
 
-  -- A seat may offer its draft at a distance from the record's home: its draft is a record that it may publish, whose parent
-  -- it knows, and it knows that the slots before hold other records.
-  pub record MayOffer (plan : Plan S) (v : View S) (place distance : ℕ) : Type 0 where
-    pub is_place : place < plan.shape.slots
-    pub is_record : law.is_record plan.sort v.draft
-    pub may_publish : law.may_publish plan.sort v.number v.draft
-    pub parent : KnowsParent v plan.shape.slots v.draft
-    pub near : distance < plan.shape.slots
-    pub at : place ≡ probe plan.shape (law.home_of plan.shape.homes v.draft) distance
-    pub before : (e : ℕ) → e < distance → HoldsOther v (probe plan.shape (law.home_of plan.shape.homes v.draft) e) v.draft
-
   -- an exchange of the slot of a place against 0
   pub record Offered (place word : ℕ) (before : Mine S) (found : ℕ) (after : Mine S) : Type 0 where
     pub view : after ≡ (offered place word found before.0, before.1)

@@ -109,23 +109,30 @@ module _ {S : Type 0} where
   abbrev pub spent : View S
   spent = record { plan = None; number = 0; used = 0; draft = []; published = []; looks = []; seen = []; others = [] }
 
+  -- what the seat knew stands for good
+  abbrev pub KnowsMore : View S → View S → Type 0
+  KnowsMore v w = (i x : ℕ) → Saw v.seen i x → Saw w.seen i x
+
   -- the seat has learned words of the table, and may have drafted a record; else it is as before
   pub record Learns (v w : View S) : Type 0 where
     pub same : w ≡ record v { draft = w.draft; seen = w.seen }
-    pub more : (i x : ℕ) → Saw v.seen i x → Saw w.seen i x
+    pub more : KnowsMore v w
 
-  -- the same seat later: what it knew stands for good
-  pub record IsLater (v w : View S) : Type 0 where
-    pub plan : w.plan ≡ v.plan
-    pub number : w.number ≡ v.number
-    pub others : w.others ≡ v.others
-    pub more : (i x : ℕ) → Saw v.seen i x → Saw w.seen i x
+  -- the seat has noted that the slot of a place is empty
+  abbrev pub noting : ℕ → View S → View S
+  noting place v = record v { looks = v.looks ++ place ∷ [] }
 
-  -- the same seat later, which has published nothing
-  pub record KeepsOwn (v w : View S) : Type 0 where
-    pub later : IsLater v w
-    pub used : w.used ≡ v.used
-    pub published : w.published ≡ v.published
+  -- the seat has published a record of these words at a place
+  abbrev pub publishing : List ℕ → ℕ → View S → View S
+  publishing words place v = record v {
+    used = v.used + length words;
+    published = v.published ++ place ∷ [];
+  }
+
+  -- the same seat later
+  abbrev pub IsLater : View S → View S → Type 0
+  IsLater v w =
+      (w.plan ≡ v.plan) × (w.number ≡ v.number) × (w.others ≡ v.others) × KnowsMore v w
 
   -- the length of a known place's record, and one of its words
   abbrev pub IsSizeOf : View S → ℕ → ℕ → Type 0

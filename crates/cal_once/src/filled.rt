@@ -1,5 +1,5 @@
 ghost use Rattle.std.specs.Prelude.{◌≡◌, length};
-ghost use Rattle.cal_once.specs.Views.{AllJoined, KeepsOwn, Learns, all_published, known_count};
+ghost use Rattle.cal_once.specs.Views.{AllJoined, Learns, all_published, known_count};
 ghost use Rattle.cal_once.specs.Sound.{IsSound};
 ghost use Rattle.cal_once.specs.Seats.{IsAt, IsSeatOf, plan_of, view};
 
@@ -31,8 +31,7 @@ impl<S: RecSort> Rows<S> {
     pub fn filled(&self, seat: &mut RowSeat<S>) -> u64
         requires { IsSeatOf self.now seat.old }
         ensures seat { IsSeatOf self.now seat.new }
-        ensures own { KeepsOwn (view seat.old) (view seat.new) }
-        ensures looks { (view seat.new).looks ≡ (view seat.old).looks }
+        ensures learns { Learns (view seat.old) (view seat.new) }
         ensures known { result ≡ known_count (view seat.new) (plan_of self.now).shape.slots }
         ensures all { AllJoined (view seat.new) → result ≡ length (all_published (view seat.new)) }
         ensures sound { IsSound S.RecSort (plan_of self.now) (view seat.new) }

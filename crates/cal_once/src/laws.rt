@@ -1,7 +1,7 @@
 ghost use Rattle.std.specs.Prelude.{◌≡◌, ◌↔◌, ℕ, ◌<◌, List};
 ghost use Rattle.cal_once.specs.declared.view.View.{View};
 ghost use Rattle.cal_once.specs.declared.view.Plan.{Plan};
-ghost use Rattle.cal_once.specs.Views.{Holds, IsLater, joined};
+ghost use Rattle.cal_once.specs.Views.{Holds, KnowsMore, joined};
 ghost use Rattle.cal_once.specs.Sound.{IsSound};
 
 use cal_words::RecSort;
@@ -9,7 +9,7 @@ use cal_words::RecSort;
 /// What a seat knows of a place, it knows later too, and so does the seat into which it is joined.
 pub fn known_for_good<S>()
     ensures later { (v w : View S) (place : ℕ) (words : List ℕ) →
-        IsLater v w → Holds v place words → Holds w place words }
+        KnowsMore v w → Holds v place words → Holds w place words }
     ensures first { (v w : View S) (place : ℕ) (words : List ℕ) →
         Holds v place words → Holds (joined v w) place words }
     ensures other { (v w : View S) (place : ℕ) (words : List ℕ) →

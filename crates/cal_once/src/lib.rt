@@ -9,21 +9,20 @@
 mod answer;
 mod compare;
 mod filled;
-mod find;
-mod found;
 mod laws;
 mod load;
 mod look;
 mod new;
 mod offer;
-mod place;
 mod put;
+mod room;
 mod rows;
 mod rule;
 mod seat;
 mod shape;
 mod split;
 mod view;
+mod visit;
 
 pub use answer::Put;
 pub use laws::{known_for_good, one_place_each};

@@ -2,7 +2,8 @@ ghost use Rattle.std.specs.Prelude.{◌≡◌, ◌+◌, ◌<◌, ◌≤◌, leng
 ghost use Rattle.cal_once.specs.Layout.{arena_start, slot_for};
 ghost use Rattle.cal_once.specs.Views.{drafted, Learns};
 ghost use Rattle.cal_once.specs.Seats.{IsAt, next_word, plan_of};
-ghost use Rattle.cal_once.specs.Steps.{MayOffer, Offered};
+ghost use Rattle.cal_once.specs.Puts.{MayOffer};
+ghost use Rattle.cal_once.specs.Steps.{Offered};
 
 use crate::rule::{Draft, Offer};
 use crate::{Rows, View};

@@ -5,7 +5,7 @@ use Rattle.cal_once.proofs.laws.known_for_good.Goals as goal
 
 pub returns : goal.returns
 returns g c = record {
-  later = λ v w place words later h. holds_later v w place words later.more h;
+  later = λ v w place words later h. holds_later v w place words later h;
   first = λ v w place words h. holds_later v (joined v w) place words (λ i x saw. Saw_left v.seen w.seen i x saw) h;
   other = λ v w place words h. holds_later w (joined v w) place words (λ i x saw. Saw_right v.seen w.seen i x saw) h;
 }

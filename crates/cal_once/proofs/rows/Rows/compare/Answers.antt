@@ -1,6 +1,7 @@
 use Rattle.std.proofs.Common.{◌+◌, ◌%◌, ◌^◌, ℕ, ap, ◌∙◌, sym, subst, refl, arith, below_more}
 use Rattle.cal_once.specs.Views.{Saw}
-use Rattle.cal_once.proofs.Learning.{learns_nothing, learns_read, learns_then, saw_read, from_same}
+use Rattle.std.proofs.lemmas.Bool.{eqb-true}
+use Rattle.cal_once.proofs.Learning.{learns_nothing, learns_read, learns_then}
 use Rattle.cal_once.proofs.rows.Rows.compare.Goals as goal
 
 pub read-word-requires : goal.read-word-requires
@@ -25,14 +26,16 @@ loop-i-init g c = record {
 pub loop-i-preserved : goal.loop-i-preserved
 loop-i-preserved g c =
     let inv = c.loop-i.invariant in
-    let step = learns_read c.loop-i.seat.me.0 c.read-word.new.seat.me.0 (c.args.slot % 2 ^ 32 + c.loop-i.i) c.read-word.result (ap (λ m. m.0) c.read-word.ensures.read.view) in
+    let read = c.read-word.ensures.read in
+    let step = learns_read c.loop-i.seat.me.0 c.read-word.new.seat.me.0 (c.args.slot % 2 ^ 32 + c.loop-i.i) c.read-word.result (ap (λ m. m.0) read.view) in
+    let same = eqb-true _ _ (sym c.matches.ensures ∙ c.if-not-matches.false) in
     record {
       at = c.read-word.ensures.seat;
-      hand = ap (λ m. m.1) c.read-word.ensures.read.view ∙ inv.hand;
-      known = below_more _ _ (λ k l. step.more _ _ (inv.known k l)) (let same = from_same _ _ (sym c.matches.ensures ∙ c.if-not-matches.false) in subst (λ (x : ℕ). Saw c.read-word.new.seat.me.0.seen (c.args.slot % 2 ^ 32 + c.loop-i.i) x) (sym same) (saw_read c.loop-i.seat.me.0 c.read-word.new.seat.me.0 (c.args.slot % 2 ^ 32 + c.loop-i.i) c.read-word.result (ap (λ m. m.0) c.read-word.ensures.read.view)));
-      learns = learns_then c.args.seat.now.me.0 c.loop-i.seat.me.0 c.read-word.new.seat.me.0 inv.learns step;
-      drafted = ap (λ m. m.0.draft) c.read-word.ensures.read.view ∙ inv.drafted;
-      sound = c.read-word.ensures.read.sound _ inv.at.plan;
+      hand = ap (λ m. m.1) read.view ∙ inv.hand;
+      known = below_more _ _ (λ k l. step.0.more _ _ (inv.known k l)) (subst (λ (x : ℕ). Saw c.read-word.new.seat.me.0.seen (c.args.slot % 2 ^ 32 + c.loop-i.i) x) (sym same) step.1);
+      learns = learns_then c.args.seat.now.me.0 c.loop-i.seat.me.0 c.read-word.new.seat.me.0 inv.learns step.0;
+      drafted = ap (λ m. m.0.draft) read.view ∙ inv.drafted;
+      sound = read.sound _ inv.at.plan;
     }
 
 pub returns : goal.returns

@@ -4,8 +4,7 @@ use Rattle.cal_once.specs.Layout.{times}
 use Rattle.cal_once.specs.Views.{AllJoined, all_published, known_count}
 use Rattle.cal_once.specs.Seats.{plan_of}
 use Rattle.cal_once.proofs.Seen.{sum_from, was_seen_from}
-use Rattle.cal_once.proofs.Learning.{learns_nothing, learns_then, learns_slot}
-use Rattle.cal_once.proofs.Finding.{learns_peek}
+use Rattle.cal_once.proofs.Learning.{learns_peek, learns_nothing, learns_then, learns_slot}
 use Rattle.cal_once.proofs.Counts.{sum_from_last, sum-times, known_count-filled, known_count-empty}
 use Rattle.cal_once.proofs.rows.Rows.count.Goals as goal
 use Rattle.cal_once.proofs.rows.Rows.count.Goals.{Joined-peek-ne0, then-peek-ne0, else-peek-ne0}

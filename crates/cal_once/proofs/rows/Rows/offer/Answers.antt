@@ -9,7 +9,7 @@ compare_exchange-requires g c =
     let plan = rows.table.shared.key in
     let long = words_are rows.plan plan rows.table.shared.table_id.words rows.plan_is rows.long in (
       c.requires.seat.table,
-      slot_inside plan.shape rows.table.shared.table_id.words c.args.place long c.requires.may.is_place,
+      slot_inside plan.shape rows.table.shared.table_id.words c.args.place long c.requires.may.reached.is_place,
       allows_offer g.S.RecSort plan rows.table.shared.table_id.slots c.args.seat.now.id c.args.place c.args.distance c.args.word c.args.seat.now.me c.requires.seat.plan c.requires.may
           c.requires.word,
     )
