@@ -1,6 +1,6 @@
 -- Counting the filled slots.
 use Rattle.std.proofs.Common.{◌≡◌, ◌≢◌, ℕ, zero, suc, ◌+◌, ◌<◌, ◌≤◌, Bool, true, false, cond, eqb, ◌||◌, List, [], ◌∷◌, length, sym, refl, ap, ◌∙◌, ⊎_elim, arith}
-use Rattle.std.proofs.lemmas.Bool.{cases_lt, eq-eqb, ne_eqb}
+use Rattle.std.proofs.lemmas.Bool.{false_from_ne_true, cases_lt, eq-eqb, ne_eqb}
 use Rattle.cal_once.specs.declared.view.View.{View}
 use Rattle.cal_once.specs.Layout.{times}
 use Rattle.cal_once.specs.Views.{was_seen, known_count, looked}
@@ -51,9 +51,5 @@ module _ {S : Type 0} where
   known_count-empty place found v w is none unknown =
       let e : w ≡ v = is ∙ ap (λ (n : ℕ). looked false place n v) none in
       let next : place + 1 ≡ suc place = omega arith in
-      let not_seen : was_seen v.seen (place + 1) ≡ false = false_of (was_seen v.seen (place + 1)) unknown in
+      let not_seen : was_seen v.seen (place + 1) ≡ false = false_from_ne_true (was_seen v.seen (place + 1)) unknown in
       ap (λ (z : View S). known_count z (place + 1)) e ∙ ap (known_count v) next ∙ ap (λ (b : Bool). known_count v place + cond b 1 0) not_seen ∙ omega arith
-    where
-      false_of : (b : Bool) → ¬ (b ≡ true) → b ≡ false
-      false_of true h = absurd (h refl)
-      false_of false h = refl

@@ -13,13 +13,13 @@ use Rattle.cal_once.specs.declared.view.Plan.{Plan}
 use Rattle.cal_once.specs.Layout.{IsWithin, AreApart, arena_start, size_in, start_in, slot_for, slot_of, record_at, probe, times}
 use Rattle.cal_once.specs.Views.{placed, offered}
 use Rattle.cal_once.specs.Sound.{IsSound}
-use Rattle.cal_once.specs.Rule.{HasParent, HoldsAnother, IsFixed, Stands, IsLaid, Sits}
+use Rattle.cal_once.specs.Rule.{Own, HasParent, HoldsAnother, IsFixed, Stands, IsLaid, Sits}
 use Rattle.cal_once.specs.Puts.{MayOffer}
 use Rattle.cal_once.specs.Steps.{Offered, offers}
 use Rattle.cal_once.proofs.Seen.{Saw_either, at_below, placed_at, times-append}
 use Rattle.cal_once.proofs.Regions.{part_is, get_or-part, arena_inside, arena_before, size-slot_for, start-slot_for, probe_below}
 use Rattle.cal_once.proofs.Sounds.{inside, seen_slot, held_other}
-use Rattle.cal_once.proofs.Moves.{Rule, sits_of, met, moved, unmoved, told, of_plan}
+use Rattle.cal_once.proofs.Moves.{Rule, sits_again, sits_of, met, moved, unmoved, told, of_plan}
 use Rattle.cal_once.proofs.Stores.{KeepsRecords, record_at-set, stands_kept}
 
 -- one number's value is another
@@ -56,13 +56,19 @@ module _ {S : Type 0} (law : RecSort S) (plan : Plan S) where
     abbrev words : List ℕ
     words = set s.words (place + 1) word
 
-    abbrev used : ℕ → ℕ
-    used = changed k.used id (v.used + length ws)
+    abbrev own : ℕ → Own
+    own = changed k.own id (record { used = v.used + length ws; published = v.published ++ place ∷ [] })
 
-    abbrev published : ℕ → List ℕ
-    published = changed k.published id (v.published ++ place ∷ [])
+    used_here : (own id).used ≡ v.used + length ws
+    used_here = ap (λ (o : Own). o.used) (changed_here k.own id (record { used = v.used + length ws; published = v.published ++ place ∷ [] }))
 
-    sits : Sits plan s.words k.used k.published id v
+    own_list : (own id).published ≡ v.published ++ place ∷ []
+    own_list = ap (λ (o : Own). o.published) (changed_here k.own id (record { used = v.used + length ws; published = v.published ++ place ∷ [] }))
+
+    own_else : (n : ℕ) → n ≢ id → own n ≡ k.own n
+    own_else = changed_else k.own id (record { used = v.used + length ws; published = v.published ++ place ∷ [] })
+
+    sits : Sits plan s.words k.own id v
     sits = sits_of law plan s k id v at live
 
     two : 2 ≤ length ws
@@ -71,7 +77,7 @@ module _ {S : Type 0} (law : RecSort S) (plan : Plan S) where
     is_arena : id < plan.shape.arenas
     is_arena = let few = k.few in let below = at_below s.views v id at in omega arith
 
-    starts : start ≡ arena_start plan.shape id + k.used id
+    starts : start ≡ arena_start plan.shape id + (k.own id).used
     starts = let n = sits.number_is in let u = sits.used_is in ap (λ (m : ℕ). arena_start plan.shape m + v.used) n ∙ ap (λ (m : ℕ). arena_start plan.shape id + m) u
 
     ends : start + length ws ≤ arena_start plan.shape id + plan.shape.arena
@@ -108,7 +114,7 @@ module _ {S : Type 0} (law : RecSort S) (plan : Plan S) where
         let w = st.within in
         let from = w.from in
         let p = may.reached.is_place in
-        record_at-set s.words (place + 1) word q (λ e. let same : q ≡ place = omega arith in filled (ap (slot_of s.words) same ∙ empty)) (inl (omega arith)) (inside law plan s.words k.used k.published k.laid q st)
+        record_at-set s.words (place + 1) word q (λ e. let same : q ≡ place = omega arith in filled (ap (slot_of s.words) same ∙ empty)) (inl (omega arith)) (inside law plan s.words k.own k.laid q st)
 
     new_record : record_at words place ≡ ws
     new_record =
@@ -118,45 +124,42 @@ module _ {S : Type 0} (law : RecSort S) (plan : Plan S) where
         (λ i. take (size_in (here i)) (drop (start_in (here i)) words)) ∙ (λ i. take (size_is i) (drop (start_is i) words))
         ∙ part_is words start ws (omega arith) (λ j l. beyond (start + j) (omega arith) ∙ ap (λ (n : ℕ). get_or s.words (arena_start plan.shape n + v.used + j) 0) sits.number_is ∙ sits.draft j l)
 
-    more : (n : ℕ) → k.used n ≤ used n
+    more : (n : ℕ) → (k.own n).used ≤ (own n).used
     more n = dite (ℕ_discrete n id)
-        (λ e. let u = sits.used_is in let a : k.used n ≡ k.used id = ap k.used e in let c : used n ≡ v.used + length ws = ap used e ∙ changed_here k.used id (v.used + length ws) in omega arith)
-        (λ ne. let c = changed_else k.used id (v.used + length ws) n ne in omega arith)
+        (λ e. let u = sits.used_is in let a : (k.own n).used ≡ (k.own id).used = ap (λ (m : ℕ). (k.own m).used) e in let c : (own n).used ≡ v.used + length ws = ap (λ (n : ℕ). (own n).used) e ∙ used_here in omega arith)
+        (λ ne. let c = ap (λ (o : Own). o.used) (own_else n ne) in omega arith)
 
-    not_listed : (n : ℕ) → times place (k.published n) ≡ 0
-    not_listed n = dite (ℕ_discrete (times place (k.published n)) 0) (λ z. z) (λ some_times. absurd ((k.laid.listed n place (omega arith)).1 empty))
+    not_listed : (n : ℕ) → times place (k.own n).published ≡ 0
+    not_listed n = dite (ℕ_discrete (times place (k.own n).published) 0) (λ z. z) (λ some_times. absurd ((k.laid.listed n place (omega arith)).1 empty))
 
-    own_list : published id ≡ v.published ++ place ∷ []
-    own_list = changed_here k.published id (v.published ++ place ∷ [])
-
-    same_times : (q n : ℕ) → q ≢ place → times q (published n) ≡ times q (k.published n)
+    same_times : (q n : ℕ) → q ≢ place → times q (own n).published ≡ times q (k.own n).published
     same_times q n ne = dite (ℕ_discrete n id)
-        (λ e. ap (λ (m : ℕ). times q (published m)) e ∙ ap (times q) own_list ∙ times-one_more q place v.published (λ same. ne (sym same)) ∙ ap (times q) sits.published_is ∙ ap (λ (m : ℕ). times q (k.published m)) (sym e))
-        (λ other. ap (times q) (changed_else k.published id (v.published ++ place ∷ []) n other))
+        (λ e. ap (λ (m : ℕ). times q (own m).published) e ∙ ap (times q) own_list ∙ times-one_more q place v.published (λ same. ne (sym same)) ∙ ap (times q) sits.published_is ∙ ap (λ (m : ℕ). times q (k.own m).published) (sym e))
+        (λ other. ap (λ (o : Own). times q o.published) (own_else n other))
 
     some_slot : 0 < plan.shape.slots
     some_slot = let h = may.reached.is_place in omega arith
 
-    new_stands : Stands law plan words used published place
+    new_stands : Stands law plan words own place
     new_stands =
         let home : List ℕ → ℕ = law.home_of plan.shape.homes in
         let back : ws ≡ record_at words place = sym new_record in
         record {
           number = id;
-          within = subst (λ (x : ℕ). IsWithin plan.shape id (used id) x) (sym here)
-              (let a = size_is in let b = start_is in let t = two in let e = starts in let u = sits.used_is in let c = changed_here k.used id (v.used + length ws) in record { is_arena = is_arena; two_words = omega arith; from = omega arith; to = omega arith });
-          listed = ap (times place) own_list ∙ times-this_more place v.published ∙ (let none = not_listed id in let same : times place v.published ≡ times place (k.published id) = ap (times place) sits.published_is in omega arith);
+          within = subst (λ (x : ℕ). IsWithin plan.shape id (own id).used x) (sym here)
+              (let a = size_is in let b = start_is in let t = two in let e = starts in let u = sits.used_is in let c = used_here in record { is_arena = is_arena; two_words = omega arith; from = omega arith; to = omega arith });
+          listed = ap (times place) own_list ∙ times-this_more place v.published ∙ (let none = not_listed id in let same : times place v.published ≡ times place (k.own id).published = ap (times place) sits.published_is in omega arith);
           is_record = subst (λ (l : List ℕ). law.is_record plan.sort l) back may.may.is_record;
           may_publish = subst (λ (l : List ℕ). law.may_publish plan.sort id l) back (subst (λ (n : ℕ). law.may_publish plan.sort n ws) sits.number_is may.may.may_publish);
           distance = distance;
           near = may.reached.near;
           at = may.reached.at ∙ ap (λ (l : List ℕ). probe plan.shape (home l) distance) back;
           before = subst (λ (l : List ℕ). (e : ℕ) → e < distance → HoldsAnother words (probe plan.shape (home l) e) l) back
-              (λ e less. let q : ℕ = probe plan.shape (home ws) e in let b = held_other law plan s.words k.used k.published k.laid s.views id v sits q ws (probe_below plan.shape (home ws) e some_slot) (may.reached.before e less) in
+              (λ e less. let q : ℕ = probe plan.shape (home ws) e in let b = held_other law plan s.words k.own k.laid s.views id v sits q ws (probe_below plan.shape (home ws) e some_slot) (may.reached.before e less) in
               let r = records q (probe_below plan.shape (home ws) e some_slot) b.0 in ((λ none. b.0 (sym r.0 ∙ none)), (λ one. b.1 (sym r.1 ∙ one))));
           has_parent = subst (λ (l : List ℕ). HasParent plan.shape.slots words l) back
               (⊎_elim inl (λ t.
-              let f = seen_slot law plan s.words k.used k.published k.laid t.0 t.1 t.3 (sits.seen (t.0 + 1) t.1 t.5) in
+              let f = seen_slot law plan s.words k.own k.laid t.0 t.1 t.3 (sits.seen (t.0 + 1) t.1 t.5) in
               let st = k.laid.stands t.0 t.3 f.1 in
               let w = st.within in
               let long = w.two_words in
@@ -179,7 +182,7 @@ module _ {S : Type 0} (law : RecSort S) (plan : Plan S) where
         let bound = k.laid.room st.number in
         ⊎_elim (λ (less : st.number < id). let c = arena_before plan.shape st.number id less in inr (omega arith))
         (λ (some_more : id ≤ st.number). ⊎_elim (λ (greater : id < st.number). let c = arena_before plan.shape id st.number greater in inl (omega arith))
-        (λ (least : st.number ≤ id). let same : st.number ≡ id = omega arith in let n : k.used st.number ≡ k.used id = ap k.used same in let o : arena_start plan.shape st.number ≡ arena_start plan.shape id = ap (arena_start plan.shape) same in inr (omega arith)) (cases_lt id st.number))
+        (λ (least : st.number ≤ id). let same : st.number ≡ id = omega arith in let n : (k.own st.number).used ≡ (k.own id).used = ap (λ (m : ℕ). (k.own m).used) same in let o : arena_start plan.shape st.number ≡ arena_start plan.shape id = ap (arena_start plan.shape) same in inr (omega arith)) (cases_lt id st.number))
         (cases_lt st.number id)
 
     apart_back : (a b : ℕ) → AreApart a b → AreApart b a
@@ -188,15 +191,15 @@ module _ {S : Type 0} (law : RecSort S) (plan : Plan S) where
     old_filled : (q : ℕ) → q ≢ place → slot_of words q ≢ 0 → slot_of s.words q ≢ 0
     old_filled q ne f e = f (elsewhere q ne ∙ e)
 
-    new_laid : IsLaid law plan words used published
+    new_laid : IsLaid law plan words own
     new_laid = record {
       shape = k.laid.shape;
       long = length-set s.words (place + 1) word ∙ k.laid.long;
       zero_word = get_or-set_other s.words (place + 1) 0 word 0 (λ e. omega arith) ∙ k.laid.zero_word;
-      room = λ n. dite (ℕ_discrete n id) (λ e. let c : used n ≡ v.used + length ws = ap used e ∙ changed_here k.used id (v.used + length ws) in let room = sits.room in omega arith)
-          (λ ne. let c = changed_else k.used id (v.used + length ws) n ne in let room = k.laid.room n in omega arith);
-      stands = λ q h f. dite (ℕ_discrete q place) (λ e. subst (λ (n : ℕ). Stands law plan words used published n) (sym e) new_stands)
-          (λ ne. let g = old_filled q ne f in let st = k.laid.stands q h g in stands_kept law plan s.words words k.used used k.published published some_slot records more q h g st (same_times q st.number ne));
+      room = λ n. dite (ℕ_discrete n id) (λ e. let c : (own n).used ≡ v.used + length ws = ap (λ (n : ℕ). (own n).used) e ∙ used_here in let room = sits.room in omega arith)
+          (λ ne. let c = ap (λ (o : Own). o.used) (own_else n ne) in let room = k.laid.room n in omega arith);
+      stands = λ q h f. dite (ℕ_discrete q place) (λ e. subst (λ (n : ℕ). Stands law plan words own n) (sym e) new_stands)
+          (λ ne. let g = old_filled q ne f in let st = k.laid.stands q h g in stands_kept law plan s.words words k.own own some_slot records more q h g st (same_times q st.number ne));
       apart = λ p q hp hq other fp fq. dite (ℕ_discrete p place)
           (λ e. let ne : q ≢ place = λ same. other (e ∙ sym same) in subst (λ (z : ℕ × ℕ). AreApart z.0 z.1) (λ j. (sym (ap (slot_of words) e ∙ here) j, sym (elsewhere q ne) j)) (new_apart q hq ne (old_filled q ne fq)))
           (λ np. dite (ℕ_discrete q place)
@@ -209,11 +212,11 @@ module _ {S : Type 0} (law : RecSort S) (plan : Plan S) where
           let slot : slot_of words q ≡ word = ap (slot_of words) e ∙ here in
           let h = may.reached.is_place in
           (omega arith, (λ none. let t = two in let a : word ≡ 0 = sym slot ∙ none in absurd (omega arith)), subst (λ (z : ℕ × ℕ). IsWithin plan.shape z.0 plan.shape.arena z.1) (λ j. (sym same j, sym slot j)) w))
-          (λ other. let none = not_listed n in let c : times q (published n) ≡ times place (k.published n) = (λ j. times (e j) (changed_else k.published id (v.published ++ place ∷ []) n other j)) in absurd (omega arith)))
+          (λ other. let none = not_listed n in let c : times q (own n).published ≡ times place (k.own n).published = (λ j. times (e j) ((own_else n other j).published)) in absurd (omega arith)))
           (λ ne. let c = same_times q n ne in let l = k.laid.listed n q (omega arith) in (l.0, (λ none. l.1 (sym (elsewhere q ne) ∙ none)), subst (λ (x : ℕ). IsWithin plan.shape n plan.shape.arena x) (sym (elsewhere q ne)) l.2));
     }
 
-    new_fixed : (i x : ℕ) → IsFixed plan s.words k.used i x → IsFixed plan words used i x
+    new_fixed : (i x : ℕ) → IsFixed plan s.words k.own i x → IsFixed plan words own i x
     new_fixed i x f =
         let p = may.reached.is_place in
         record {
@@ -221,13 +224,12 @@ module _ {S : Type 0} (law : RecSort S) (plan : Plan S) where
           fixed = ⊎_elim inl (λ t. let m = more t.0 in let high = t.2 in inr (t.0, t.1, omega arith)) f.fixed;
         }
 
-    new_sits : Sits plan words used published id (offered place word 0 v)
+    new_sits : Sits plan words own id (offered place word 0 v)
     new_sits =
-        let c = changed_here k.used id (v.used + length ws) in
         record {
           plan_is = sits.plan_is;
           number_is = sits.number_is;
-          used_is = sym c;
+          used_is = sym used_here;
           published_is = sym own_list;
           room = let room = sits.room in omega arith;
           draft = λ j l. absurd (omega arith);
@@ -236,25 +238,16 @@ module _ {S : Type 0} (law : RecSort S) (plan : Plan S) where
               let index : i ≡ start + q.0 = omega arith in
               record {
                 here = ap (λ (n : ℕ). get_or words n 0) index ∙ beyond (start + q.0) (omega arith) ∙ ap (λ (n : ℕ). get_or s.words (arena_start plan.shape n + v.used + q.0) 0) sits.number_is ∙ sits.draft q.0 q.1 ∙ sym q.3;
-                fixed = let us = sits.used_is in inr (id, omega arith, omega arith);
+                fixed = let us = sits.used_is in let c = used_here in inr (id, omega arith, omega arith);
               })
               (λ u. new_fixed i x (sits.seen i x u)) (Saw_either (placed (start_in word) ws) v.seen i x t)) saw;
         }
 
-    new_others : (j : ℕ) (u : View S) → j ≢ id → Sits plan s.words k.used k.published j u → Sits plan words used published j u
-    new_others j u other o = record {
-      plan_is = o.plan_is;
-      number_is = o.number_is;
-      used_is = o.used_is ∙ sym (changed_else k.used id (v.used + length ws) j other);
-      published_is = o.published_is ∙ sym (changed_else k.published id (v.published ++ place ∷ []) j other);
-      room = o.room;
-      draft = λ n l. beyond (arena_start plan.shape j + u.used + n) (omega arith) ∙ o.draft n l;
-      seen = λ i x saw. new_fixed i x (o.seen i x saw);
-    }
+    new_others : (j : ℕ) (u : View S) → j ≢ id → Sits plan s.words k.own j u → Sits plan words own j u
+    new_others j u other o = sits_again plan s.words words k.own own j u u o (own_else j other) refl (λ n l. beyond (arena_start plan.shape j + u.used + n) (omega arith) ∙ o.draft n l) (λ i x saw. new_fixed i x (o.seen i x saw))
 
     pub published_there : R record { words = words; homes = s.homes; views = set s.views id (offered place word 0 v) }
-    published_there = moved law plan s k id v (offered place word 0 v) words used published at live new_laid new_sits refl
-        (λ n ne. (changed_else k.used id (v.used + length ws) n ne, changed_else k.published id (v.published ++ place ∷ []) n ne)) new_others
+    published_there = moved law plan s k id v (offered place word 0 v) words own at live new_laid new_sits refl own_else new_others
 
   offered_miss : (place word found : ℕ) (v : View S) → found ≢ 0 → offered place word found v ≡ record v { seen = (place + 1, found) ∷ v.seen }
   offered_miss place word found v ne = ap (λ (b : Bool). let w : View S = record v {

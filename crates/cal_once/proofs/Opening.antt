@@ -19,8 +19,7 @@ module _ {S : Type 0} (law : RecSort S) where
       let empty : (place : ℕ) → place < plan.shape.slots → slot_of words place ≡ 0 = λ place h. zero_at (place + 1) (omega arith) in
       let arenas = shape.some_arena in
       record {
-        used = λ n. 0;
-        published = λ n. [];
+        own = λ n. record { used = 0; published = [] };
         laid = record {
           shape = shape;
           long = length-replicate (word_count plan.shape) 0;
@@ -31,11 +30,11 @@ module _ {S : Type 0} (law : RecSort S) where
           listed = λ n place some_times. absurd (omega arith);
         };
         few = omega arith;
-        unmade = λ n past. (refl, refl);
+        unmade = λ n past. refl;
         seats = λ number v at. first_only number v at;
-        first = λ v at. let same : first_seat plan ≡ v = cc in subst (λ (x : View S). Leads {S = S} (λ n. []) (first_seat plan ∷ []) x.others) same record { made = omega arith; back = λ k places b. absurd cc; gone = λ k w there none. absurd (let next : k + 1 ≡ suc k = omega arith in let h = subst (λ (i : ℕ). get_elem? (first_seat plan ∷ []) i ≡ some w) next there in cc) };
+        first = λ v at. let same : first_seat plan ≡ v = cc in subst (λ (x : View S). Leads {S = S} (λ n. record { used = 0; published = [] }) (first_seat plan ∷ []) x.others) same record { made = omega arith; back = λ k places b. absurd cc; gone = λ k w there none. absurd (let next : k + 1 ≡ suc k = omega arith in let h = subst (λ (i : ℕ). get_elem? (first_seat plan ∷ []) i ≡ some w) next there in cc) };
       }
     where
-      first_only : (number : ℕ) (v : View S) → get_elem? (first_seat plan ∷ []) number ≡ some v → (v.plan ≡ None) ⊎ Sits plan (replicate (word_count plan.shape) 0) (λ n. 0) (λ n. []) number v
-      first_only zero v at = let same : first_seat plan ≡ v = cc in inr (subst (λ (x : View S). Sits plan (replicate (word_count plan.shape) 0) (λ n. 0) (λ n. []) 0 x) same record { plan_is = refl; number_is = refl; used_is = refl; published_is = refl; room = omega arith; draft = λ k h. absurd (omega arith); seen = λ i x saw. absurd saw })
+      first_only : (number : ℕ) (v : View S) → get_elem? (first_seat plan ∷ []) number ≡ some v → (v.plan ≡ None) ⊎ Sits plan (replicate (word_count plan.shape) 0) (λ n. record { used = 0; published = [] }) number v
+      first_only zero v at = let same : first_seat plan ≡ v = cc in inr (subst (λ (x : View S). Sits plan (replicate (word_count plan.shape) 0) (λ n. record { used = 0; published = [] }) 0 x) same record { plan_is = refl; number_is = refl; used_is = refl; published_is = refl; room = omega arith; draft = λ k h. absurd (omega arith); seen = λ i x saw. absurd saw })
       first_only (suc n) v at = absurd cc

@@ -1,32 +1,29 @@
 -- Regions of words, and the arenas in which they lie.
 use Rattle.std.proofs.Common.{◌≡◌, ℕ, zero, suc, ◌+◌, ◌*◌, ◌^◌, ◌<◌, ◌≤◌, List, [], ◌∷◌, length, get_or, take, drop, sym, refl, ap, ◌∙◌, ⊎_elim, arith, length-take, length-drop, get_or-take, get_or-drop, drop-cons, mod-lt}
 use Rattle.std.proofs.lemmas.Bool.{cases_lt}
+use Rattle.std.proofs.lemmas.List.{ext_get_or}
 use Rattle.std.proofs.Math.Nat.{mul-le-mul_right, suc-mul}
 use Rattle.cal_once.specs.declared.shape.Shape.{Shape}
 use Rattle.cal_once.specs.Layout.{IsWithin, word_count, arena_start, size_in, start_in, slot_for, probe}
-
--- a part of a list, word by word
-pub part_is : (words : List ℕ) (at : ℕ) (rec : List ℕ) → at + length rec ≤ length words → ((j : ℕ) → j < length rec → get_or words (at + j) 0 ≡ get_or rec j 0) → take (length rec) (drop at words) ≡ rec
-part_is words at [] inside each = refl
-part_is words at (r ∷ rs) inside each =
-    let first : get_or words at 0 ≡ r = ap (λ (k : ℕ). get_or words k 0) (omega arith) ∙ each 0 (omega arith) in
-    let rest : take (length rs) (drop (suc at) words) ≡ rs = part_is words (suc at) rs (omega arith) (λ j h. ap (λ (k : ℕ). get_or words k 0) (omega arith) ∙ each (suc j) (omega arith)) in
-    ap (λ (l : List ℕ). take (suc (length rs)) l) (drop-cons words at 0 (omega arith)) ∙ (λ i. first i ∷ rest i)
-
--- two parts with equal words
-pub same_part : (xs ys : List ℕ) (n at : ℕ) → length xs ≡ length ys → ((j : ℕ) → at ≤ j → j < at + n → get_or xs j 0 ≡ get_or ys j 0) → at + n ≤ length xs → take n (drop at xs) ≡ take n (drop at ys)
-same_part xs ys zero at long each inside = refl
-same_part xs ys (suc n) at long each inside =
-    let rest = same_part xs ys n (suc at) long (λ j a b. each j (omega arith) (omega arith)) (omega arith) in
-    let first : get_or xs at 0 ≡ get_or ys at 0 = each at (omega arith) (omega arith) in
-    let there : at < length ys = omega arith in
-    ap (λ (l : List ℕ). take (suc n) l) (drop-cons xs at 0 (omega arith)) ∙ (λ i. first i ∷ rest i) ∙ sym (ap (λ (l : List ℕ). take (suc n) l) (drop-cons ys at 0 there))
 
 pub length-part : (words : List ℕ) (n at : ℕ) → at + n ≤ length words → length (take n (drop at words)) ≡ n
 length-part words n at inside = omega (arith, length-take n (drop at words), length-drop at words)
 
 pub get_or-part : (words : List ℕ) (n at j : ℕ) → j < n → get_or (take n (drop at words)) j 0 ≡ get_or words (at + j) 0
 get_or-part words n at j h = get_or-take n (drop at words) j 0 h ∙ get_or-drop at words j 0
+
+-- a part of a list, word by word
+pub part_is : (words : List ℕ) (at : ℕ) (rec : List ℕ) → at + length rec ≤ length words → ((j : ℕ) → j < length rec → get_or words (at + j) 0 ≡ get_or rec j 0) → take (length rec) (drop at words) ≡ rec
+part_is words at rec inside each =
+    let long = length-part words (length rec) at inside in
+    ext_get_or 0 (take (length rec) (drop at words)) rec long (λ j h. get_or-part words (length rec) at j (omega arith) ∙ each j (omega arith))
+
+-- two parts with equal words
+pub same_part : (xs ys : List ℕ) (n at : ℕ) → length xs ≡ length ys → ((j : ℕ) → at ≤ j → j < at + n → get_or xs j 0 ≡ get_or ys j 0) → at + n ≤ length xs → take n (drop at xs) ≡ take n (drop at ys)
+same_part xs ys n at long each inside =
+    let a = length-part xs n at inside in
+    let b = length-part ys n at (omega arith) in
+    ext_get_or 0 (take n (drop at xs)) (take n (drop at ys)) (a ∙ sym b) (λ j h. get_or-part xs n at j (omega arith) ∙ each (at + j) (omega arith) (omega arith) ∙ sym (get_or-part ys n at j (omega arith)))
 
 -- x rows of n, and one row more
 further : (x y n : ℕ) → x < y → x * n + n ≤ y * n

@@ -1,5 +1,5 @@
 -- A seat is split off, and joined again.
-use Rattle.std.proofs.Common.{◌≡◌, ◌≢◌, ℕ, ◌+◌, ◌-◌, ◌<◌, ◌≤◌, Some, None, List, [], ◌∷◌, ◌++◌, length, set, sym, ap, ◌∙◌, subst, inl, inr, ⊎_elim, arith, length-set, length-append}
+use Rattle.std.proofs.Common.{◌≡◌, ◌≢◌, ℕ, ◌+◌, ◌-◌, ◌<◌, ◌≤◌, Some, None, List, [], ◌∷◌, ◌++◌, length, set, sym, refl, ap, ◌∙◌, subst, inl, inr, ⊎_elim, arith, length-set, length-append}
 use mathlib.Core.Option.{some}
 use lib.ListN.{get_elem?}
 use Rattle.atomic_table.specs.Table.{State, Splits, Joins}
@@ -8,9 +8,9 @@ use Rattle.cal_words.specs.declared.sort.RecSort.{Ghosts as RecSort}
 use Rattle.cal_once.specs.declared.view.View.{View}
 use Rattle.cal_once.specs.declared.view.Plan.{Plan}
 use Rattle.cal_once.specs.Views.{split_off, new_seat, joined, joined_with, spent}
-use Rattle.cal_once.specs.Rule.{Sits, Leads}
+use Rattle.cal_once.specs.Rule.{Own, Sits, Leads}
 use Rattle.cal_once.proofs.Seen.{Saw_either, at_below, at_end, at_joined, joined_else, joined_here, length-joined}
-use Rattle.cal_once.proofs.Moves.{Rule, sits_of}
+use Rattle.cal_once.proofs.Moves.{Rule, sits_again, sits_of}
 
 module _ {S : Type 0} (law : RecSort S) (plan : Plan S) where
   abbrev R : State ℕ (View S) → Type 0
@@ -28,20 +28,19 @@ module _ {S : Type 0} (law : RecSort S) (plan : Plan S) where
       let long = length-set s.views id left in
       let unmade = k.unmade (length s.views) (omega arith) in
       let longer : length (views ++ right ∷ []) ≡ length s.views + 1 = length-append views (right ∷ []) ∙ (omega arith) in
-      let sits_left : Sits plan s.words k.used k.published id left = record { plan_is = sits.plan_is; number_is = sits.number_is; used_is = sits.used_is; published_is = sits.published_is; room = sits.room; draft = sits.draft; seen = sits.seen } in
-      let sits_right : Sits plan s.words k.used k.published (length s.views) right = record { plan_is = sits.plan_is; number_is = made; used_is = sym unmade.0; published_is = sym unmade.1; room = omega arith; draft = λ j l. absurd (omega arith); seen = sits.seen } in
+      let sits_left : Sits plan s.words k.own id left = sits_again plan s.words s.words k.own k.own id v left sits refl refl sits.draft sits.seen in
+      let sits_right : Sits plan s.words k.own (length s.views) right = record { plan_is = sits.plan_is; number_is = made; used_is = ap (λ (o : Own). o.used) (sym unmade); published_is = ap (λ (o : Own). o.published) (sym unmade); room = omega arith; draft = λ j l. absurd (omega arith); seen = sits.seen } in
       record {
-        used = k.used;
-        published = k.published;
+        own = k.own;
         laid = k.laid;
         few = omega arith;
         unmade = λ n past. k.unmade n (omega arith);
         seats = λ j u there. ⊎_elim
-            (λ t. ⊎_elim (λ m. inr (subst (λ (z : ℕ × View S). Sits plan s.words k.used k.published z.0 z.1) (λ i. (sym m.0 i, m.1 i)) sits_left)) (λ m. k.seats j u m.1) (at_set s.views id j left u t.0))
-            (λ t. let index : length s.views ≡ j = let e = t.1 in omega arith in inr (subst (λ (z : ℕ × View S). Sits plan s.words k.used k.published z.0 z.1) (λ i. (index i, t.0 i)) sits_right))
+            (λ t. ⊎_elim (λ m. inr (subst (λ (z : ℕ × View S). Sits plan s.words k.own z.0 z.1) (λ i. (sym m.0 i, m.1 i)) sits_left)) (λ m. k.seats j u m.1) (at_set s.views id j left u t.0))
+            (λ t. let index : length s.views ≡ j = let e = t.1 in omega arith in inr (subst (λ (z : ℕ × View S). Sits plan s.words k.own z.0 z.1) (λ i. (index i, t.0 i)) sits_right))
             (at_end views right u j there);
         first = λ u there. ⊎_elim
-            (λ t. ⊎_elim (λ m. subst (λ (x : View S). Leads k.published (views ++ right ∷ []) x.others) m.1 record {
+            (λ t. ⊎_elim (λ m. subst (λ (x : View S). Leads k.own (views ++ right ∷ []) x.others) m.1 record {
               made = let l = length-append v.others (None ∷ []) in omega arith;
               back = λ n places there. ⊎_elim
                   (λ b. let o = old.back n places b.0 in let below = b.1 in (
@@ -71,30 +70,22 @@ module _ {S : Type 0} (law : RecSort S) (plan : Plan S) where
       let views : List (View S) = set s.views id both in
       let long = length-set s.views id both in
       let longer = length-set views other gone in
-      let sits_both : Sits plan s.words k.used k.published id both = record {
-        plan_is = sits.plan_is;
-        number_is = sits.number_is;
-        used_is = sits.used_is;
-        published_is = sits.published_is;
-        room = sits.room;
-        draft = sits.draft;
-        seen = λ i x saw. ⊎_elim (sits.seen i x) (sits_other.seen i x) (Saw_either v.seen w.seen i x saw);
-      } in
+      let sits_both : Sits plan s.words k.own id both = sits_again plan s.words s.words k.own k.own id v both sits refl refl sits.draft
+          (λ i x saw. ⊎_elim (sits.seen i x) (sits_other.seen i x) (Saw_either v.seen w.seen i x saw)) in
       record {
-        used = k.used;
-        published = k.published;
+        own = k.own;
         laid = k.laid;
         few = let few = k.few in omega arith;
         unmade = λ n past. k.unmade n (omega arith);
         seats = λ j u here. ⊎_elim (λ t. inl (ap (λ (x : View S). x.plan) (sym t.1)))
-            (λ t. ⊎_elim (λ m. inr (subst (λ (z : ℕ × View S). Sits plan s.words k.used k.published z.0 z.1) (λ i. (sym m.0 i, m.1 i)) sits_both)) (λ m. k.seats j u m.1) (at_set s.views id j both u t.1))
+            (λ t. ⊎_elim (λ m. inr (subst (λ (z : ℕ × View S). Sits plan s.words k.own z.0 z.1) (λ i. (sym m.0 i, m.1 i)) sits_both)) (λ m. k.seats j u m.1) (at_set s.views id j both u t.1))
             (at_set views other j gone u here);
         first = λ u here. ⊎_elim (λ t. absurd (apart (sym t.0 ∙ sym is_first)))
-            (λ t. ⊎_elim (λ m. subst (λ (x : View S). Leads k.published (set views other gone) x.others) m.1 record {
+            (λ t. ⊎_elim (λ m. subst (λ (x : View S). Leads k.own (set views other gone) x.others) m.1 record {
               made = let j = length-joined v.others (w.number - 1) w.published in let m = old.made in omega arith;
               back = λ n places b. ⊎_elim
                   (λ c. let index : n + 1 ≡ other = (let e = c.0 in let zero_not : other ≢ 0 = (λ z. apart (z ∙ sym is_first)) in omega arith) in
-                  (c.1 ∙ sits_other.published_is ∙ ap k.published (sym index), λ x y. ⊎_elim (λ z. ap (λ (q : View S). q.plan) (sym z.1)) (λ z. absurd (z.0 index)) (at_set views other (n + 1) gone x y)))
+                  (c.1 ∙ sits_other.published_is ∙ ap (λ (m : ℕ). (k.own m).published) (sym index), λ x y. ⊎_elim (λ z. ap (λ (q : View S). q.plan) (sym z.1)) (λ z. absurd (z.0 index)) (at_set views other (n + 1) gone x y)))
                   (λ c. let o = old.back n places c in (
                     o.0,
                     λ x y. ⊎_elim (λ z. ap (λ (q : View S). q.plan) (sym z.1))

@@ -4,7 +4,7 @@ use mathlib.Core.Logic.{dite}
 use mathlib.Core.Option.{some}
 use native.Mathlib.Decide.{ℕ_discrete}
 use lib.ListN.{get_elem?}
-use Rattle.std.proofs.lemmas.Bool.{eq-eqb, ne_eqb}
+use Rattle.std.proofs.lemmas.Bool.{eq-eqb, ne_eqb, or_right}
 use Rattle.cal_once.specs.Layout.{times}
 use Rattle.cal_once.specs.Views.{Saw, was_seen, placed, gathered, none_away, joined_with}
 
@@ -24,10 +24,6 @@ Saw_either (e ∷ es) ys i x h = ⊎_elim (λ t. inl (inl t)) (λ t. ⊎_elim (�
 pub was_seen_from : (es : List (ℕ × ℕ)) (i x : ℕ) → Saw es i x → was_seen es i ≡ true
 was_seen_from [] i x h = absurd h
 was_seen_from (e ∷ es) i x h = ⊎_elim (λ t. ap (λ (b : Bool). b || was_seen es i) (eq-eqb e.0 i t.0)) (λ t. or_right (eqb e.0 i) (was_seen es i) (was_seen_from es i x t)) h
-  where
-    or_right : (a b : Bool) → b ≡ true → (a || b) ≡ true
-    or_right true b h = refl
-    or_right false b h = h
 
 pub seen_to_be : (es : List (ℕ × ℕ)) (i : ℕ) → was_seen es i ≡ true → (x : ℕ) × Saw es i x
 seen_to_be [] i h = absurd (cc)

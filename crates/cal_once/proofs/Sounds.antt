@@ -9,31 +9,31 @@ use Rattle.cal_once.specs.declared.view.Plan.{Plan}
 use Rattle.cal_once.specs.Layout.{IsWithin, AreApart, size_in, start_in, slot_of, record_at, probe, times}
 use Rattle.cal_once.specs.Views.{Saw, Knows, Holds, HoldsOther, AllJoined, all_published, gathered}
 use Rattle.cal_once.specs.Sound.{IsLawful, IsBelow, IsSound}
-use Rattle.cal_once.specs.Rule.{HoldsAnother, IsFixed, Stands, IsLaid, Sits, Leads}
+use Rattle.cal_once.specs.Rule.{Own, HoldsAnother, IsFixed, Stands, IsLaid, Sits, Leads}
 use Rattle.cal_once.specs.Steps.{WasEmpty}
 use Rattle.cal_once.proofs.Seen.{seen_to_be, times-append, sum_from, sum_from_none, sum_from_one, times-gathered}
 use Rattle.cal_once.proofs.Regions.{part_is, length-part, get_or-part, arena_inside, one_region}
 
 module _ {S : Type 0} (law : RecSort S) where
-  module _ (plan : Plan S) (words : List ℕ) (used : ℕ → ℕ) (published : ℕ → List ℕ) (laid : IsLaid law plan words used published) where
+  module _ (plan : Plan S) (words : List ℕ) (own : ℕ → Own) (laid : IsLaid law plan words own) where
     -- a slot's word that was seen is there, and isn't 0
-    pub seen_slot : (place x : ℕ) → place < plan.shape.slots → IsFixed plan words used (place + 1) x → (slot_of words place ≡ x) × (slot_of words place ≢ 0)
+    pub seen_slot : (place x : ℕ) → place < plan.shape.slots → IsFixed plan words own (place + 1) x → (slot_of words place ≡ x) × (slot_of words place ≢ 0)
     seen_slot place x h f = let here = f.here in (here, ⊎_elim (λ t e. t.2 (sym here ∙ e)) (λ t. let low = t.1 in absurd (omega arith)) f.fixed)
 
     -- a filled slot's record lies within the words
-    pub inside : (place : ℕ) → Stands law plan words used published place → start_in (slot_of words place) + size_in (slot_of words place) ≤ length words
-    inside place st = let w = st.within in let to = w.to in let e = arena_inside plan.shape st.number (used st.number) w.is_arena (laid.room st.number) in let l = laid.long in omega arith
+    pub inside : (place : ℕ) → Stands law plan words own place → start_in (slot_of words place) + size_in (slot_of words place) ≤ length words
+    inside place st = let w = st.within in let to = w.to in let e = arena_inside plan.shape st.number (own st.number).used w.is_arena (laid.room st.number) in let l = laid.long in omega arith
 
     -- a number's words don't reach past its arena
-    pub widened : (n : ℕ) (w : ℕ) → IsWithin plan.shape n (used n) w → IsWithin plan.shape n plan.shape.arena w
+    pub widened : (n : ℕ) (w : ℕ) → IsWithin plan.shape n (own n).used w → IsWithin plan.shape n plan.shape.arena w
     widened n w x = let r = laid.room n in let t = x.to in record { is_arena = x.is_arena; two_words = x.two_words; from = x.from; to = omega arith }
 
     -- a place stands in the list of one number alone
-    pub one_list : (place : ℕ) → place < plan.shape.slots → slot_of words place ≢ 0 → (st : Stands law plan words used published place) → (m : ℕ) → m ≢ st.number → times place (published m) ≡ 0
-    one_list place h filled st m other = dite (ℕ_discrete (times place (published m)) 0) (λ z. z)
+    pub one_list : (place : ℕ) → place < plan.shape.slots → slot_of words place ≢ 0 → (st : Stands law plan words own place) → (m : ℕ) → m ≢ st.number → times place (own m).published ≡ 0
+    one_list place h filled st m other = dite (ℕ_discrete (times place (own m).published) 0) (λ z. z)
         (λ some_times. let l = laid.listed m place (omega arith) in absurd (other (one_region plan.shape m st.number plan.shape.arena plan.shape.arena (slot_of words place) (omega arith) (omega arith) l.2 (widened st.number (slot_of words place) st.within))))
 
-    module _ (views : List (View S)) (number : ℕ) (v : View S) (sits : Sits plan words used published number v) where
+    module _ (views : List (View S)) (number : ℕ) (v : View S) (sits : Sits plan words own number v) where
       -- the record that a seat knows is the one that is there
       pub held : (place : ℕ) (ws : List ℕ) → place < plan.shape.slots → Holds v place ws → (slot_of words place ≢ 0) × (record_at words place ≡ ws)
       held place ws h k =
@@ -101,20 +101,20 @@ module _ {S : Type 0} (law : RecSort S) where
             is_record = subst (λ (l : List ℕ). law.is_record plan.sort l) a.1 st.is_record;
             number = st.number;
             may_publish = subst (λ (l : List ℕ). law.may_publish plan.sort st.number l) a.1 st.may_publish;
-            own = λ mine. ap (λ (l : List ℕ). times place l) (sits.published_is ∙ ap published (sym sits.number_is ∙ sym mine)) ∙ st.listed;
+            own = λ mine. ap (λ (l : List ℕ). times place l) (sits.published_is ∙ ap (λ n. (own n).published) (sym sits.number_is ∙ sym mine)) ∙ st.listed;
           }
 
-      module _ (leads : number ≡ 0 → Leads published views v.others) (unmade : (n : ℕ) → length views ≤ n → published n ≡ []) where
+      module _ (leads : number ≡ 0 → Leads own views v.others) (unmade : (n : ℕ) → length views ≤ n → own n ≡ record { used = 0; published = [] }) where
         abbrev listed_in : ℕ → ℕ → ℕ
-        listed_in place n = times place (published n)
+        listed_in place n = times place (own n).published
 
         all_times : AllJoined v → (place : ℕ) → times place (all_published v) ≡ listed_in place 0 + sum_from (listed_in place) 1 (length v.others)
         all_times all place =
             let zero_number : number ≡ 0 = sym sits.number_is ∙ all.0 in
             let back = leads zero_number in
-            let own : times place v.published ≡ listed_in place 0 = ap (times place) (sits.published_is ∙ ap published zero_number) in
+            let mine : times place v.published ≡ listed_in place 0 = ap (times place) (sits.published_is ∙ ap (λ n. (own n).published) zero_number) in
             let rest = times-gathered v.others (listed_in place) place 1 all.1 (λ j l at. ap (times place) (back.back j l at).0 ∙ ap (listed_in place) (omega arith)) in
-            times-append place v.published (gathered v.others) ∙ (λ i. own i + rest i)
+            times-append place v.published (gathered v.others) ∙ (λ i. mine i + rest i)
 
         none_times : AllJoined v → (place : ℕ) → ((n : ℕ) → listed_in place n ≡ 0) → times place (all_published v) ≡ 0
         none_times all place none = let a = none 0 in let b = sum_from_none (listed_in place) 1 (length v.others) (λ j _ _. none j) in all_times all place ∙ omega arith
@@ -127,7 +127,7 @@ module _ {S : Type 0} (law : RecSort S) where
             let others : (m : ℕ) → m ≢ st.number → listed_in place m ≡ 0 = one_list place h s.1 st in
             let made = (leads (sym sits.number_is ∙ all.0)).made in
             let is_made : st.number < length views = ⊎_elim (λ (l : st.number < length views). l)
-            (λ (g : length views ≤ st.number). let none : times place (published st.number) ≡ 0 = ap (times place) (unmade st.number g) in let one = st.listed in absurd (omega arith)) (cases_lt st.number (length views)) in
+            (λ (g : length views ≤ st.number). let none : times place (own st.number).published ≡ 0 = ap (λ (o : Own). times place o.published) (unmade st.number g) in let one = st.listed in absurd (omega arith)) (cases_lt st.number (length views)) in
             dite (ℕ_discrete st.number 0)
             (λ first. let one : listed_in place 0 ≡ 1 = ap (listed_in place) (sym first) ∙ st.listed in
             let rest = sum_from_none (listed_in place) 1 (length v.others) (λ j low _. others j (λ e. omega arith)) in all_times all place ∙ omega arith)
