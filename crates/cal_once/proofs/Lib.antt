@@ -1,4 +1,5 @@
 pub mod Seen
+pub mod Told
 pub mod Regions
 pub mod Sounds
 pub mod Moves

@@ -1,5 +1,5 @@
 -- Steps that change the view of their own seat alone.
-use Rattle.std.proofs.Common.{◌≡◌, ◌≢◌, ◌⊎◌, ℕ, ◌+◌, ◌<◌, ◌≤◌, Bool, cond, Option, Some, List, ◌∷◌, length, get_or, set, sym, refl, ap, ◌∙◌, subst, inl, inr, ⊎_elim, arith, length-set}
+use Rattle.std.proofs.Common.{◌≡◌, ◌≢◌, ◌⊎◌, ℕ, ◌+◌, ◌<◌, ◌≤◌, Bool, cond, Option, Some, None, List, ◌∷◌, length, get_or, set, sym, refl, ap, ◌∙◌, subst, inl, inr, ⊎_elim, arith, length-set}
 use mathlib.Core.Logic.{dite}
 use mathlib.Core.Option.{none, some}
 use native.Mathlib.Decide.{ℕ_discrete}
@@ -14,9 +14,10 @@ use Rattle.cal_once.specs.declared.view.Plan.{Plan}
 use Rattle.cal_once.specs.Layout.{IsWithin, arena_start, size_in, start_in, slot_of}
 use Rattle.cal_once.specs.Views.{Saw, looked, read}
 use Rattle.cal_once.specs.Sound.{IsSound}
-use Rattle.cal_once.specs.Rule.{Own, IsFixed, IsLaid, Sits, Leads, Kept}
+use Rattle.cal_once.specs.Rule.{Own, IsFixed, IsLaid, Sits, Kept}
 use Rattle.cal_once.specs.Steps.{WasEmpty, Looked, looks, reads}
 use Rattle.cal_once.proofs.Seen.{at_below}
+use Rattle.cal_once.proofs.Told.{told-set}
 use Rattle.cal_once.proofs.Sounds.{seen_slot, is_sound, was_empty}
 
 -- a seat that has published nothing more, and whose draft is there
@@ -45,18 +46,6 @@ module _ {S : Type 0} (law : RecSort S) (plan : Plan S) where
   pub sits_of : (s : State ℕ (View S)) (k : Rule s) (id : ℕ) (v : View S) → get_elem? s.views id ≡ some v → v.plan ≡ Some plan → Sits plan s.words k.own id v
   sits_of s k id v at live = ⊎_elim (λ none. absurd (cc (none, live))) (λ sits. sits) (k.seats id v at)
 
-  -- the first seat leads still where the seat id has another view
-  leads_set : (views : List (View S)) (own own' : ℕ → Own) (id : ℕ) (v w : View S) (others : List (Option (List ℕ))) → get_elem? views id ≡ some v → v.plan ≡ Some plan → w.plan ≡ Some plan → ((n : ℕ) → n ≢ id → own' n ≡ own n)
-      → Leads own views others → Leads own' (set views id w) others
-  leads_set views own own' id v w others at live live_after same l = record {
-    made = l.made ∙ sym (length-set views id w);
-    back = λ k places there.
-        let b = l.back k places there in
-        let apart : k + 1 ≢ id = λ e. let none = b.1 v (subst (λ (i : ℕ). get_elem? views i ≡ some v) (sym e) at) in absurd (cc (none, live)) in
-        (b.0 ∙ ap (λ (o : Own). o.published) (sym (same (k + 1) apart)), λ x here. ⊎_elim (λ t. absurd (apart t.0)) (λ t. b.1 x t.1) (at_set views id (k + 1) w x here));
-    gone = λ k x here none. ⊎_elim (λ t. absurd (let same_plan : w.plan ≡ x.plan = ap (λ (z : View S). z.plan) t.1 in cc)) (λ t. l.gone k x t.1 none) (at_set views id (k + 1) w x here);
-  }
-
   -- the seat id has another view, and the words are others
   pub moved : (s : State ℕ (View S)) (k : Rule s) (id : ℕ) (v w : View S) (words : List ℕ) (own : ℕ → Own) → get_elem? s.views id ≡ some v → v.plan ≡ Some plan
       → IsLaid law plan words own → Sits plan words own id w → w.others ≡ v.others
@@ -72,10 +61,10 @@ module _ {S : Type 0} (law : RecSort S) (plan : Plan S) where
         unmade = λ n past. let more : length s.views ≤ n = omega arith in apart n (λ e. omega arith) ∙ k.unmade n more;
         seats = λ j u here. ⊎_elim (λ t. inr (subst (λ (z : ℕ × View S). Sits plan words own z.0 z.1) (λ i. (sym t.0 i, t.1 i)) mine))
             (λ t. ⊎_elim inl (λ sits. inr (others j u t.0 sits)) (k.seats j u t.1)) (at_set s.views id j w u here);
-        first = λ u here. ⊎_elim
-            (λ t. let old = k.first v (subst (λ (i : ℕ). get_elem? s.views i ≡ some v) (sym t.0) at) in subst (λ (os : List (Option (List ℕ))). Leads own (set s.views id w) os) (sym same ∙ ap (λ (x : View S). x.others) t.1)
-            (leads_set s.views k.own own id v w v.others at live mine.plan_is apart old))
-            (λ t. leads_set s.views k.own own id v w u.others at live mine.plan_is apart (k.first u t.1)) (at_set s.views id 0 w u here);
+        first = λ u here.
+            let before = told-set (λ n. (k.own n).published) (λ n. (own n).published) plan s.views id v w at live mine.plan_is (λ n ne. ap (λ (o : Own). o.published) (apart n ne)) in ⊎_elim
+            (λ t. before ∙ k.first v (subst (λ (i : ℕ). get_elem? s.views i ≡ some v) (sym t.0) at) ∙ ap (λ (os : List (Option (List ℕ))). None ∷ os) (sym same ∙ ap (λ (x : View S). x.others) t.1))
+            (λ t. before ∙ k.first u t.1) (at_set s.views id 0 w u here);
       }
 
   -- what the rule says of a seat

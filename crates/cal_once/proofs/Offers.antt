@@ -17,7 +17,7 @@ use Rattle.cal_once.specs.Rule.{Own, HasParent, HoldsAnother, IsFixed, Stands, I
 use Rattle.cal_once.specs.Puts.{MayOffer}
 use Rattle.cal_once.specs.Steps.{Offered, offers}
 use Rattle.cal_once.proofs.Seen.{Saw_either, at_below, placed_at, times-append}
-use Rattle.cal_once.proofs.Regions.{part_is, get_or-part, arena_inside, arena_before, size-slot_for, start-slot_for, probe_below}
+use Rattle.cal_once.proofs.Regions.{part_is, get_or-part, arena_inside, beside, size-slot_for, start-slot_for, probe_below}
 use Rattle.cal_once.proofs.Sounds.{inside, seen_slot, held_other}
 use Rattle.cal_once.proofs.Moves.{Rule, sits_again, sits_of, met, moved, unmoved, told, of_plan}
 use Rattle.cal_once.proofs.Stores.{KeepsRecords, record_at-set, stands_kept}
@@ -170,20 +170,12 @@ module _ {S : Type 0} (law : RecSort S) (plan : Plan S) where
 
     new_apart : (q : ℕ) → q < plan.shape.slots → q ≢ place → slot_of s.words q ≢ 0 → AreApart word (slot_of s.words q)
     new_apart q h ne filled =
-        let room = sits.room in
-        let u = sits.used_is in
-        let e = starts in
         let a = size_is in
         let b = start_is in
+        let e = starts in
+        let last = ends in
         let st = k.laid.stands q h filled in
-        let w = st.within in
-        let from = w.from in
-        let to = w.to in
-        let bound = k.laid.room st.number in
-        ⊎_elim (λ (less : st.number < id). let c = arena_before plan.shape st.number id less in inr (omega arith))
-        (λ (some_more : id ≤ st.number). ⊎_elim (λ (greater : id < st.number). let c = arena_before plan.shape id st.number greater in inl (omega arith))
-        (λ (least : st.number ≤ id). let same : st.number ≡ id = omega arith in let n : (k.own st.number).used ≡ (k.own id).used = ap (λ (m : ℕ). (k.own m).used) same in let o : arena_start plan.shape st.number ≡ arena_start plan.shape id = ap (arena_start plan.shape) same in inr (omega arith)) (cases_lt id st.number))
-        (cases_lt st.number id)
+        beside plan.shape (λ n. (k.own n).used) st.number id (slot_of s.words q) (start_in word) (start_in word + size_in word) st.within (k.laid.room st.number) (omega arith) (omega arith)
 
     apart_back : (a b : ℕ) → AreApart a b → AreApart b a
     apart_back a b = ⊎_elim inr inl

@@ -1,5 +1,5 @@
 -- The rule holds of a table of empty slots.
-use Rattle.std.proofs.Common.{◌≡◌, ◌⊎◌, ℕ, zero, suc, ◌+◌, ◌<◌, None, List, [], ◌∷◌, get_or, replicate, refl, subst, inr, arith}
+use Rattle.std.proofs.Common.{◌≡◌, ◌⊎◌, ℕ, zero, suc, ◌+◌, ◌<◌, None, List, [], ◌∷◌, get_or, replicate, refl, ap, subst, inr, arith}
 use Rattle.std.proofs.Math.ListN.{length-replicate, get_or-replicate}
 use mathlib.Core.Option.{some}
 use lib.ListN.{get_elem?}
@@ -9,7 +9,7 @@ use Rattle.cal_once.specs.declared.view.View.{View}
 use Rattle.cal_once.specs.declared.view.Plan.{Plan}
 use Rattle.cal_once.specs.Layout.{IsShape, word_count, slot_of}
 use Rattle.cal_once.specs.Views.{first_seat}
-use Rattle.cal_once.specs.Rule.{Sits, Leads, Kept}
+use Rattle.cal_once.specs.Rule.{Sits, Kept}
 
 module _ {S : Type 0} (law : RecSort S) where
   pub opens : (plan : Plan S) → IsShape plan.shape → Kept law plan (opening (replicate (word_count plan.shape) 0) [] (first_seat plan))
@@ -32,7 +32,7 @@ module _ {S : Type 0} (law : RecSort S) where
         few = omega arith;
         unmade = λ n past. refl;
         seats = λ number v at. first_only number v at;
-        first = λ v at. let same : first_seat plan ≡ v = cc in subst (λ (x : View S). Leads {S = S} (λ n. record { used = 0; published = [] }) (first_seat plan ∷ []) x.others) same record { made = omega arith; back = λ k places b. absurd cc; gone = λ k w there none. absurd (let next : k + 1 ≡ suc k = omega arith in let h = subst (λ (i : ℕ). get_elem? (first_seat plan ∷ []) i ≡ some w) next there in cc) };
+        first = λ v at. let same : first_seat plan ≡ v = cc in ap (λ (x : View S). None ∷ x.others) same;
       }
     where
       first_only : (number : ℕ) (v : View S) → get_elem? (first_seat plan ∷ []) number ≡ some v → (v.plan ≡ None) ⊎ Sits plan (replicate (word_count plan.shape) 0) (λ n. record { used = 0; published = [] }) number v

@@ -1,5 +1,5 @@
 -- Regions of words, and the arenas in which they lie.
-use Rattle.std.proofs.Common.{◌≡◌, ℕ, zero, suc, ◌+◌, ◌*◌, ◌^◌, ◌<◌, ◌≤◌, List, [], ◌∷◌, length, get_or, take, drop, sym, refl, ap, ◌∙◌, ⊎_elim, arith, length-take, length-drop, get_or-take, get_or-drop, drop-cons, mod-lt}
+use Rattle.std.proofs.Common.{◌≡◌, ◌⊎◌, ℕ, zero, suc, ◌+◌, ◌*◌, ◌^◌, ◌<◌, ◌≤◌, List, [], ◌∷◌, length, get_or, take, drop, sym, refl, ap, ◌∙◌, inl, inr, ⊎_elim, arith, length-take, length-drop, get_or-take, get_or-drop, drop-cons, mod-lt}
 use Rattle.std.proofs.lemmas.Bool.{cases_lt}
 use Rattle.std.proofs.lemmas.List.{ext_get_or}
 use Rattle.std.proofs.Math.Nat.{mul-le-mul_right, suc-mul}
@@ -48,6 +48,14 @@ one_arena shape m n i a b c d = ⊎_elim
 pub one_region : (shape : Shape) (m n a b w : ℕ) → a ≤ shape.arena → b ≤ shape.arena → IsWithin shape m a w → IsWithin shape n b w → m ≡ n
 one_region shape m n a b w ha hb x y = let x1 = x.two_words in let x2 = x.from in let x3 = x.to in let y2 = y.from in let y3 = y.to in
     one_arena shape m n (start_in w) (omega arith) (omega arith) (omega arith) (omega arith)
+
+-- words of an arena behind its used part lie apart from a region in some arena's used part
+pub beside : (shape : Shape) (used : ℕ → ℕ) (m n w low high : ℕ) → IsWithin shape m (used m) w → used m ≤ shape.arena → arena_start shape n + used n ≤ low → high ≤ arena_start shape n + shape.arena → (high ≤ start_in w) ⊎ (start_in w + size_in w ≤ low)
+beside shape used m n w low high x room a b = let from = x.from in let to = x.to in ⊎_elim
+    (λ (less : m < n). let c = arena_before shape m n less in inr (omega arith))
+    (λ (more : n ≤ m). ⊎_elim (λ (greater : n < m). let c = arena_before shape n m greater in inl (omega arith))
+    (λ (least : m ≤ n). let same : m ≡ n = omega arith in let u = ap used same in let s = ap (arena_start shape) same in inr (omega arith)) (cases_lt n m))
+    (cases_lt m n)
 
 -- the words of a slot that names a record
 pub size-slot_for : (size start : ℕ) → start < 2 ^ 32 → size_in (slot_for size start) ≡ size

@@ -15,7 +15,7 @@ use Rattle.cal_once.specs.Views.{drafted}
 use Rattle.cal_once.specs.Rule.{Own, HasParent, HoldsAnother, IsFixed, Stands, IsLaid, Sits}
 use Rattle.cal_once.specs.Steps.{drafts}
 use Rattle.cal_once.proofs.Seen.{at_below}
-use Rattle.cal_once.proofs.Regions.{same_part, arena_inside, arena_before, one_arena, probe_below}
+use Rattle.cal_once.proofs.Regions.{same_part, arena_inside, beside, one_arena, probe_below}
 use Rattle.cal_once.proofs.Sounds.{inside}
 use Rattle.cal_once.proofs.Moves.{Rule, sits_again, sits_of, moved}
 
@@ -70,14 +70,8 @@ module _ {S : Type 0} (law : RecSort S) (plan : Plan S) where
     pub unused_apart : (place : ℕ) → place < plan.shape.slots → slot_of words place ≢ 0 → (i < start_in (slot_of words place)) ⊎ (start_in (slot_of words place) + size_in (slot_of words place) ≤ i)
     unused_apart place h filled =
         let st = laid.stands place h filled in
-        let w = st.within in
-        let from = w.from in
-        let to = w.to in
         let room = laid.room st.number in
-        ⊎_elim (λ (less : st.number < id). let b = arena_before plan.shape st.number id less in inr (omega arith))
-        (λ (more : id ≤ st.number). ⊎_elim (λ (greater : id < st.number). let b = arena_before plan.shape id st.number greater in inl (omega arith))
-        (λ (least : st.number ≤ id). let same : st.number ≡ id = omega arith in let u : (own st.number).used ≡ (own id).used = ap (λ (n : ℕ). (own n).used) same in let a : arena_start plan.shape st.number ≡ arena_start plan.shape id = ap (arena_start plan.shape) same in inr (omega arith)) (cases_lt id st.number))
-        (cases_lt st.number id)
+        ⊎_elim (λ (before : i + 1 ≤ start_in (slot_of words place)). inl (omega arith)) inr (beside plan.shape (λ n. (own n).used) st.number id (slot_of words place) i (i + 1) st.within room low (omega arith))
 
     slot_same : (place : ℕ) → place < plan.shape.slots → slot_of (set words i x) place ≡ slot_of words place
     slot_same place h = get_or-set_other words i (place + 1) x 0 (λ e. omega arith)

@@ -1,6 +1,6 @@
 -- The rule of write-once rows, which holds between any two steps of any seats. It speaks of the words and of what each
 -- seat knows, and says besides, for each number, how many words its seat published, and at which places.
-use Rattle.std.specs.Prelude.{◌≡◌, ◌≢◌, ◌⊎◌, ℕ, ◌+◌, ◌<◌, ◌≤◌, Option, Some, None, List, [], length, slice_index}
+use Rattle.std.specs.Prelude.{◌≡◌, ◌≢◌, ◌⊎◌, ℕ, suc, ◌+◌, ◌<◌, ◌≤◌, Option, Some, None, List, [], ◌∷◌, length, slice_index}
 use mathlib.Core.Option.{some}
 use lib.ListN.{get_elem?}
 use Rattle.atomic_table.specs.Table.{State}
@@ -39,11 +39,15 @@ pub record Sits {S : Type 0} (plan : Plan S) (words : List ℕ) (own : ℕ → O
   pub draft : (k : ℕ) → k < length v.draft → slice_index words (arena_start plan.shape number + v.used + k) ≡ slice_index v.draft k
   pub seen : (i x : ℕ) → Saw v.seen i x → IsFixed plan words own i x
 
--- the first seat knows how many seats were made, and the list of each one that was joined and says nothing more
-pub record Leads {S : Type 0} (own : ℕ → Own) (views : List (View S)) (others : List (Option (List ℕ))) : Type 0 where
-  pub made : length others + 1 ≡ length views
-  pub back : (k : ℕ) (places : List ℕ) → get_elem? others k ≡ some (Some places) → (places ≡ (own (k + 1)).published) × ((w : View S) → get_elem? views (k + 1) ≡ some w → w.plan ≡ None)
-  pub gone : (k : ℕ) (w : View S) → get_elem? views (k + 1) ≡ some w → w.plan ≡ None → (places : List ℕ) × (get_elem? others k ≡ some (Some places))
+-- what the first seat is told of another one: the places that it published, once it was joined
+abbrev pub told_by : {S : Type 0} → Option (Plan S) → List ℕ → Option (List ℕ)
+told_by None places = Some places
+told_by (Some plan) places = None
+
+-- the same of all seats, in the order of their numbers
+abbrev pub told : {S : Type 0} → (ℕ → List ℕ) → List (View S) → List (Option (List ℕ))
+told published [] = []
+told published (v ∷ views) = told_by v.plan (published 0) ∷ told (λ n. published (suc n)) views
 
 module _ {S : Type 0} (law : RecSort S) where
   -- A filled slot. Its record lies in the used part of one arena, in whose number's list the place stands once. It is a
@@ -76,4 +80,4 @@ module _ {S : Type 0} (law : RecSort S) where
     pub few : length s.views ≤ plan.shape.arenas
     pub unmade : (n : ℕ) → length s.views ≤ n → own n ≡ record { used = 0; published = [] }
     pub seats : (number : ℕ) (v : View S) → get_elem? s.views number ≡ some v → (v.plan ≡ None) ⊎ Sits plan s.words own number v
-    pub first : (v : View S) → get_elem? s.views 0 ≡ some v → Leads own s.views v.others
+    pub first : (v : View S) → get_elem? s.views 0 ≡ some v → told (λ n. (own n).published) s.views ≡ None ∷ v.others

@@ -1,14 +1,12 @@
 use Rattle.std.proofs.Common.{◌+◌, ◌-◌, length, ap, ◌∙◌, sym, arith}
 use Rattle.cal_once.proofs.Seen.{length-joined}
 use Rattle.cal_once.proofs.Seats.{allows_join}
-use Rattle.cal_once.proofs.Within.{words_are}
 use Rattle.cal_once.proofs.rows.Rows.join.Goals as goal
 
 pub join_seat-requires : goal.join_seat-requires
 join_seat-requires g c =
     let rows = c.args.self.now in
-    let plan = rows.table.shared.key in
-    let long = words_are rows.plan plan rows.table.shared.table_id.words rows.plan_is rows.long in (
+    let plan = rows.table.shared.key in (
       c.requires.seats.0.table,
       ap (λ s. s.table_id) c.into_seat.ensures.seat ∙ c.requires.seats.1.table,
       c.into_seat.ensures.bare,

@@ -1,14 +1,13 @@
 use Rattle.std.proofs.Common.{false, refl, ap, ◌∙◌}
 use Rattle.cal_once.proofs.Moves.{allows_look}
-use Rattle.cal_once.proofs.Within.{words_are, slot_inside}
+use Rattle.cal_once.proofs.Within.{slot_inside}
 use Rattle.cal_once.proofs.rows.Rows.peek.Goals as goal
 
 pub load-requires : goal.load-requires
 load-requires g c =
-    let rows = c.args.self.now in
-    let long = words_are rows.plan rows.table.shared.key rows.table.shared.table_id.words rows.plan_is rows.long in (
+    let rows = c.args.self.now in (
       c.requires.seat.table,
-      slot_inside rows.table.shared.key.shape rows.table.shared.table_id.words c.args.place long c.requires.place,
+      slot_inside rows.table.shared.key.shape rows.table.shared.table_id.words c.args.place rows.long c.requires.place,
       allows_look g.S.RecSort rows.table.shared.key false rows.table.shared.table_id.slots c.args.seat.now.id c.args.place c.args.seat.now.me c.requires.seat.plan c.requires.place,
     )
 
