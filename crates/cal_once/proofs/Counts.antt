@@ -43,9 +43,9 @@ sum_below-times (x ∷ ps) n none =
     let rest = sum_below-times ps n (λ p h. let z = none p h in omega arith) in
     let both = sum_below-add (λ p. times p (x ∷ [])) (λ p. times p ps) n in
     ap (λ (f : ℕ → ℕ). sum_below f n) (λ i p. split p i) ∙ both ∙ omega arith
-    where
-      split : (p : ℕ) → times p (x ∷ ps) ≡ times p (x ∷ []) + times p ps
-      split p = omega arith
+  where
+    split : (p : ℕ) → times p (x ∷ ps) ≡ times p (x ∷ []) + times p ps
+    split p = omega arith
 
 module _ {S : Type 0} where
   -- a word that is met behind the first n slots leaves how many of these are known

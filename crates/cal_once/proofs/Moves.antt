@@ -105,7 +105,7 @@ module _ {S : Type 0} (law : RecSort S) (plan : Plan S) where
       let w : View S = looked noted place found v in
       let sits = sits_of s k id v at live in
       let mine : Sits plan s.words k.own id w = sits_again plan s.words s.words k.own k.own id v w sits refl refl sits.draft
-          (λ i x saw. ⊎_elim (sits.seen i x) (λ t. record { here = ap (λ (j : ℕ). get_or s.words j 0) (sym t.1) ∙ t.2; fixed = let e = t.1 in inl (omega arith, omega arith, λ z. t.0 (t.2 ∙ z)) }) (seen_looked noted place found v i x saw)) in
+      (λ i x saw. ⊎_elim (sits.seen i x) (λ t. record { here = ap (λ (j : ℕ). get_or s.words j 0) (sym t.1) ∙ t.2; fixed = let e = t.1 in inl (omega arith, omega arith, λ z. t.0 (t.2 ∙ z)) }) (seen_looked noted place found v i x saw)) in
       let kept = unmoved s k (place + 1) id me.1 v w at live mine refl in (
         w,
         keeps,
@@ -129,7 +129,7 @@ module _ {S : Type 0} (law : RecSort S) (plan : Plan S) where
       let st = k.laid.stands place h there.1 in
       let within : IsWithin plan.shape st.number (k.own st.number).used slot = subst (λ (x : ℕ). IsWithin plan.shape st.number (k.own st.number).used x) there.0 st.within in
       let mine : Sits plan s.words k.own id w = sits_again plan s.words s.words k.own k.own id v w sits refl refl sits.draft
-          (λ j x saw. ⊎_elim (λ t. record { here = ap (λ (n : ℕ). get_or s.words n 0) (sym t.0) ∙ t.1; fixed = let e = t.0 in let from = within.from in let to = within.to in inr (st.number, omega arith, omega arith) }) (sits.seen j x) saw) in
+      (λ j x saw. ⊎_elim (λ t. record { here = ap (λ (n : ℕ). get_or s.words n 0) (sym t.0) ∙ t.1; fixed = let e = t.0 in let from = within.from in let to = within.to in inr (st.number, omega arith, omega arith) }) (sits.seen j x) saw) in
       let kept = unmoved s k i id me.1 v w at live mine refl in (
         w,
         keeps,

@@ -62,7 +62,7 @@ module _ {S : Type 0} (law : RecSort S) (plan : Plan S) where
       let long = length-set s.views id both in
       let longer = length-set views other gone in
       let sits_both : Sits plan s.words k.own id both = sits_again plan s.words s.words k.own k.own id v both sits refl refl sits.draft
-          (λ i x saw. ⊎_elim (sits.seen i x) (sits_other.seen i x) (Saw_either v.seen w.seen i x saw)) in
+      (λ i x saw. ⊎_elim (sits.seen i x) (sits_other.seen i x) (Saw_either v.seen w.seen i x saw)) in
       record {
         own = k.own;
         laid = k.laid;

@@ -22,7 +22,7 @@ returns-then-slot-eq0-clause-visits g c =
     let is_arena = c.requires.sound.own_arena in
     let room = c.requires.room in
     published_here (ask_for g.S.RecSort plan (g.P.Packed.words c.args.rec.now)) c.args.seat.now.me.0 c.offer-slot.new.seat.me.0 c.args.at.place c.args.at.distance (arena_start plan.shape c.args.number + c.args.used) c.offer-slot.result
-        (left g (goal.at.returns-then-slot-eq0-clause-visits g c).After-offer-slot) c.if-slot-eq0.true (start_small plan.shape c.args.number c.args.used shape (omega arith) (omega arith)) c.requires.at
+    (left g (goal.at.returns-then-slot-eq0-clause-visits g c).After-offer-slot) c.if-slot-eq0.true (start_small plan.shape c.args.number c.args.used shape (omega arith) (omega arith)) c.requires.at
 
 -- the slot was filled by another seat
 learned : (g : _) (c : After-offer-slot g) → c.offer-slot.result ≢ 0 → Learns c.args.seat.now.me.0 c.offer-slot.new.seat.me.0 × Saw c.offer-slot.new.seat.me.0.seen (c.args.at.place + 1) c.offer-slot.result
