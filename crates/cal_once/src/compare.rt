@@ -24,8 +24,7 @@ impl<S: RecSort> Rows<S> {
         ensures seat { IsAt self.now seat.new × (seat.new.me.1 ≡ seat.old.me.1) }
         ensures same { OnTrue result (Holds seat.new.me.0 place (P.words rec.now)) }
         ensures other { OnFalse result (HoldsOther seat.new.me.0 place (P.words rec.now)) }
-        ensures learns { Learns seat.old.me.0 seat.new.me.0
-            × (seat.new.me.0.draft ≡ seat.old.me.0.draft) }
+        ensures learns { Learns seat.old.me.0 seat.new.me.0 }
         ensures sound { IsSound S.RecSort (plan_of self.now) seat.new.me.0 }
     {
         let size = rec.len();

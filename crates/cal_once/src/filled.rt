@@ -50,7 +50,7 @@ impl<S: RecSort> Rows<S> {
         ensures all { AllJoined seat.new.me.0 → times place (all_published seat.new.me.0) ≡ result }
         ensures sound { IsSound S.RecSort (plan_of self.now) seat.new.me.0 }
     {
-        if self.peek(seat, place) == 0 {
+        if self.load::<false>(seat, place) == 0 {
             return 0;
         }
         1

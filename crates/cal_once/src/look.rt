@@ -16,7 +16,7 @@ impl<S: RecSort> Rows<S> {
         ensures sees { Sees (plan_of self.now) place (view seat.old) (view seat.new) result }
         ensures sound { IsSound S.RecSort (plan_of self.now) (view seat.new) }
     {
-        self.note(&mut seat.seat, place) != 0
+        self.load::<true>(&mut seat.seat, place) != 0
     }
 
     /// The number of words of a known place's record.
@@ -28,7 +28,7 @@ impl<S: RecSort> Rows<S> {
         ensures size { IsSizeOf (view seat.new) place result }
         ensures sound { IsSound S.RecSort (plan_of self.now) (view seat.new) }
     {
-        self.peek(&mut seat.seat, place) / (1 << 32)
+        self.load::<false>(&mut seat.seat, place) / (1 << 32)
     }
 
     /// Word i of a known place's record.
@@ -41,7 +41,7 @@ impl<S: RecSort> Rows<S> {
         ensures word { IsWordOf (view seat.new) place i result }
         ensures sound { IsSound S.RecSort (plan_of self.now) (view seat.new) }
     {
-        let slot = self.peek(&mut seat.seat, place);
+        let slot = self.load::<false>(&mut seat.seat, place);
         let start = slot % (1 << 32);
         self.read(&mut seat.seat, place, slot, start + i)
     }

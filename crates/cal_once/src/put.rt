@@ -83,7 +83,7 @@ impl<S: RecSort> Rows<S> {
                 return answer;
             }
         }
-        let _slot = self.peek(seat, home);
+        let _slot = self.load::<false>(seat, home);
         Put::RowsFull
     }
 }

@@ -14,24 +14,13 @@ impl<S: RecSort> TableRule<u8, View<S>, Plan<S>> for WriteOnce {
     ghost first = { first_seat };
 }
 
-/// A load of a slot.
-pub struct Peek;
+/// A load of a slot, which may be noted where it is empty.
+pub struct Look<const NOTED: bool>;
 
-impl<S: RecSort> Play<u8, View<S>> for Peek {
-    ghost use Rattle.std.specs.Prelude.{false};
+impl<S: RecSort, const NOTED: bool> Play<u8, View<S>> for Look<NOTED> {
     ghost use Rattle.cal_once.specs.Steps.{looks};
 
-    ghost then = { looks S.RecSort false };
-}
-
-/// A load of a slot, which is noted where it is empty.
-pub struct Look;
-
-impl<S: RecSort> Play<u8, View<S>> for Look {
-    ghost use Rattle.std.specs.Prelude.{true};
-    ghost use Rattle.cal_once.specs.Steps.{looks};
-
-    ghost then = { looks S.RecSort true };
+    ghost then = { looks S.RecSort NOTED };
 }
 
 /// A load of a record's word.

@@ -101,14 +101,14 @@ impl<S: RecSort> Rows<S> {
     {
         let slot = match room {
             Room::Full { used, need } => {
-                let slot = self.note(seat, at.place);
+                let slot = self.load::<true>(seat, at.place);
                 if slot == 0 {
                     return Some(Put::ArenaFull { used, need });
                 }
                 slot
             }
             Room::Free { number, used } => {
-                let slot = self.peek(seat, at.place);
+                let slot = self.load::<false>(seat, at.place);
                 if slot == 0 {
                     return self.claim(seat, rec, number, used, at);
                 }

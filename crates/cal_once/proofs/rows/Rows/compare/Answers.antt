@@ -4,25 +4,6 @@ use Rattle.std.proofs.lemmas.Bool.{eqb-true}
 use Rattle.cal_once.proofs.Learning.{learns_nothing, learns_read, learns_then}
 use Rattle.cal_once.proofs.rows.Rows.compare.Goals as goal
 
-pub read-word-requires : goal.read-word-requires
-read-word-requires g c = record {
-  seat = c.loop-i.invariant.at;
-  place = c.requires.place;
-  known = c.loop-i.invariant.learns.more (c.args.place + 1) c.args.slot c.requires.known;
-  sound = c.loop-i.invariant.sound;
-  inside = (omega arith, omega arith);
-}
-
-pub loop-i-init : goal.loop-i-init
-loop-i-init g c = record {
-  at = c.requires.seat;
-  hand = refl;
-  known = λ k l. absurd (omega arith);
-  learns = learns_nothing c.args.seat.now.me.0;
-  drafted = refl;
-  sound = c.requires.sound;
-}
-
 pub loop-i-preserved : goal.loop-i-preserved
 loop-i-preserved g c =
     let inv = c.loop-i.invariant in
@@ -34,17 +15,5 @@ loop-i-preserved g c =
       hand = ap (λ m. m.1) read.view ∙ inv.hand;
       known = below_more _ _ (λ k l. step.0.more _ _ (inv.known k l)) (subst (λ (x : ℕ). Saw c.read-word.new.seat.me.0.seen (c.args.slot % 2 ^ 32 + c.loop-i.i) x) (sym same) step.1);
       learns = learns_then c.args.seat.now.me.0 c.loop-i.seat.me.0 c.read-word.new.seat.me.0 inv.learns step.0;
-      drafted = ap (λ m. m.0.draft) read.view ∙ inv.drafted;
       sound = read.sound _ inv.at.plan;
-    }
-
-pub returns : goal.returns
-returns g c =
-    let inv = c.loop-i.invariant in
-    record {
-      seat = (inv.at, inv.hand);
-      same = record { slot = c.args.slot; known = inv.learns.more _ _ c.requires.known; size = c.if-slot-size.false ∙ c.len-size.ensures; each = λ i l. inv.known i (omega arith) };
-      other = tt;
-      learns = (inv.learns, inv.drafted);
-      sound = inv.sound;
     }

@@ -7,9 +7,6 @@ use Rattle.cal_once.proofs.Learning.{learns_nothing, learns_then}
 use Rattle.cal_once.proofs.Counts.{sum_below, sum_below-times}
 use Rattle.cal_once.proofs.rows.Rows.count.Goals as goal
 
-pub loop-place-init : goal.loop-place-init
-loop-place-init g c = record { at = c.requires.seat; hand = refl; learns = learns_nothing c.args.seat.now.me.0; sound = λ h. absurd (omega arith); few = omega arith; known = refl; all = λ h. refl }
-
 pub loop-place-preserved : goal.loop-place-preserved
 loop-place-preserved g c =
     let inv = c.loop-place.invariant in

@@ -13,7 +13,5 @@ compare_exchange-requires g c =
           c.requires.word,
     )
 
-pub returns : goal.returns
-returns g c =
-    let offered = c.compare_exchange.ensures.2 c.args.place refl in
-    record { seat = record { table = c.compare_exchange.ensures.0 ∙ c.requires.seat.table; plan = ap (λ m. m.0.plan) offered.view ∙ c.requires.seat.plan }; offered = offered }
+pub returns-clause-seat : goal.returns-clause-seat
+returns-clause-seat g c = record { table = c.compare_exchange.ensures.0 ∙ c.requires.seat.table; plan = ap (λ m. m.0.plan) (c.compare_exchange.ensures.2 c.args.place refl).view ∙ c.requires.seat.plan }

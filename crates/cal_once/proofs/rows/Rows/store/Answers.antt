@@ -16,7 +16,5 @@ store-requires g c =
           c.requires.next c.requires.room (omega arith),
     )
 
-pub returns : goal.returns
-returns g c =
-    let stored = c.store.ensures.2 (plan_of c.args.self.now) c.args.k c.requires.seat.plan (omega (arith, c.requires.start)) in
-    record { seat = record { table = c.store.ensures.0 ∙ c.requires.seat.table; plan = ap (λ m. m.0.plan) stored ∙ c.requires.seat.plan }; stored = stored }
+pub returns-clause-seat : goal.returns-clause-seat
+returns-clause-seat g c = record { table = c.store.ensures.0 ∙ c.requires.seat.table; plan = ap (λ m. m.0.plan) (c.store.ensures.2 (plan_of c.args.self.now) c.args.k c.requires.seat.plan (omega (arith, c.requires.start))) ∙ c.requires.seat.plan }

@@ -13,8 +13,8 @@ pub returns-then-slot-eq0-clause-visits : goal.returns-then-slot-eq0-clause-visi
 returns-then-slot-eq0-clause-visits g c =
     let plan = plan_of c.args.self.now in
     let ask = ask_for g.S.RecSort plan (g.P.Packed.words c.args.rec.now) in
-    let seen = c.note-slot.ensures.looked in
-    let learns = learns_empty c.args.at.place c.note-slot.result c.args.seat.now.me.0 c.note-slot.new.seat.me.0 (ap (λ m. m.0) seen.view) c.if-slot-eq0.true in
+    let seen = c.load-slot.ensures.looked in
+    let learns = learns_empty c.args.at.place c.load-slot.result c.args.seat.now.me.0 c.load-slot.new.seat.me.0 (ap (λ m. m.0) seen.view) c.if-slot-eq0.true in
     let room = subst (λ r. HasRoom plan c.args.seat.now.me.0 (length (g.P.Packed.words c.args.rec.now)) r) c.in-Full.is c.requires.room in
     record {
       used_is = room.0;
@@ -22,23 +22,23 @@ returns-then-slot-eq0-clause-visits g c =
       too_long = room.2;
       place = c.args.at.place;
       distance = c.args.at.distance;
-      reached = reached_later ask c.args.seat.now.me.0 c.note-slot.new.seat.me.0 c.args.at.place c.args.at.distance learns.more c.requires.at;
+      reached = reached_later ask c.args.seat.now.me.0 c.load-slot.new.seat.me.0 c.args.at.place c.args.at.distance learns.more c.requires.at;
       empty = seen.empty plan c.requires.seat.plan c.if-slot-eq0.true;
       learns = learns;
     }
 
 pub claim-requires-clause-may : goal.claim-requires-clause-may
 claim-requires-clause-may g c =
-    let learns = learns_peek c.args.at.place c.peek-slot.result c.args.seat.now.me.0 c.peek-slot.new.seat.me.0 (ap (λ m. m.0) c.peek-slot.ensures.looked.view) in
-    may_later g.S.RecSort (ask_for g.S.RecSort (plan_of c.args.self.now) (g.P.Packed.words c.args.rec.now)) c.args.seat.now.me.0 c.peek-slot.new.seat.me.0 learns c.requires.may
+    let learns = learns_peek c.args.at.place c.load-slot-in-Free.result c.args.seat.now.me.0 c.load-slot-in-Free.new.seat.me.0 (ap (λ m. m.0) c.load-slot-in-Free.ensures.looked.view) in
+    may_later g.S.RecSort (ask_for g.S.RecSort (plan_of c.args.self.now) (g.P.Packed.words c.args.rec.now)) c.args.seat.now.me.0 c.load-slot-in-Free.new.seat.me.0 learns c.requires.may
 
 -- the slot was filled
 learned : (g : _) (c : Joined-room g) → Learns c.args.seat.now.me.0 c.match-room.seat.me.0 × Saw c.match-room.seat.me.0.seen (c.args.at.place + 1) c.match-room.slot
 learned g c =
     let Met : Seat ℕ (View g.row.S.Denot) × ℕ → Type 0 = λ z. Learns c.args.seat.now.me.0 z.0.me.0 × Saw z.0.me.0.seen (c.args.at.place + 1) z.1 in
     elim c.match-room.branch [
-      | in-Full+else-slot-eq0 w ↦ subst Met (λ i. (sym w.seat-is i, sym w.slot-is i)) (learns_slot true c.args.at.place w.note-slot.result c.args.seat.now.me.0 w.note-slot.new.seat.me.0 (ap (λ m. m.0) w.note-slot.ensures.looked.view) w.if-slot-eq0.false)
-      | in-Free+else-slot-eq0-2 w ↦ subst Met (λ i. (sym w.seat-is i, sym w.slot-is i)) (learns_slot false c.args.at.place w.peek-slot.result c.args.seat.now.me.0 w.peek-slot.new.seat.me.0 (ap (λ m. m.0) w.peek-slot.ensures.looked.view) w.if-slot-eq0-2.false)
+      | in-Full+else-slot-eq0 w ↦ subst Met (λ i. (sym w.seat-is i, sym w.slot-is i)) (learns_slot true c.args.at.place w.load-slot.result c.args.seat.now.me.0 w.load-slot.new.seat.me.0 (ap (λ m. m.0) w.load-slot.ensures.looked.view) w.if-slot-eq0.false)
+      | in-Free+else-slot-eq0-2 w ↦ subst Met (λ i. (sym w.seat-is i, sym w.slot-is i)) (learns_slot false c.args.at.place w.load-slot-in-Free.result c.args.seat.now.me.0 w.load-slot-in-Free.new.seat.me.0 (ap (λ m. m.0) w.load-slot-in-Free.ensures.looked.view) w.if-slot-eq0-2.false)
     ]
 
 pub meet-requires-clause-at : goal.meet-requires-clause-at
