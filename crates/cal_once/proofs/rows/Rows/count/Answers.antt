@@ -28,21 +28,14 @@ loop-place-preserved g c =
           let last = ap (sum_below (λ p. times p (all_published w))) next in omega arith;
     }
 
-pub returns : goal.returns
-returns g c =
+pub returns-clause-all : goal.returns-clause-all
+returns-clause-all g c joined =
     let inv = c.loop-place.invariant in
-    let plan = plan_of c.args.self.now in
-    let slots = ap (λ p. p.shape.slots) c.args.self.now.plan_is in
     let shape = c.args.self.now.shaped in
+    let slots = ap (λ p. p.shape.slots) c.args.self.now.plan_is in
     let homes = shape.some_home in
     let enough = shape.enough_slots in
     let v : View g.row.S.Denot = c.loop-place.seat.me.0 in
-    let ends : c.loop-place.place ≡ plan.shape.slots = omega arith in
+    let ends : c.loop-place.place ≡ (plan_of c.args.self.now).shape.slots = omega arith in
     let sound = inv.sound (omega arith) in
-    record {
-      seat = (inv.at, inv.hand);
-      learns = inv.learns;
-      known = inv.known ∙ ap (known_count v) ends;
-      all = λ joined. inv.all joined ∙ ap (sum_below (λ p. times p (all_published v))) ends ∙ sum_below-times (all_published v) plan.shape.slots (λ p h. (sound.once joined p).1 h);
-      sound = sound;
-    }
+    inv.all joined ∙ ap (sum_below (λ p. times p (all_published v))) ends ∙ sum_below-times (all_published v) (plan_of c.args.self.now).shape.slots (λ p h. (sound.once joined p).1 h)

@@ -10,10 +10,3 @@ split_seat-new-requires g c =
       omega arith,
       allows_split g.S.RecSort plan c.args.seat.now.seat.id c.args.seat.now.seat.me.0 c.requires.seat.plan c.requires.first c.requires.some_left,
     )
-
-pub overflow_add-seat : goal.overflow_add-seat
-overflow_add-seat g c =
-    let arenas = ap (λ p. p.shape.arenas) c.args.self.now.plan_is in
-    let made = c.args.seat.now.made_is in
-    let left = c.requires.some_left in
-    omega arith
