@@ -50,12 +50,6 @@ module _ {S : Type 0} where
     pub reached_later : (v w : View S) (place distance : ℕ) → KnowsMore v w → IsReached ask v place distance → IsReached ask w place distance
     reached_later v w place distance more r = record { is_place = r.is_place; near = r.near; at = r.at; before = λ e h. other_later v w (place_at ask e) ask.words more (r.before e h) }
 
-    -- one slot more was passed
-    pub passes_more : (v w : View S) (place distance : ℕ) → KnowsMore v w → IsReached ask v place distance → HoldsOther w place ask.words → PassesOthers ask w (distance + 1)
-    passes_more v w place distance more r here e h = dite (ℕ_discrete e distance)
-        (λ is. subst (λ (n : ℕ). HoldsOther w n ask.words) (r.at ∙ ap (place_at ask) (sym is)) here)
-        (λ ne. other_later v w (place_at ask e) ask.words more (r.before e (omega arith)))
-
     -- every slot was passed
     pub all_others : (v w : View S) → ask.home < ask.plan.shape.slots → KnowsMore v w → PassesOthers ask v ask.plan.shape.slots → AllHoldOthers ask w
     all_others v w h more before place p =

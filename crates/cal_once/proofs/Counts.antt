@@ -63,10 +63,3 @@ module _ {S : Type 0} where
       let here : cond (eqb (place + 1) (place + 1) || was_seen v.seen (place + 1)) 1 0 ≡ 1 = ap (λ (b : Bool). cond (b || was_seen v.seen (place + 1)) 1 0) (eq-eqb (place + 1) (place + 1) refl) in
       let next : place + 1 ≡ suc place = omega arith in
       ap (λ (z : View S). known_count z (place + 1)) e ∙ ap (known_count x) next ∙ (λ j. rest j + here j)
-
-  pub known_count-empty : (place found : ℕ) (v w : View S) → w ≡ looked false place found v → found ≡ 0 → ¬ (was_seen v.seen (place + 1) ≡ true) → known_count w (place + 1) ≡ known_count v place
-  known_count-empty place found v w is none unknown =
-      let e : w ≡ v = is ∙ ap (λ (n : ℕ). looked false place n v) none in
-      let next : place + 1 ≡ suc place = omega arith in
-      let not_seen : was_seen v.seen (place + 1) ≡ false = false_from_ne_true (was_seen v.seen (place + 1)) unknown in
-      ap (λ (z : View S). known_count z (place + 1)) e ∙ ap (known_count v) next ∙ ap (λ (b : Bool). known_count v place + cond b 1 0) not_seen ∙ omega arith

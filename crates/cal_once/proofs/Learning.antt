@@ -21,10 +21,6 @@ module _ {S : Type 0} where
   pub learns_later : (v w : View S) → Learns v w → IsLater v w
   learns_later v w l = (ap (λ (z : View S). z.plan) l.same, ap (λ (z : View S). z.number) l.same, ap (λ (z : View S). z.others) l.same, l.more)
 
-  -- a load of a record's word
-  pub learns_read : (v w : View S) (i x : ℕ) → w ≡ read i x v → Learns v w × Saw w.seen i x
-  learns_read v w i x is = subst (λ (z : View S). Learns v z × Saw z.seen i x) (sym is) (record { same = refl; more = λ j y h. inr h }, inl (refl, refl))
-
   -- a load of a filled slot
   pub looked_filled : (noted : Bool) (place found : ℕ) (v : View S) → found ≢ 0 → looked noted place found v ≡ record v { seen = (place + 1, found) ∷ v.seen }
   looked_filled noted place found v ne = ap (λ (b : Bool). let w : View S = record v {

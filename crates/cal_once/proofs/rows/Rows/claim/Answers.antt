@@ -32,8 +32,3 @@ pub meet-requires-clause-at : goal.meet-requires-clause-at
 meet-requires-clause-at g c =
     let l = learned g (goal.at.meet-requires-clause-at g c).After-offer-slot c.if-slot-eq0.false in
     reached_later (ask_for g.S.RecSort (plan_of c.args.self.now) (g.P.Packed.words c.args.rec.now)) c.args.seat.now.me.0 c.offer-slot.new.seat.me.0 c.args.at.place c.args.at.distance l.0.more c.requires.at
-
-pub returns-clause-visits : goal.returns-clause-visits
-returns-clause-visits g c =
-    let l = learned g (goal.at.returns-clause-visits g c).After-offer-slot c.if-slot-eq0.false in
-    visits_then (ask_for g.S.RecSort (plan_of c.args.self.now) (g.P.Packed.words c.args.rec.now)) c.args.seat.now.me.0 c.offer-slot.new.seat.me.0 c.meet.new.seat.me.0 c.args.at.place l.0 c.meet.result c.meet.ensures.visits

@@ -7,27 +7,6 @@ use Rattle.cal_once.proofs.Learning.{learns_nothing, learns_then}
 use Rattle.cal_once.proofs.Counts.{sum_below, sum_below-times}
 use Rattle.cal_once.proofs.rows.Rows.count.Goals as goal
 
-pub loop-place-preserved : goal.loop-place-preserved
-loop-place-preserved g c =
-    let inv = c.loop-place.invariant in
-    let place : ℕ = c.loop-place.place in
-    let one = c.count_one-count.ensures in
-    let w : View g.row.S.Denot = c.count_one-count.new.seat.me.0 in
-    let few = inv.few in
-    let next : place + 1 ≡ suc place = omega arith in
-    record {
-      at = one.seat.0;
-      hand = one.seat.1 ∙ inv.hand;
-      learns = learns_then c.args.seat.now.me.0 c.loop-place.seat.me.0 w inv.learns one.learns;
-      sound = λ h. one.sound;
-      few = omega arith;
-      known = ap (λ n. n + c.count_one-count.result) inv.known ∙ sym one.known;
-      all = λ joined.
-          let old = subst (λ (x : View g.row.S.Denot). AllJoined x → c.loop-place.count ≡ sum_below (λ p. times p (all_published x)) place) (sym one.learns.same) inv.all joined in
-          let here = one.all joined in
-          let last = ap (sum_below (λ p. times p (all_published w))) next in omega arith;
-    }
-
 pub returns-clause-all : goal.returns-clause-all
 returns-clause-all g c joined =
     let inv = c.loop-place.invariant in
