@@ -1,7 +1,5 @@
 -- How a search goes on, and how it ends.
 use Rattle.std.proofs.Common.{◌≡◌, ◌≢◌, ℕ, ◌+◌, ◌-◌, ◌%◌, ◌^◌, ◌<◌, ◌≤◌, Bool, false, true, cond, Option, Some, None, List, [], ◌∷◌, ◌++◌, length, get_or, sym, refl, ap, ◌∙◌, subst, inl, inr, ⊎_elim, arith, mod-eq_of_lt}
-use mathlib.Core.Logic.{dite}
-use native.Mathlib.Decide.{ℕ_discrete}
 use Rattle.std.proofs.lemmas.Bool.{cases_lt, ne_eqb}
 use Rattle.std.proofs.Math.Nat.{add-mod_right}
 use Rattle.cal_words.specs.declared.sort.RecSort.{Ghosts as RecSort}
@@ -13,7 +11,7 @@ use Rattle.cal_once.specs.declared.view.Plan.{Plan}
 use Rattle.cal_once.specs.Layout.{IsShape, arena_start, probe, start_in, slot_for, times}
 use Rattle.cal_once.specs.Views.{Saw, HoldsOther, AllJoined, KnowsMore, IsLater, Learns, all_published, noting, offered, placed, publishing}
 use Rattle.cal_once.specs.Steps.{WasEmpty}
-use Rattle.cal_once.specs.Puts.{Ask, Answers, AllHoldOthers, IsPlaced, IsReached, MayOffer, MayPut, PassesOthers, Visits, ask_for, place_at}
+use Rattle.cal_once.specs.Puts.{Ask, Answers, AllHoldOthers, IsReached, MayOffer, MayPut, PassesOthers, Visits, ask_for, place_at}
 use Rattle.cal_once.proofs.Seen.{Saw_left, Saw_right, Saw_placed}
 use Rattle.cal_once.proofs.Regions.{arena_inside, size-slot_for}
 use Rattle.cal_once.proofs.Learning.{learns_then, learns_later, knows_later, other_later, parent_later}

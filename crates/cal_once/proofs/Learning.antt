@@ -5,7 +5,7 @@ use native.Mathlib.Decide.{ℕ_discrete}
 use Rattle.std.proofs.lemmas.Bool.{ne_eqb}
 use Rattle.cal_once.specs.declared.view.View.{View}
 use Rattle.cal_once.specs.Layout.{start_in}
-use Rattle.cal_once.specs.Views.{Saw, Holds, HoldsOther, Knows, KnowsMore, KnowsParent, IsLater, Learns, looked, noting, read}
+use Rattle.cal_once.specs.Views.{Saw, Holds, HoldsOther, Knows, KnowsMore, KnowsParent, IsLater, Learns, looked, noting}
 use Rattle.cal_once.proofs.Seen.{seen_to_be, was_seen_from}
 
 module _ {S : Type 0} where

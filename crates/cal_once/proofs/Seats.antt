@@ -1,15 +1,15 @@
 -- A seat is split off, and joined again.
-use Rattle.std.proofs.Common.{◌≡◌, ◌≢◌, ℕ, suc, ◌+◌, ◌-◌, ◌<◌, ◌≤◌, Some, None, List, [], ◌∷◌, ◌++◌, length, set, sym, refl, ap, ◌∙◌, subst, inl, inr, ⊎_elim, arith, length-set, length-append}
+use Rattle.std.proofs.Common.{◌≡◌, ◌≢◌, ℕ, suc, ◌+◌, ◌-◌, ◌<◌, Some, None, List, [], ◌∷◌, ◌++◌, length, set, sym, refl, ap, ◌∙◌, subst, inl, inr, ⊎_elim, arith, length-set, length-append}
 use mathlib.Core.Option.{some}
 use lib.ListN.{get_elem?}
 use Rattle.atomic_table.specs.Table.{State, Splits, Joins}
-use Rattle.atomic_table.proofs.Lists.{at_set, at_longer, set_else}
+use Rattle.atomic_table.proofs.Lists.{at_set, set_else}
 use Rattle.cal_words.specs.declared.sort.RecSort.{Ghosts as RecSort}
 use Rattle.cal_once.specs.declared.view.View.{View}
 use Rattle.cal_once.specs.declared.view.Plan.{Plan}
 use Rattle.cal_once.specs.Views.{split_off, new_seat, joined, joined_with, spent}
 use Rattle.cal_once.specs.Rule.{Own, Sits, told_by}
-use Rattle.cal_once.proofs.Seen.{Saw_either, at_below, at_end}
+use Rattle.cal_once.proofs.Seen.{Saw_either, at_end}
 use Rattle.cal_once.proofs.Told.{length-told, told-append, told-joined, told-set}
 use Rattle.cal_once.proofs.Moves.{Rule, sits_again, sits_of}
 

@@ -1,12 +1,12 @@
 -- Lists of words that were seen, and lists of places.
-use Rattle.std.proofs.Common.{◌≡◌, ◌≢◌, ◌⊎◌, ℕ, zero, suc, ◌+◌, ◌<◌, ◌≤◌, Bool, true, false, eqb, ◌||◌, Option, Some, None, List, [], ◌∷◌, ◌++◌, length, get_or, sym, refl, ap, ◌∙◌, subst, inl, inr, ⊎_elim, arith}
+use Rattle.std.proofs.Common.{◌≡◌, ◌⊎◌, ℕ, zero, suc, ◌+◌, ◌<◌, Bool, true, eqb, ◌||◌, Option, List, [], ◌∷◌, ◌++◌, length, get_or, sym, refl, ap, subst, inl, inr, ⊎_elim, arith}
 use mathlib.Core.Logic.{dite}
 use mathlib.Core.Option.{some}
 use native.Mathlib.Decide.{ℕ_discrete}
 use lib.ListN.{get_elem?}
 use Rattle.std.proofs.lemmas.Bool.{eq-eqb, ne_eqb, or_right}
 use Rattle.cal_once.specs.Layout.{times}
-use Rattle.cal_once.specs.Views.{Saw, was_seen, placed, gathered, none_away, joined_with}
+use Rattle.cal_once.specs.Views.{Saw, was_seen, placed, joined_with}
 
 pub Saw_left : (xs ys : List (ℕ × ℕ)) (i x : ℕ) → Saw xs i x → Saw (xs ++ ys) i x
 Saw_left [] ys i x h = absurd h

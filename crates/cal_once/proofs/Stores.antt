@@ -5,7 +5,6 @@ use Rattle.std.proofs.Math.ListN.{get_or-append}
 use mathlib.Core.Logic.{dite}
 use mathlib.Core.Option.{none}
 use native.Mathlib.Decide.{ℕ_discrete}
-use Rattle.std.proofs.lemmas.Bool.{cases_lt}
 use Rattle.atomic_table.specs.Table.{Me, step, keeps, Allows}
 use Rattle.cal_words.specs.declared.sort.RecSort.{Ghosts as RecSort}
 use Rattle.cal_once.specs.declared.view.View.{View}

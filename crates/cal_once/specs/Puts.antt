@@ -1,4 +1,5 @@
-use Rattle.std.specs.Prelude.{◌≡◌, ◌⊎◌, ℕ, ◌+◌, ◌<◌, ◌≤◌, true, false, Bool, Option, Some, None, List, length}
+use Rattle.std.specs.Prelude.{◌≡◌, ℕ, ◌+◌, ◌<◌, ◌≤◌, true, false, Bool, Option, Some, None, List}
+use Rattle.std.specs.Prelude.{length}
 use Rattle.cal_words.specs.declared.sort.RecSort.{Ghosts as RecSort}
 use Rattle.cal_once.specs.declared.answer.Put.{Put}
 use Rattle.cal_once.specs.declared.answer.Put.TheVariants.{Placed, RowsFull, ArenaFull}
@@ -25,8 +26,8 @@ module _ {S : Type 0} where
     words = words;
   }
 
-  -- The seat may put the record: it is one of the table's sort, this seat may publish it, and the seat
-  -- knows its parent.
+  -- The seat may put the record: it is one of the table's sort, this seat may publish it, and the
+  -- seat knows its parent.
   pub record MayPut (law : RecSort S) (ask : Ask S) (v : View S) : Type 0 where
     pub is_record : law.is_record ask.plan.sort ask.words
     pub may_publish : law.may_publish ask.plan.sort v.number ask.words
@@ -70,8 +71,8 @@ module _ {S : Type 0} where
       pub reached : IsReached v place distance
       pub holds : Holds v place ask.words
 
-    -- A load found a slot empty that the seat didn't know, behind slots with other records; and the seat's
-    -- arena has no room for the record. The seat noted the slot.
+    -- A load found a slot empty that the seat didn't know, behind slots with other records; and the
+    -- seat's arena has no room for the record. The seat noted the slot.
     pub record LacksRoom (v w : View S) (used need : ℕ) : Type 0 where
       pub used_is : used ≡ v.used
       pub need_is : need ≡ length ask.words
@@ -82,8 +83,9 @@ module _ {S : Type 0} where
       pub empty : WasEmpty ask.plan v place
       pub learns : Learns (noting place v) w
 
-    -- What an answer tells, by what the seat knew before and what it knows now. The list of published places
-    -- grows exactly by a fresh place, and that of empty looks only where the arena is full.
+    -- What an answer tells, by what the seat knew before and what it knows now. The list of
+    -- published places grows exactly by a fresh place, and that of empty looks only where the arena
+    -- is full.
     abbrev pub Answers : View S → View S → Put → Type 0
     Answers v w (Placed place false) = IsPlaced w place × Learns v w
     Answers v w (Placed place true) = IsPlaced w place × Learns (publishing ask.words place v) w
@@ -96,6 +98,7 @@ module _ {S : Type 0} where
     Visits v w place (Some answer) = Answers v w answer
 
   -- a seat may offer its draft at a place that its search has reached
-  pub record MayOffer (law : RecSort S) (plan : Plan S) (v : View S) (place distance : ℕ) : Type 0 where
+  pub record MayOffer (law : RecSort S) (plan : Plan S) (v : View S) (place distance : ℕ)
+      : Type 0 where
     pub may : MayPut law (ask_for law plan v.draft) v
     pub reached : IsReached (ask_for law plan v.draft) v place distance

@@ -16,8 +16,8 @@ module _ {S : Type 0} where
   abbrev pub plan_of : Rows S → Plan S
   plan_of rows = rows.table.shared.key
 
-  -- the seat is one of this table's: the table and it, or the one that it was split from, come from one
-  -- `new`
+  -- the seat is one of this table's: the table and it, or the one that it was split from, come from
+  -- one `new`
   pub record IsAt (rows : Rows S) (seat : Seat ℕ (View S)) : Type 0 where
     pub table : seat.table_id ≡ rows.table.shared.table_id
     pub plan : seat.me.0.plan ≡ Some (plan_of rows)

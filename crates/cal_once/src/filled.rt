@@ -9,8 +9,8 @@ use atomic_table::Seat;
 use cal_words::RecSort;
 
 impl<S: RecSort> Rows<S> {
-    /// Loads every slot, and counts the places that the seat then knows. Where all seats were joined, these are
-    /// the records that were published.
+    /// Loads every slot, and counts the places that the seat then knows. Where all seats were
+    /// joined, these are the records that were published.
     pub fn filled(&self, seat: &mut RowSeat<S>) -> u64
         requires { IsSeatOf self.now seat.old }
         ensures seat { IsSeatOf self.now seat.new }

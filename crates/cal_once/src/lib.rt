@@ -1,9 +1,10 @@
-//! Write-once rows: a table in which many threads put records, without locks, and in which each record stands at one
-//! place for good.
+//! Write-once rows: a table in which many threads put records, without locks, and in which each
+//! record stands at one place for good.
 //!
-//! The layers above use that a place which a seat knows never changes, that equal records are at one place, and
-//! that a refusal tells what was found. Each call keeps the rule of `specs/Rule.antt` at each of its atomic
-//! steps, whatever other seats do. Nothing is promised of progress, of fairness, or of an order in time.
+//! The layers above use that a place which a seat knows never changes, that equal records are at
+//! one place, and that a refusal tells what was found. Each call keeps the rule of
+//! `specs/Rule.antt` at each of its atomic steps, whatever other seats do. Nothing is promised of
+//! progress, of fairness, or of an order in time.
 #![tactic(auto)]
 
 mod answer;

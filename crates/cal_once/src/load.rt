@@ -18,7 +18,9 @@ impl<S: RecSort> Rows<S> {
         ensures seat { IsAt self.now seat.new }
         ensures looked { Looked S.RecSort NOTED place seat.old.me result seat.new.me }
     {
-        self.table.shared.load::<Look<NOTED>>(seat, place as usize + 1)
+        self.table
+            .shared
+            .load::<Look<NOTED>>(seat, place as usize + 1)
     }
 
     // Loads word i of the table, which is one of the record of a place whose slot's word is `slot`.

@@ -42,8 +42,8 @@ impl<S: RecSort> Rows<S> {
         }
     }
 
-    // Exchanges the slot of a place, at this distance from the draft's home, against 0. The word that was
-    // found.
+    // Exchanges the slot of a place, at this distance from the draft's home, against 0. The word
+    // that was found.
     pub(crate) fn offer(
         &self,
         seat: &mut Seat<u8, View<S>>,
@@ -52,7 +52,8 @@ impl<S: RecSort> Rows<S> {
         word: u64,
     ) -> u64
         requires seat { IsAt self.now seat.old }
-        requires word { word ≡ slot_for (length seat.old.me.0.draft) (next_word self.now seat.old.me.0) }
+        requires word { word
+            ≡ slot_for (length seat.old.me.0.draft) (next_word self.now seat.old.me.0) }
         requires may { MayOffer S.RecSort (plan_of self.now) seat.old.me.0
             place distance }
         ensures seat { IsAt self.now seat.new }

@@ -11,9 +11,9 @@ use atomic_table::Seat;
 use cal_words::{Packed, RecSort};
 
 impl<S: RecSort> Rows<S> {
-    /// Finds a record, or publishes it in the seat's arena. The search begins at the distance `from` to the
-    /// record's home. It takes no memory and never waits, and takes time in the record's words and in the
-    /// slots that it passes.
+    /// Finds a record, or publishes it in the seat's arena. The search begins at the distance
+    /// `from` to the record's home. It takes no memory and never waits, and takes time in the
+    /// record's words and in the slots that it passes.
     pub fn put<P: Packed<S>>(&self, seat: &mut RowSeat<S>, rec: &P, from: u64) -> Put
         requires seat { IsSeatOf self.now seat.old }
         requires may { MayPut S.RecSort (ask_for S.RecSort (plan_of self.now) (P.words rec.now))

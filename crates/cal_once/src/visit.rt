@@ -26,8 +26,8 @@ impl<S: RecSort> Rows<S> {
         slot: u64,
     ) -> Option<Put>
         requires seat { IsAt self.now seat.old }
-        requires at { IsReached (ask_for S.RecSort (plan_of self.now) (P.words rec.now)) seat.old.me.0
-            at.place at.distance }
+        requires at { IsReached (ask_for S.RecSort (plan_of self.now) (P.words rec.now))
+            seat.old.me.0 at.place at.distance }
         requires known { Saw seat.old.me.0.seen (at.place + 1) slot }
         requires sound { IsSound S.RecSort (plan_of self.now) seat.old.me.0 }
         ensures seat { IsAt self.now seat.new × (seat.new.me.1 ≡ seat.old.me.1) }
@@ -44,7 +44,8 @@ impl<S: RecSort> Rows<S> {
         None
     }
 
-    // Publishes a record at a place whose slot was empty, or compares it with the one that came first.
+    // Publishes a record at a place whose slot was empty, or compares it with the one that came
+    // first.
     fn claim<P: Packed<S>>(
         &self,
         seat: &mut Seat<u8, View<S>>,
@@ -59,8 +60,8 @@ impl<S: RecSort> Rows<S> {
         requires own { (number ≡ seat.old.me.0.number) × (used ≡ seat.old.me.0.used) }
         requires room { seat.old.me.0.used + length (P.words rec.now)
             ≤ (plan_of self.now).shape.arena }
-        requires at { IsReached (ask_for S.RecSort (plan_of self.now) (P.words rec.now)) seat.old.me.0
-            at.place at.distance }
+        requires at { IsReached (ask_for S.RecSort (plan_of self.now) (P.words rec.now))
+            seat.old.me.0 at.place at.distance }
         requires sound { IsSound S.RecSort (plan_of self.now) seat.old.me.0 }
         ensures seat { IsAt self.now seat.new × (seat.new.me.1 ≡ seat.old.me.1) }
         ensures visits { Visits (ask_for S.RecSort (plan_of self.now) (P.words rec.now))
@@ -70,17 +71,18 @@ impl<S: RecSort> Rows<S> {
         let shape = self.plan.shape;
         let start = 1 + shape.slots + number * shape.arena + used;
         self.draft(seat, rec, start);
-        let slot = self.offer(seat, at.place, at.distance, rec.len() * (1 << 32) + start);
-        if slot == 0 {
+        let found = self.offer(seat, at.place, at.distance, rec.len() * (1 << 32) + start);
+        if found == 0 {
             return Some(Put::Placed {
                 place: at.place,
                 fresh: true,
             });
         }
-        self.meet(seat, rec, at, slot)
+        self.meet(seat, rec, at, found)
     }
 
-    // Looks at one slot of a search, and publishes the record there where it is empty and there is room.
+    // Looks at one slot of a search, and publishes the record there where it is empty and there is
+    // room.
     pub(crate) fn visit<P: Packed<S>>(
         &self,
         seat: &mut Seat<u8, View<S>>,
@@ -92,8 +94,8 @@ impl<S: RecSort> Rows<S> {
         requires may { MayPut S.RecSort (ask_for S.RecSort (plan_of self.now) (P.words rec.now))
             seat.old.me.0 }
         requires room { HasRoom (plan_of self.now) seat.old.me.0 (length (P.words rec.now)) room }
-        requires at { IsReached (ask_for S.RecSort (plan_of self.now) (P.words rec.now)) seat.old.me.0
-            at.place at.distance }
+        requires at { IsReached (ask_for S.RecSort (plan_of self.now) (P.words rec.now))
+            seat.old.me.0 at.place at.distance }
         ensures seat { IsAt self.now seat.new × (seat.new.me.1 ≡ seat.old.me.1) }
         ensures visits { Visits (ask_for S.RecSort (plan_of self.now) (P.words rec.now))
             seat.old.me.0 seat.new.me.0 at.place result }

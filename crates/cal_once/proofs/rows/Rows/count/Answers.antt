@@ -1,9 +1,8 @@
-use Rattle.std.proofs.Common.{◌≡◌, ◌+◌, ◌<◌, ◌≤◌, ℕ, suc, ap, ◌∙◌, sym, refl, subst, arith}
+use Rattle.std.proofs.Common.{◌≡◌, ap, ◌∙◌, arith}
 use Rattle.cal_once.specs.declared.view.View.{View}
 use Rattle.cal_once.specs.Layout.{times}
-use Rattle.cal_once.specs.Views.{AllJoined, all_published, known_count}
+use Rattle.cal_once.specs.Views.{all_published}
 use Rattle.cal_once.specs.Seats.{plan_of}
-use Rattle.cal_once.proofs.Learning.{learns_nothing, learns_then}
 use Rattle.cal_once.proofs.Counts.{sum_below, sum_below-times}
 use Rattle.cal_once.proofs.rows.Rows.count.Goals as goal
 

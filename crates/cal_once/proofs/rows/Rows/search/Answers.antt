@@ -1,5 +1,5 @@
-use Rattle.std.proofs.Common.{ap, subst, arith}
-use Rattle.cal_once.specs.Puts.{PassesOthers, Visits, ask_for}
+use Rattle.std.proofs.Common.{ap, arith}
+use Rattle.cal_once.specs.Puts.{ask_for}
 use Rattle.cal_once.specs.Seats.{plan_of}
 use Rattle.cal_once.proofs.Learning.{learns_peek, learns_then}
 use Rattle.cal_once.proofs.Answering.{all_others, answers_then}

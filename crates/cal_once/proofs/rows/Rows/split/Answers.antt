@@ -1,4 +1,4 @@
-use Rattle.std.proofs.Common.{ap, arith}
+use Rattle.std.proofs.Common.{arith}
 use Rattle.cal_once.proofs.Seats.{allows_split}
 use Rattle.cal_once.proofs.rows.Rows.split.Goals as goal
 
