@@ -1,10 +1,14 @@
-use Rattle.std.proofs.Common.{◌≡◌, ap, ◌∙◌, arith}
+use Rattle.std.proofs.Common.{◌≡◌, ap, ◌∙◌, refl, arith}
 use Rattle.cal_once.specs.declared.view.View.{View}
 use Rattle.cal_once.specs.Layout.{times}
 use Rattle.cal_once.specs.Views.{all_published}
 use Rattle.cal_once.specs.Seats.{plan_of}
+use Rattle.cal_once.proofs.Learning.{learns_nothing}
 use Rattle.cal_once.proofs.Counts.{sum_below, sum_below-times}
 use Rattle.cal_once.proofs.rows.Rows.count.Goals as goal
+
+pub loop-place-init : goal.loop-place-init
+loop-place-init g c = record { at = c.requires.seat; hand = refl; learns = learns_nothing c.args.seat.now.me.0; sound = λ h. absurd (omega arith); few = omega arith; known = refl; all = λ h. refl }
 
 pub returns-clause-all : goal.returns-clause-all
 returns-clause-all g c joined =
