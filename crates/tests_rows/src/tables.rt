@@ -1,45 +1,39 @@
 ghost use Rattle.std.specs.Prelude.{◌≡◌, ◌+◌, ◌^◌, ◌<◌, ◌≤◌, All, IfOk, length, vec_len};
-ghost use Rattle.cal_words.specs.Words.{text_length};
 ghost use Rattle.cal_once.specs.Layout.{IsShape};
 ghost use Rattle.cal_once.specs.Seats.{IsSeatOf, plan_of, view};
 ghost use Rattle.cal_once.specs.Views.{first_seat};
 
-use crate::{Put, RowSeat, Rows, Shape, known_for_good, one_place_each};
-use cal_value::{Text, Variant};
+use cal_once::{Put, RowSeat, Rows, Shape, known_for_good, one_place_each};
+use cal_value::Variant;
 use cal_words::{NodeId, NodeRec, NodeSort, know_node};
 use std::alloc::Global;
 use std::test::Fail;
 use std::thread;
 use std::thread::Threads;
 
-// Puts a child of the root.
-fn put_child(rows: &Rows<NodeSort>, seat: &mut RowSeat<NodeSort>, attr: u32, value: &Variant) -> Put
+// Puts the child of the root with this attribute, which takes five words.
+fn put_child(rows: &Rows<NodeSort>, seat: &mut RowSeat<NodeSort>, attr: u32) -> Put
     requires seat { IsSeatOf rows.now seat.old }
-    requires short { text_length value.now < 2 ^ 32 }
     ensures seat { IsSeatOf rows.now seat.new }
 {
     let rec = NodeRec {
         parent: NodeId(0),
         depth: 1,
         attr,
-        value,
+        value: &Variant::Bool(true),
     };
     know_node(&rec);
     rows.put(seat, &rec, 0)
 }
 
-// The answers to these letters, put as children of the root in order.
-fn answers(alloc: Global, shape: Shape, letters: &[u8]) -> Result<Vec<Put>, Fail>
+// The answers to children of the root with these attributes, put in order.
+fn answers(alloc: Global, shape: Shape, attrs: &[u32]) -> Result<Vec<Put>, Fail>
     requires { IsShape shape }
 {
     let (rows, mut seat) = Rows::new(alloc, shape, NodeSort)?;
     let mut all = Vec::new(alloc);
-    for letter in letters {
-        let mut text = Text::new(alloc);
-        text.push(char::from(*letter))?;
-        if text.len() == 1 {
-            all.push(put_child(&rows, &mut seat, 0, &Variant::Text(text)))?;
-        }
+    for attr in attrs {
+        all.push(put_child(&rows, &mut seat, *attr))?;
     }
     Ok(all)
 }
@@ -48,13 +42,15 @@ fn new_at(place: u64) -> Put {
     Put::Placed { place, fresh: true }
 }
 
+fn found_at(place: u64) -> Put {
+    Put::Placed {
+        place,
+        fresh: false,
+    }
+}
+
 #[test]
 fn each_record_has_one_place(rt: HostRuntime) -> Result<(), Fail> {
-    let alloc = rt.alloc();
-    let again = Put::Placed {
-        place: 0,
-        fresh: false,
-    };
     for slots in 1..9 {
         let shape = Shape {
             slots,
@@ -62,21 +58,23 @@ fn each_record_has_one_place(rt: HostRuntime) -> Result<(), Fail> {
             arena: 64,
             arenas: 1,
         };
-        let all = answers(alloc, shape, b"abcdefgha")?;
+        let all = answers(rt.alloc(), shape, &[0, 1, 2, 3, 4, 5, 6, 7, 0])?;
         for (at, answer) in all.iter().enumerate() {
+            let at = at as u64;
             let wanted = if at == 8 {
-                again
-            } else if (at as u64) < slots {
-                new_at(at as u64)
+                found_at(0)
+            } else if at < slots {
+                new_at(at)
             } else {
                 Put::RowsFull
             };
-            assert!(rt; *answer == wanted, "letter {at} of {slots} slots");
+            assert!(rt; *answer == wanted, "record {at} of {slots} slots");
         }
     }
     Ok(())
 }
 
+// With four homes, attributes 3 and 7 begin at slot 0, and 0, 1 and 2 at the slots behind it.
 #[test]
 fn a_record_is_placed_from_its_home(rt: HostRuntime) -> Result<(), Fail> {
     let four = Shape {
@@ -85,27 +83,30 @@ fn a_record_is_placed_from_its_home(rt: HostRuntime) -> Result<(), Fail> {
         arena: 64,
         arenas: 1,
     };
-    let first = Put::Placed {
-        place: 0,
-        fresh: false,
-    };
+    let all = answers(rt.alloc(), four, &[3, 0, 1, 2, 7, 3])?;
     let wanted = [
         new_at(0),
         new_at(1),
         new_at(2),
         new_at(3),
         Put::RowsFull,
-        first,
+        found_at(0),
     ];
-    assert!(rt; answers(rt.alloc(), four, b"abcdea")?.as_slice() == wanted.as_slice());
+    assert!(rt; all.as_slice() == wanted.as_slice());
+    Ok(())
+}
+
+#[test]
+fn a_full_arena_is_told(rt: HostRuntime) -> Result<(), Fail> {
     let short = Shape {
         slots: 9,
         homes: 1,
         arena: 5,
         arenas: 1,
     };
-    let full = Put::ArenaFull { used: 5, need: 5 };
-    assert!(rt; answers(rt.alloc(), short, b"ab")?.as_slice() == [new_at(0), full].as_slice());
+    let all = answers(rt.alloc(), short, &[0, 1])?;
+    let wanted = [new_at(0), Put::ArenaFull { used: 5, need: 5 }];
+    assert!(rt; all.as_slice() == wanted.as_slice());
     Ok(())
 }
 
@@ -122,12 +123,7 @@ fn put_many(rows: &Rows<NodeSort>, worker: &mut Worker, from: u32, count: u32)
     ensures seat { IsSeatOf rows.now worker.new.seat }
 {
     for attr in from..from + count {
-        if let Put::Placed { place, .. } = put_child(
-            rows,
-            &mut worker.seat,
-            attr,
-            &Variant::Bool(true),
-        ) {
+        if let Put::Placed { place, .. } = put_child(rows, &mut worker.seat, attr) {
             let _ = worker.places.push(place);
         }
     }
@@ -249,7 +245,7 @@ fn a_known_place_is_read(rt: HostRuntime) -> Result<(), Fail> {
     };
     let (rows, mut seat) = Rows::new(rt.alloc(), shape, NodeSort)?;
     assert!(rt; !rows.look(&mut seat, 0));
-    let _ = put_child(&rows, &mut seat, 7, &Variant::Bool(true));
+    let _ = put_child(&rows, &mut seat, 7);
     let is_known = rows.look(&mut seat, 0);
     assert!(rt; is_known && !rows.look(&mut seat, 1));
     if rows.look(&mut seat, 0) {

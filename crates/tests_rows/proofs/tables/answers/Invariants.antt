@@ -1,5 +1,5 @@
 use Rattle.cal_once.specs.Seats.{IsSeatOf}
-use Rattle.cal_once.proofs.tests.answers.Given as goal
+use Rattle.tests_rows.proofs.tables.answers.Given as goal
 
-abbrev pub invariant-loop-letter : goal.invariant-loop-letter
-invariant-loop-letter l = IsSeatOf l.rows l.seat
+abbrev pub invariant-loop-attr : goal.invariant-loop-attr
+invariant-loop-attr l = IsSeatOf l.rows l.seat

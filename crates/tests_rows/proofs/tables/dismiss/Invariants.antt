@@ -1,6 +1,6 @@
 use Rattle.std.proofs.Common.{◌≡◌, All, vec_len}
 use Rattle.cal_once.specs.Seats.{IsSeatOf, view}
-use Rattle.cal_once.proofs.tests.dismiss.Given as goal
+use Rattle.tests_rows.proofs.tables.dismiss.Given as goal
 
 -- each worker that is left has a seat of the table
 abbrev pub invariant-loop-worker : goal.invariant-loop-worker

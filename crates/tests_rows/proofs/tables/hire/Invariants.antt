@@ -1,6 +1,6 @@
 use Rattle.std.proofs.Common.{◌≡◌, All, length, vec_len}
 use Rattle.cal_once.specs.Seats.{IsSeatOf, view}
-use Rattle.cal_once.proofs.tests.hire.Given as goal
+use Rattle.tests_rows.proofs.tables.hire.Given as goal
 
 -- each worker so far has a seat of the table
 abbrev pub invariant-loop-number : goal.invariant-loop-number
