@@ -69,12 +69,8 @@ fn record(alloc: Global, shape: &Shape, variant: usize) -> Result<Rec> {
 }
 
 fn entry(alloc: Global, name: &str, kind: Kind, props: u32, value: Variant) -> Result<Entry> {
-    Ok(Entry {
-        attr: Attribute {
-            name: Text::from_str(alloc, name)?,
-            kind,
-            props: Props(props),
-        },
-        value,
-    })
+    let name = Text::from_str(alloc, name)?;
+    let props = Props(props);
+    let attr = Attribute { name, kind, props };
+    Ok(Entry { attr, value })
 }
