@@ -1,4 +1,5 @@
 pub mod Seen
+pub mod Told
 pub mod Regions
 pub mod Sounds
 pub mod Moves
@@ -7,7 +8,6 @@ pub mod Offers
 pub mod Seats
 pub mod Within
 pub mod Learning
-pub mod Finding
-pub mod Placing
+pub mod Answering
 pub mod Opening
 pub mod Counts

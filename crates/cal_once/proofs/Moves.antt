@@ -1,5 +1,5 @@
 -- Steps that change the view of their own seat alone.
-use Rattle.std.proofs.Common.{◌≡◌, ◌≢◌, ◌⊎◌, ℕ, ◌+◌, ◌<◌, ◌≤◌, Bool, cond, Option, Some, List, ◌∷◌, length, get_or, set, sym, refl, ap, ◌∙◌, subst, inl, inr, ⊎_elim, arith, length-set}
+use Rattle.std.proofs.Common.{◌≡◌, ◌≢◌, ◌⊎◌, ℕ, ◌+◌, ◌<◌, ◌≤◌, Bool, cond, Option, Some, None, List, ◌∷◌, length, get_or, set, sym, refl, ap, ◌∙◌, subst, inl, inr, ⊎_elim, arith, length-set}
 use mathlib.Core.Logic.{dite}
 use mathlib.Core.Option.{none, some}
 use native.Mathlib.Decide.{ℕ_discrete}
@@ -8,15 +8,30 @@ use lib.Seq.{set-get_or}
 use Rattle.std.proofs.lemmas.Bool.{eq-eqb, ne_eqb}
 use Rattle.atomic_table.specs.Table.{State, Me, step, keeps, stepped, Allows}
 use Rattle.atomic_table.proofs.Lists.{at_set, set_here}
+use Rattle.cal_words.specs.declared.sort.RecSort.{Ghosts as RecSort}
 use Rattle.cal_once.specs.declared.view.View.{View}
 use Rattle.cal_once.specs.declared.view.Plan.{Plan}
-use Rattle.cal_once.specs.Layout.{IsWithin, size_in, start_in, slot_of}
+use Rattle.cal_once.specs.Layout.{IsWithin, arena_start, size_in, start_in, slot_of}
 use Rattle.cal_once.specs.Views.{Saw, looked, read}
 use Rattle.cal_once.specs.Sound.{IsSound}
-use Rattle.cal_once.specs.Rule.{IsLaid, Sits, Leads, Kept}
+use Rattle.cal_once.specs.Rule.{Own, IsFixed, IsLaid, Sits, Kept}
 use Rattle.cal_once.specs.Steps.{WasEmpty, Looked, looks, reads}
 use Rattle.cal_once.proofs.Seen.{at_below}
+use Rattle.cal_once.proofs.Told.{told-set}
 use Rattle.cal_once.proofs.Sounds.{seen_slot, is_sound, was_empty}
+
+-- a seat that has published nothing more, and whose draft is there
+pub sits_again : {S : Type 0} (plan : Plan S) (words words' : List ℕ) (own own' : ℕ → Own) (id : ℕ) (v w : View S) → Sits plan words own id v → own' id ≡ own id → w ≡ record v { looks = w.looks; seen = w.seen; others = w.others }
+    → ((k : ℕ) → k < length v.draft → get_or words' (arena_start plan.shape id + v.used + k) 0 ≡ get_or v.draft k 0) → ((i x : ℕ) → Saw w.seen i x → IsFixed plan words' own' i x) → Sits plan words' own' id w
+sits_again {S} plan words words' own own' id v w sits same is draft seen = subst (λ (z : View S). Sits plan words' own' id z) (sym is) record {
+  plan_is = sits.plan_is;
+  number_is = sits.number_is;
+  used_is = sits.used_is ∙ ap (λ (o : Own). o.used) (sym same);
+  published_is = sits.published_is ∙ ap (λ (o : Own). o.published) (sym same);
+  room = sits.room;
+  draft = draft;
+  seen = seen;
+}
 
 -- what is added to the words that were seen at a load of a slot
 pub seen_looked : {S : Type 0} (noted : Bool) (place found : ℕ) (v : View S) (i x : ℕ) → Saw (looked noted place found v).seen i x → Saw v.seen i x ⊎ ((found ≢ 0) × (place + 1 ≡ i) × (found ≡ x))
@@ -24,66 +39,53 @@ seen_looked noted place found v i x h = dite (ℕ_discrete found 0)
     (λ e. inl (subst (λ (b : Bool). Saw (cond b v.seen ((place + 1, found) ∷ v.seen)) i x) (eq-eqb found 0 e) h))
     (λ ne. ⊎_elim (λ t. inr (ne, t.0, t.1)) inl (subst (λ (b : Bool). Saw (cond b v.seen ((place + 1, found) ∷ v.seen)) i x) (ne_eqb found 0 ne) h))
 
-module _ {S : Type 0} (IsRecord : S → List ℕ → Type 0) (home_of : ℕ → List ℕ → ℕ) (MayPublish : S → ℕ → List ℕ → Type 0) (long_record : (sort : S) (ws : List ℕ) → IsRecord sort ws → 2 ≤ length ws) (plan : Plan S) where
+module _ {S : Type 0} (law : RecSort S) (plan : Plan S) where
   abbrev pub Rule : State ℕ (View S) → Type 0
-  Rule = Kept IsRecord home_of MayPublish plan
+  Rule = Kept law plan
 
-  pub sits_of : (s : State ℕ (View S)) (k : Rule s) (id : ℕ) (v : View S) → get_elem? s.views id ≡ some v → v.plan ≡ Some plan → Sits plan s.words k.used k.published id v
+  pub sits_of : (s : State ℕ (View S)) (k : Rule s) (id : ℕ) (v : View S) → get_elem? s.views id ≡ some v → v.plan ≡ Some plan → Sits plan s.words k.own id v
   sits_of s k id v at live = ⊎_elim (λ none. absurd (cc (none, live))) (λ sits. sits) (k.seats id v at)
 
-  -- the first seat leads still where the seat id has another view
-  leads_set : (views : List (View S)) (published published' : ℕ → List ℕ) (id : ℕ) (v w : View S) (others : List (Option (List ℕ))) → get_elem? views id ≡ some v → v.plan ≡ Some plan → w.plan ≡ Some plan → ((n : ℕ) → n ≢ id → published' n ≡ published n)
-      → Leads published views others → Leads published' (set views id w) others
-  leads_set views published published' id v w others at live live_after same l = record {
-    made = l.made ∙ sym (length-set views id w);
-    back = λ k places there.
-        let b = l.back k places there in
-        let apart : k + 1 ≢ id = λ e. let none = b.1 v (subst (λ (i : ℕ). get_elem? views i ≡ some v) (sym e) at) in absurd (cc (none, live)) in
-        (b.0 ∙ sym (same (k + 1) apart), λ x here. ⊎_elim (λ t. absurd (apart t.0)) (λ t. b.1 x t.1) (at_set views id (k + 1) w x here));
-    gone = λ k x here none. ⊎_elim (λ t. absurd (let same_plan : w.plan ≡ x.plan = ap (λ (z : View S). z.plan) t.1 in cc)) (λ t. l.gone k x t.1 none) (at_set views id (k + 1) w x here);
-  }
-
   -- the seat id has another view, and the words are others
-  pub moved : (s : State ℕ (View S)) (k : Rule s) (id : ℕ) (v w : View S) (words : List ℕ) (used : ℕ → ℕ) (published : ℕ → List ℕ) → get_elem? s.views id ≡ some v → v.plan ≡ Some plan
-      → IsLaid IsRecord home_of MayPublish plan words used published → Sits plan words used published id w → w.others ≡ v.others
-      → ((n : ℕ) → n ≢ id → (used n ≡ k.used n) × (published n ≡ k.published n)) → ((j : ℕ) (u : View S) → j ≢ id → Sits plan s.words k.used k.published j u → Sits plan words used published j u)
+  pub moved : (s : State ℕ (View S)) (k : Rule s) (id : ℕ) (v w : View S) (words : List ℕ) (own : ℕ → Own) → get_elem? s.views id ≡ some v → v.plan ≡ Some plan
+      → IsLaid law plan words own → Sits plan words own id w → w.others ≡ v.others
+      → ((n : ℕ) → n ≢ id → own n ≡ k.own n) → ((j : ℕ) (u : View S) → j ≢ id → Sits plan s.words k.own j u → Sits plan words own j u)
       → Rule record { words = words; homes = s.homes; views = set s.views id w }
-  moved s k id v w words used published at live laid mine same apart others =
+  moved s k id v w words own at live laid mine same apart others =
       let below = at_below s.views v id at in
       let long = length-set s.views id w in
       record {
-        used = used;
-        published = published;
+        own = own;
         laid = laid;
         few = let few = k.few in omega arith;
-        unmade = λ n past. let more : length s.views ≤ n = omega arith in let a = apart n (λ e. omega arith) in let u = k.unmade n more in (a.0 ∙ u.0, a.1 ∙ u.1);
-        seats = λ j u here. ⊎_elim (λ t. inr (subst (λ (z : ℕ × View S). Sits plan words used published z.0 z.1) (λ i. (sym t.0 i, t.1 i)) mine))
+        unmade = λ n past. let more : length s.views ≤ n = omega arith in apart n (λ e. omega arith) ∙ k.unmade n more;
+        seats = λ j u here. ⊎_elim (λ t. inr (subst (λ (z : ℕ × View S). Sits plan words own z.0 z.1) (λ i. (sym t.0 i, t.1 i)) mine))
             (λ t. ⊎_elim inl (λ sits. inr (others j u t.0 sits)) (k.seats j u t.1)) (at_set s.views id j w u here);
-        first = λ u here. ⊎_elim
-            (λ t. let old = k.first v (subst (λ (i : ℕ). get_elem? s.views i ≡ some v) (sym t.0) at) in subst (λ (os : List (Option (List ℕ))). Leads published (set s.views id w) os) (sym same ∙ ap (λ (x : View S). x.others) t.1)
-            (leads_set s.views k.published published id v w v.others at live mine.plan_is (λ n ne. (apart n ne).1) old))
-            (λ t. leads_set s.views k.published published id v w u.others at live mine.plan_is (λ n ne. (apart n ne).1) (k.first u t.1)) (at_set s.views id 0 w u here);
+        first = λ u here.
+            let before = told-set (λ n. (k.own n).published) (λ n. (own n).published) plan s.views id v w at live mine.plan_is (λ n ne. ap (λ (o : Own). o.published) (apart n ne)) in ⊎_elim
+            (λ t. before ∙ k.first v (subst (λ (i : ℕ). get_elem? s.views i ≡ some v) (sym t.0) at) ∙ ap (λ (os : List (Option (List ℕ))). None ∷ os) (sym same ∙ ap (λ (x : View S). x.others) t.1))
+            (λ t. before ∙ k.first u t.1) (at_set s.views id 0 w u here);
       }
 
   -- what the rule says of a seat
-  pub sound_in : (s : State ℕ (View S)) (k : Rule s) (id : ℕ) (v : View S) → get_elem? s.views id ≡ some v → v.plan ≡ Some plan → IsSound IsRecord MayPublish plan v
+  pub sound_in : (s : State ℕ (View S)) (k : Rule s) (id : ℕ) (v : View S) → get_elem? s.views id ≡ some v → v.plan ≡ Some plan → IsSound law plan v
   sound_in s k id v at live =
       let below = at_below s.views v id at in
       let few = k.few in
-      is_sound IsRecord home_of MayPublish long_record plan s.words k.used k.published k.laid s.views id v (sits_of s k id v at live) (λ e. k.first v (subst (λ (i : ℕ). get_elem? s.views i ≡ some v) e at)) (λ n past. (k.unmade n past).1) (omega arith)
+      is_sound law plan s.words k.own k.laid s.views id v (sits_of s k id v at live) (λ e. k.first v (subst (λ (i : ℕ). get_elem? s.views i ≡ some v) e at)) k.unmade (omega arith)
 
   pub empty_in : (s : State ℕ (View S)) (k : Rule s) (id : ℕ) (v : View S) (place : ℕ) → get_elem? s.views id ≡ some v → v.plan ≡ Some plan → place < plan.shape.slots → slot_of s.words place ≡ 0 → WasEmpty plan v place
   empty_in s k id v place at live h empty =
-      was_empty IsRecord home_of MayPublish long_record plan s.words k.used k.published k.laid s.views id v (sits_of s k id v at live) (λ e. k.first v (subst (λ (i : ℕ). get_elem? s.views i ≡ some v) e at)) (λ n past. (k.unmade n past).1) place h empty
+      was_empty law plan s.words k.own k.laid s.views id v (sits_of s k id v at live) (λ e. k.first v (subst (λ (i : ℕ). get_elem? s.views i ≡ some v) e at)) k.unmade place h empty
 
   -- a step that changes no word
-  pub unmoved : (s : State ℕ (View S)) (k : Rule s) (i id : ℕ) (cs : List (ℕ × ℕ)) (v w : View S) → get_elem? s.views id ≡ some v → v.plan ≡ Some plan → Sits plan s.words k.used k.published id w → w.others ≡ v.others
+  pub unmoved : (s : State ℕ (View S)) (k : Rule s) (i id : ℕ) (cs : List (ℕ × ℕ)) (v w : View S) → get_elem? s.views id ≡ some v → v.plan ≡ Some plan → Sits plan s.words k.own id w → w.others ≡ v.others
       → Rule (stepped s i (get_or s.words i 0) id cs w keeps)
   unmoved s k i id cs v w at live mine same = subst (λ (ws : List ℕ). Rule record { words = ws; homes = s.homes; views = set s.views id w }) (sym (set-get_or s.words i 0))
-      (moved s k id v w s.words k.used k.published at live k.laid mine same (λ _ _. (refl, refl)) (λ _ _ _ sits. sits))
+      (moved s k id v w s.words k.own at live k.laid mine same (λ _ _. refl) (λ _ _ _ sits. sits))
 
   -- what is told of the seat after its step
-  pub told : (s : State ℕ (View S)) (words : List ℕ) (id : ℕ) (v w : View S) → Rule record { words = words; homes = s.homes; views = set s.views id w } → get_elem? s.views id ≡ some v → w.plan ≡ Some plan → IsSound IsRecord MayPublish plan w
+  pub told : (s : State ℕ (View S)) (words : List ℕ) (id : ℕ) (v w : View S) → Rule record { words = words; homes = s.homes; views = set s.views id w } → get_elem? s.views id ≡ some v → w.plan ≡ Some plan → IsSound law plan w
   told s words id v w k at live = sound_in record { words = words; homes = s.homes; views = set s.views id w } k id w (set_here s.views id w (at_below s.views v id at)) live
 
   -- one plan is known
@@ -91,68 +93,47 @@ module _ {S : Type 0} (IsRecord : S → List ℕ → Type 0) (home_of : ℕ → 
   of_plan F v live f p is = let same : plan ≡ p = cc in subst F same f
 
   -- a filled slot was met
-  pub met : (s : State ℕ (View S)) (k : Rule s) (id place found : ℕ) (v : View S) → Sits plan s.words k.used k.published id v → place < plan.shape.slots → slot_of s.words place ≡ found → found ≢ 0
-      → Sits plan s.words k.used k.published id (record v { seen = (place + 1, found) ∷ v.seen })
-  met s k id place found v sits h is ne = record {
-    plan_is = sits.plan_is;
-    number_is = sits.number_is;
-    used_is = sits.used_is;
-    published_is = sits.published_is;
-    room = sits.room;
-    draft = sits.draft;
-    seen = λ i x saw. ⊎_elim (λ t. record { here = ap (λ (j : ℕ). get_or s.words j 0) (sym t.0) ∙ is ∙ t.1; fixed = let e = t.0 in inl (omega arith, omega arith, λ z. ne (t.1 ∙ z)) }) (sits.seen i x) saw;
-  }
+  pub met : (s : State ℕ (View S)) (k : Rule s) (id place found : ℕ) (v : View S) → Sits plan s.words k.own id v → place < plan.shape.slots → slot_of s.words place ≡ found → found ≢ 0
+      → Sits plan s.words k.own id (record v { seen = (place + 1, found) ∷ v.seen })
+  met s k id place found v sits h is ne = sits_again plan s.words s.words k.own k.own id v (record v { seen = (place + 1, found) ∷ v.seen }) sits refl refl sits.draft
+      (λ i x saw. ⊎_elim (λ t. record { here = ap (λ (j : ℕ). get_or s.words j 0) (sym t.0) ∙ is ∙ t.1; fixed = let e = t.0 in inl (omega arith, omega arith, λ z. ne (t.1 ∙ z)) }) (sits.seen i x) saw)
 
-  pub allows_look : (noted : Bool) (slots id place : ℕ) (me : Me ℕ (View S)) → me.0.plan ≡ Some plan → place < plan.shape.slots → Allows Rule slots id me (place + 1) (λ x. x) (looks IsRecord MayPublish noted (step slots (place + 1) 0 0 none) me)
+  pub allows_look : (noted : Bool) (slots id place : ℕ) (me : Me ℕ (View S)) → me.0.plan ≡ Some plan → place < plan.shape.slots → Allows Rule slots id me (place + 1) (λ x. x) (looks law noted (step slots (place + 1) 0 0 none) me)
   allows_look noted slots id place me live h s k _ at _ =
       let v : View S = me.0 in
       let found : ℕ = slot_of s.words place in
       let w : View S = looked noted place found v in
       let sits = sits_of s k id v at live in
-      let mine : Sits plan s.words k.used k.published id w = record {
-        plan_is = sits.plan_is;
-        number_is = sits.number_is;
-        used_is = sits.used_is;
-        published_is = sits.published_is;
-        room = sits.room;
-        draft = sits.draft;
-        seen = λ i x saw. ⊎_elim (sits.seen i x) (λ t. record { here = ap (λ (j : ℕ). get_or s.words j 0) (sym t.1) ∙ t.2; fixed = let e = t.1 in inl (omega arith, omega arith, λ z. t.0 (t.2 ∙ z)) }) (seen_looked noted place found v i x saw);
-      } in
+      let mine : Sits plan s.words k.own id w = sits_again plan s.words s.words k.own k.own id v w sits refl refl sits.draft
+      (λ i x saw. ⊎_elim (sits.seen i x) (λ t. record { here = ap (λ (j : ℕ). get_or s.words j 0) (sym t.1) ∙ t.2; fixed = let e = t.1 in inl (omega arith, omega arith, λ z. t.0 (t.2 ∙ z)) }) (seen_looked noted place found v i x saw)) in
       let kept = unmoved s k (place + 1) id me.1 v w at live mine refl in (
         w,
         keeps,
         tt,
         kept,
-        λ there is. let same : place ≡ there = omega arith in subst (λ (p : ℕ). Looked IsRecord MayPublish noted p me found (w, me.1)) same record {
+        λ there is. let same : place ≡ there = omega arith in subst (λ (p : ℕ). Looked law noted p me found (w, me.1)) same record {
           view = refl;
-          sound = of_plan (λ (p : Plan S). IsSound IsRecord MayPublish p w) v live (told s (set s.words (place + 1) found) id v w kept at live);
+          sound = of_plan (λ (p : Plan S). IsSound law p w) v live (told s (set s.words (place + 1) found) id v w kept at live);
           empty = of_plan (λ (p : Plan S). found ≡ 0 → WasEmpty p v place) v live (empty_in s k id v place at live h);
         },
       )
 
   pub allows_read : (slots id i place slot : ℕ) (me : Me ℕ (View S)) → me.0.plan ≡ Some plan → place < plan.shape.slots → Saw me.0.seen (place + 1) slot → start_in slot ≤ i → i < start_in slot + size_in slot
-      → Allows Rule slots id me i (λ x. x) (reads IsRecord MayPublish (step slots i 0 0 none) me)
+      → Allows Rule slots id me i (λ x. x) (reads law (step slots i 0 0 none) me)
   allows_read slots id i place slot me live h known low high s k _ at _ =
       let v : View S = me.0 in
       let found : ℕ = get_or s.words i 0 in
       let w : View S = read i found v in
       let sits = sits_of s k id v at live in
-      let there = seen_slot IsRecord home_of MayPublish long_record plan s.words k.used k.published k.laid place slot h (sits.seen (place + 1) slot known) in
+      let there = seen_slot law plan s.words k.own k.laid place slot h (sits.seen (place + 1) slot known) in
       let st = k.laid.stands place h there.1 in
-      let within : IsWithin plan.shape st.number (k.used st.number) slot = subst (λ (x : ℕ). IsWithin plan.shape st.number (k.used st.number) x) there.0 st.within in
-      let mine : Sits plan s.words k.used k.published id w = record {
-        plan_is = sits.plan_is;
-        number_is = sits.number_is;
-        used_is = sits.used_is;
-        published_is = sits.published_is;
-        room = sits.room;
-        draft = sits.draft;
-        seen = λ j x saw. ⊎_elim (λ t. record { here = ap (λ (n : ℕ). get_or s.words n 0) (sym t.0) ∙ t.1; fixed = let e = t.0 in let from = within.from in let to = within.to in inr (st.number, omega arith, omega arith) }) (sits.seen j x) saw;
-      } in
+      let within : IsWithin plan.shape st.number (k.own st.number).used slot = subst (λ (x : ℕ). IsWithin plan.shape st.number (k.own st.number).used x) there.0 st.within in
+      let mine : Sits plan s.words k.own id w = sits_again plan s.words s.words k.own k.own id v w sits refl refl sits.draft
+      (λ j x saw. ⊎_elim (λ t. record { here = ap (λ (n : ℕ). get_or s.words n 0) (sym t.0) ∙ t.1; fixed = let e = t.0 in let from = within.from in let to = within.to in inr (st.number, omega arith, omega arith) }) (sits.seen j x) saw) in
       let kept = unmoved s k i id me.1 v w at live mine refl in (
         w,
         keeps,
         tt,
         kept,
-        record { view = refl; sound = of_plan (λ (p : Plan S). IsSound IsRecord MayPublish p w) v live (told s (set s.words i found) id v w kept at live) },
+        record { view = refl; sound = of_plan (λ (p : Plan S). IsSound law p w) v live (told s (set s.words i found) id v w kept at live) },
       )

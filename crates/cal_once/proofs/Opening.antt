@@ -1,25 +1,25 @@
 -- The rule holds of a table of empty slots.
-use Rattle.std.proofs.Common.{◌≡◌, ◌⊎◌, ℕ, zero, suc, ◌+◌, ◌<◌, None, List, [], ◌∷◌, get_or, replicate, refl, subst, inr, arith}
+use Rattle.std.proofs.Common.{◌≡◌, ◌⊎◌, ℕ, zero, suc, ◌+◌, ◌<◌, None, List, [], ◌∷◌, get_or, replicate, refl, ap, subst, inr, arith}
 use Rattle.std.proofs.Math.ListN.{length-replicate, get_or-replicate}
 use mathlib.Core.Option.{some}
 use lib.ListN.{get_elem?}
 use Rattle.atomic_table.specs.Table.{opening}
+use Rattle.cal_words.specs.declared.sort.RecSort.{Ghosts as RecSort}
 use Rattle.cal_once.specs.declared.view.View.{View}
 use Rattle.cal_once.specs.declared.view.Plan.{Plan}
 use Rattle.cal_once.specs.Layout.{IsShape, word_count, slot_of}
 use Rattle.cal_once.specs.Views.{first_seat}
-use Rattle.cal_once.specs.Rule.{Sits, Leads, Kept}
+use Rattle.cal_once.specs.Rule.{Sits, Kept}
 
-module _ {S : Type 0} (IsRecord : S → List ℕ → Type 0) (home_of : ℕ → List ℕ → ℕ) (MayPublish : S → ℕ → List ℕ → Type 0) where
-  pub opens : (plan : Plan S) → IsShape plan.shape → Kept IsRecord home_of MayPublish plan (opening (replicate (word_count plan.shape) 0) [] (first_seat plan))
+module _ {S : Type 0} (law : RecSort S) where
+  pub opens : (plan : Plan S) → IsShape plan.shape → Kept law plan (opening (replicate (word_count plan.shape) 0) [] (first_seat plan))
   opens plan shape =
       let words : List ℕ = replicate (word_count plan.shape) 0 in
       let zero_at : (i : ℕ) → i < word_count plan.shape → get_or words i 0 ≡ 0 = λ i h. get_or-replicate (word_count plan.shape) i 0 0 h in
       let empty : (place : ℕ) → place < plan.shape.slots → slot_of words place ≡ 0 = λ place h. zero_at (place + 1) (omega arith) in
       let arenas = shape.some_arena in
       record {
-        used = λ n. 0;
-        published = λ n. [];
+        own = λ n. record { used = 0; published = [] };
         laid = record {
           shape = shape;
           long = length-replicate (word_count plan.shape) 0;
@@ -30,11 +30,11 @@ module _ {S : Type 0} (IsRecord : S → List ℕ → Type 0) (home_of : ℕ → 
           listed = λ n place some_times. absurd (omega arith);
         };
         few = omega arith;
-        unmade = λ n past. (refl, refl);
+        unmade = λ n past. refl;
         seats = λ number v at. first_only number v at;
-        first = λ v at. let same : first_seat plan ≡ v = cc in subst (λ (x : View S). Leads {S = S} (λ n. []) (first_seat plan ∷ []) x.others) same record { made = omega arith; back = λ k places b. absurd cc; gone = λ k w there none. absurd (let next : k + 1 ≡ suc k = omega arith in let h = subst (λ (i : ℕ). get_elem? (first_seat plan ∷ []) i ≡ some w) next there in cc) };
+        first = λ v at. let same : first_seat plan ≡ v = cc in ap (λ (x : View S). None ∷ x.others) same;
       }
     where
-      first_only : (number : ℕ) (v : View S) → get_elem? (first_seat plan ∷ []) number ≡ some v → (v.plan ≡ None) ⊎ Sits plan (replicate (word_count plan.shape) 0) (λ n. 0) (λ n. []) number v
-      first_only zero v at = let same : first_seat plan ≡ v = cc in inr (subst (λ (x : View S). Sits plan (replicate (word_count plan.shape) 0) (λ n. 0) (λ n. []) 0 x) same record { plan_is = refl; number_is = refl; used_is = refl; published_is = refl; room = omega arith; draft = λ k h. absurd (omega arith); seen = λ i x saw. absurd saw })
+      first_only : (number : ℕ) (v : View S) → get_elem? (first_seat plan ∷ []) number ≡ some v → (v.plan ≡ None) ⊎ Sits plan (replicate (word_count plan.shape) 0) (λ n. record { used = 0; published = [] }) number v
+      first_only zero v at = let same : first_seat plan ≡ v = cc in inr (subst (λ (x : View S). Sits plan (replicate (word_count plan.shape) 0) (λ n. record { used = 0; published = [] }) 0 x) same record { plan_is = refl; number_is = refl; used_is = refl; published_is = refl; room = omega arith; draft = λ k h. absurd (omega arith); seen = λ i x saw. absurd saw })
       first_only (suc n) v at = absurd cc

@@ -1,38 +1,40 @@
 -- What a seat knows follows from the rule.
-use Rattle.std.proofs.Common.{◌≡◌, ◌≢◌, ℕ, ◌+◌, ◌<◌, ◌≤◌, List, [], length, get_or, take, drop, sym, ap, ◌∙◌, subst, inl, inr, ⊎_elim, arith}
+use Rattle.std.proofs.Common.{◌≡◌, ◌≢◌, ℕ, suc, ◌+◌, ◌-◌, ◌<◌, ◌≤◌, true, None, List, [], ◌∷◌, length, get_or, take, drop, sym, ap, ◌∙◌, subst, inl, inr, ⊎_elim, arith}
 use mathlib.Core.Logic.{dite}
 use native.Mathlib.Decide.{ℕ_discrete}
 use Rattle.std.proofs.lemmas.Bool.{cases_lt}
+use Rattle.cal_words.specs.declared.sort.RecSort.{Ghosts as RecSort}
 use Rattle.cal_once.specs.declared.view.View.{View}
 use Rattle.cal_once.specs.declared.view.Plan.{Plan}
 use Rattle.cal_once.specs.Layout.{IsWithin, AreApart, size_in, start_in, slot_of, record_at, probe, times}
-use Rattle.cal_once.specs.Views.{Saw, Knows, Holds, HoldsOther, AllJoined, all_published, gathered}
+use Rattle.cal_once.specs.Views.{Saw, Knows, Holds, HoldsOther, AllJoined, all_published, gathered, none_away}
 use Rattle.cal_once.specs.Sound.{IsLawful, IsBelow, IsSound}
-use Rattle.cal_once.specs.Rule.{HoldsAnother, IsFixed, Stands, IsLaid, Sits, Leads}
+use Rattle.cal_once.specs.Rule.{Own, HoldsAnother, IsFixed, Stands, IsLaid, Sits, told}
 use Rattle.cal_once.specs.Steps.{WasEmpty}
-use Rattle.cal_once.proofs.Seen.{seen_to_be, times-append, sum_from, sum_from_none, sum_from_one, times-gathered}
+use Rattle.cal_once.proofs.Seen.{seen_to_be, times-append}
+use Rattle.cal_once.proofs.Told.{others-told, told-none, told-one}
 use Rattle.cal_once.proofs.Regions.{part_is, length-part, get_or-part, arena_inside, one_region}
 
-module _ {S : Type 0} (IsRecord : S → List ℕ → Type 0) (home_of : ℕ → List ℕ → ℕ) (MayPublish : S → ℕ → List ℕ → Type 0) where
-  module _ (long_record : (sort : S) (ws : List ℕ) → IsRecord sort ws → 2 ≤ length ws) (plan : Plan S) (words : List ℕ) (used : ℕ → ℕ) (published : ℕ → List ℕ) (laid : IsLaid IsRecord home_of MayPublish plan words used published) where
+module _ {S : Type 0} (law : RecSort S) where
+  module _ (plan : Plan S) (words : List ℕ) (own : ℕ → Own) (laid : IsLaid law plan words own) where
     -- a slot's word that was seen is there, and isn't 0
-    pub seen_slot : (place x : ℕ) → place < plan.shape.slots → IsFixed plan words used (place + 1) x → (slot_of words place ≡ x) × (slot_of words place ≢ 0)
+    pub seen_slot : (place x : ℕ) → place < plan.shape.slots → IsFixed plan words own (place + 1) x → (slot_of words place ≡ x) × (slot_of words place ≢ 0)
     seen_slot place x h f = let here = f.here in (here, ⊎_elim (λ t e. t.2 (sym here ∙ e)) (λ t. let low = t.1 in absurd (omega arith)) f.fixed)
 
     -- a filled slot's record lies within the words
-    pub inside : (place : ℕ) → Stands IsRecord home_of MayPublish plan words used published place → start_in (slot_of words place) + size_in (slot_of words place) ≤ length words
-    inside place st = let w = st.within in let to = w.to in let e = arena_inside plan.shape st.number (used st.number) w.is_arena (laid.room st.number) in let l = laid.long in omega arith
+    pub inside : (place : ℕ) → Stands law plan words own place → start_in (slot_of words place) + size_in (slot_of words place) ≤ length words
+    inside place st = let w = st.within in let to = w.to in let e = arena_inside plan.shape st.number (own st.number).used w.is_arena (laid.room st.number) in let l = laid.long in omega arith
 
     -- a number's words don't reach past its arena
-    pub widened : (n : ℕ) (w : ℕ) → IsWithin plan.shape n (used n) w → IsWithin plan.shape n plan.shape.arena w
+    pub widened : (n : ℕ) (w : ℕ) → IsWithin plan.shape n (own n).used w → IsWithin plan.shape n plan.shape.arena w
     widened n w x = let r = laid.room n in let t = x.to in record { is_arena = x.is_arena; two_words = x.two_words; from = x.from; to = omega arith }
 
     -- a place stands in the list of one number alone
-    pub one_list : (place : ℕ) → place < plan.shape.slots → slot_of words place ≢ 0 → (st : Stands IsRecord home_of MayPublish plan words used published place) → (m : ℕ) → m ≢ st.number → times place (published m) ≡ 0
-    one_list place h filled st m other = dite (ℕ_discrete (times place (published m)) 0) (λ z. z)
+    pub one_list : (place : ℕ) → place < plan.shape.slots → slot_of words place ≢ 0 → (st : Stands law plan words own place) → (m : ℕ) → m ≢ st.number → times place (own m).published ≡ 0
+    one_list place h filled st m other = dite (ℕ_discrete (times place (own m).published) 0) (λ z. z)
         (λ some_times. let l = laid.listed m place (omega arith) in absurd (other (one_region plan.shape m st.number plan.shape.arena plan.shape.arena (slot_of words place) (omega arith) (omega arith) l.2 (widened st.number (slot_of words place) st.within))))
 
-    module _ (views : List (View S)) (number : ℕ) (v : View S) (sits : Sits plan words used published number v) where
+    module _ (views : List (View S)) (number : ℕ) (v : View S) (sits : Sits plan words own number v) where
       -- the record that a seat knows is the one that is there
       pub held : (place : ℕ) (ws : List ℕ) → place < plan.shape.slots → Holds v place ws → (slot_of words place ≢ 0) × (record_at words place ≡ ws)
       held place ws h k =
@@ -83,7 +85,7 @@ module _ {S : Type 0} (IsRecord : S → List ℕ → Type 0) (home_of : ℕ → 
           let x = laid.stands p hp a.0 in
           let y = laid.stands q hq b.0 in
           let e : record_at words p ≡ record_at words q = a.1 ∙ sym b.1 in
-          let P : List ℕ → ℕ → ℕ = λ ws d. probe plan.shape (home_of plan.shape.homes ws) d in
+          let P : List ℕ → ℕ → ℕ = λ ws d. probe plan.shape (law.home_of plan.shape.homes ws) d in
           ⊎_elim
           (λ (less : x.distance < y.distance). absurd ((y.before x.distance less).1 (ap (record_at words) (sym (x.at ∙ ap (λ (l : List ℕ). P l x.distance) e)) ∙ e)))
           (λ (more : y.distance ≤ x.distance). ⊎_elim
@@ -92,49 +94,52 @@ module _ {S : Type 0} (IsRecord : S → List ℕ → Type 0) (home_of : ℕ → 
           (cases_lt y.distance x.distance))
           (cases_lt x.distance y.distance)
 
-      is_lawful : (place : ℕ) (ws : List ℕ) → place < plan.shape.slots → Holds v place ws → IsLawful IsRecord MayPublish plan v place ws
+      is_lawful : (place : ℕ) (ws : List ℕ) → place < plan.shape.slots → Holds v place ws → IsLawful law plan v place ws
       is_lawful place ws h k =
           let a = held place ws h k in
           let st = laid.stands place h a.0 in
           record {
-            is_record = subst (λ (l : List ℕ). IsRecord plan.sort l) a.1 st.is_record;
+            is_record = subst (λ (l : List ℕ). law.is_record plan.sort l) a.1 st.is_record;
             number = st.number;
-            may_publish = subst (λ (l : List ℕ). MayPublish plan.sort st.number l) a.1 st.may_publish;
-            own = λ mine. ap (λ (l : List ℕ). times place l) (sits.published_is ∙ ap published (sym sits.number_is ∙ sym mine)) ∙ st.listed;
+            may_publish = subst (λ (l : List ℕ). law.may_publish plan.sort st.number l) a.1 st.may_publish;
+            own = λ mine. ap (λ (l : List ℕ). times place l) (sits.published_is ∙ ap (λ n. (own n).published) (sym sits.number_is ∙ sym mine)) ∙ st.listed;
           }
 
-      module _ (leads : number ≡ 0 → Leads published views v.others) (unmade : (n : ℕ) → length views ≤ n → published n ≡ []) where
-        abbrev listed_in : ℕ → ℕ → ℕ
-        listed_in place n = times place (published n)
-
-        all_times : AllJoined v → (place : ℕ) → times place (all_published v) ≡ listed_in place 0 + sum_from (listed_in place) 1 (length v.others)
+      module _ (leads : number ≡ 0 → told (λ n. (own n).published) views ≡ None ∷ v.others) (unmade : (n : ℕ) → length views ≤ n → own n ≡ record { used = 0; published = [] }) where
+        -- how often a place stands in the first seat's own list, and in those of the others
+        all_times : AllJoined v → (place : ℕ) → (ws : List (View S)) × (length ws + 1 ≡ length views) × (none_away (told (λ n. (own (suc n)).published) ws) ≡ true)
+            × (times place (all_published v) ≡ times place (own 0).published + times place (gathered (told (λ n. (own (suc n)).published) ws)))
         all_times all place =
             let zero_number : number ≡ 0 = sym sits.number_is ∙ all.0 in
-            let back = leads zero_number in
-            let own : times place v.published ≡ listed_in place 0 = ap (times place) (sits.published_is ∙ ap published zero_number) in
-            let rest = times-gathered v.others (listed_in place) place 1 all.1 (λ j l at. ap (times place) (back.back j l at).0 ∙ ap (listed_in place) (omega arith)) in
-            times-append place v.published (gathered v.others) ∙ (λ i. own i + rest i)
+            let rest = others-told (λ n. (own n).published) views v.others (leads zero_number) in
+            let first : times place v.published ≡ times place (own 0).published = ap (times place) (sits.published_is ∙ ap (λ n. (own n).published) zero_number) in
+            (rest.0, rest.1, ap none_away rest.2 ∙ all.1, times-append place v.published (gathered v.others) ∙ (λ i. first i + times place (gathered (sym rest.2 i))))
 
-        none_times : AllJoined v → (place : ℕ) → ((n : ℕ) → listed_in place n ≡ 0) → times place (all_published v) ≡ 0
-        none_times all place none = let a = none 0 in let b = sum_from_none (listed_in place) 1 (length v.others) (λ j _ _. none j) in all_times all place ∙ omega arith
+        none_times : AllJoined v → (place : ℕ) → ((n : ℕ) → times place (own n).published ≡ 0) → times place (all_published v) ≡ 0
+        none_times all place none =
+            let t = all_times all place in
+            let a = none 0 in
+            let b = told-none (λ n. (own (suc n)).published) t.0 place (λ n. none (suc n)) in
+            t.3 ∙ omega arith
 
         known_once : AllJoined v → (place : ℕ) → place < plan.shape.slots → Knows v place → times place (all_published v) ≡ 1
         known_once all place h known =
             let x = seen_to_be v.seen (place + 1) known in
             let s = seen_slot place x.0 h (sits.seen (place + 1) x.0 x.1) in
             let st = laid.stands place h s.1 in
-            let others : (m : ℕ) → m ≢ st.number → listed_in place m ≡ 0 = one_list place h s.1 st in
-            let made = (leads (sym sits.number_is ∙ all.0)).made in
+            let others : (m : ℕ) → m ≢ st.number → times place (own m).published ≡ 0 = one_list place h s.1 st in
+            let t = all_times all place in
+            let long = t.1 in
             let is_made : st.number < length views = ⊎_elim (λ (l : st.number < length views). l)
-            (λ (g : length views ≤ st.number). let none : times place (published st.number) ≡ 0 = ap (times place) (unmade st.number g) in let one = st.listed in absurd (omega arith)) (cases_lt st.number (length views)) in
+            (λ (g : length views ≤ st.number). let none : times place (own st.number).published ≡ 0 = ap (λ (o : Own). times place o.published) (unmade st.number g) in let one = st.listed in absurd (omega arith)) (cases_lt st.number (length views)) in
             dite (ℕ_discrete st.number 0)
-            (λ first. let one : listed_in place 0 ≡ 1 = ap (listed_in place) (sym first) ∙ st.listed in
-            let rest = sum_from_none (listed_in place) 1 (length v.others) (λ j low _. others j (λ e. omega arith)) in all_times all place ∙ omega arith)
-            (λ later. let none : listed_in place 0 ≡ 0 = others 0 (λ e. later (sym e)) in
-            let one = sum_from_one (listed_in place) 1 (length v.others) st.number (omega arith) (omega arith) others in
-            let l = st.listed in all_times all place ∙ omega arith)
+            (λ first. let one : times place (own 0).published ≡ 1 = ap (λ (m : ℕ). times place (own m).published) (sym first) ∙ st.listed in
+            let rest = told-none (λ n. (own (suc n)).published) t.0 place (λ n. others (suc n) (λ e. omega arith)) in t.3 ∙ omega arith)
+            (λ later. let none = others 0 (λ e. later (sym e)) in
+            let index : st.number ≡ suc (st.number - 1) = omega arith in
+            let one = told-one (λ n. (own (suc n)).published) t.0 place (st.number - 1) (omega arith) (ap (λ (m : ℕ). times place (own m).published) (sym index) ∙ st.listed) (λ n ne. others (suc n) (λ e. ne (omega arith))) t.2 in t.3 ∙ omega arith)
 
-        pub is_sound : number < plan.shape.arenas → IsSound IsRecord MayPublish plan v
+        pub is_sound : number < plan.shape.arenas → IsSound law plan v
         is_sound is_arena = record {
           own_arena = subst (λ (n : ℕ). n < plan.shape.arenas) (sym sits.number_is) is_arena;
           room = sits.room;
@@ -147,7 +152,7 @@ module _ {S : Type 0} (IsRecord : S → List ℕ → Type 0) (home_of : ℕ → 
           one_record = λ place a b h k l. sym (held place a h k).1 ∙ (held place b h l).1;
           lawful = is_lawful;
           below = is_below;
-          once = λ all place. (known_once all place, λ past. none_times all place (λ n. dite (ℕ_discrete (listed_in place n) 0) (λ z. z) (λ some_times. let l = (laid.listed n place (omega arith)).0 in absurd (omega arith))));
+          once = λ all place. (known_once all place, λ past. none_times all place (λ n. dite (ℕ_discrete (times place (own n).published) 0) (λ z. z) (λ some_times. let l = (laid.listed n place (omega arith)).0 in absurd (omega arith))));
         }
 
         pub was_empty : (place : ℕ) → place < plan.shape.slots → slot_of words place ≡ 0 → WasEmpty plan v place
@@ -156,5 +161,5 @@ module _ {S : Type 0} (IsRecord : S → List ℕ → Type 0) (home_of : ℕ → 
           no_parent = λ p. let s = seen_slot p.0 p.1 p.2 (sits.seen (p.0 + 1) p.1 p.3) in let st = laid.stands p.0 p.2 s.1 in
               let first : get_or (record_at words p.0) 0 0 ≡ place + 1 = spot p.0 p.1 0 (place + 1) p.2 (omega arith) p.3 (let e : start_in p.1 ≡ start_in p.1 + 0 = omega arith in subst (λ (i : ℕ). Saw v.seen i (place + 1)) e p.4) in
               ⊎_elim (λ t. let none = t.0 in absurd (omega arith)) (λ t. let word = t.2 in let same : t.0 ≡ place = omega arith in t.3 (ap (slot_of words) same ∙ empty)) st.has_parent;
-          unlisted = λ all. none_times all place (λ n. dite (ℕ_discrete (listed_in place n) 0) (λ z. z) (λ some_times. absurd ((laid.listed n place (omega arith)).1 empty)));
+          unlisted = λ all. none_times all place (λ n. dite (ℕ_discrete (times place (own n).published) 0) (λ z. z) (λ some_times. absurd ((laid.listed n place (omega arith)).1 empty)));
         }

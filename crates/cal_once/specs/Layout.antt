@@ -1,4 +1,5 @@
-use Rattle.std.specs.Prelude.{◌⊎◌, ℕ, ◌+◌, ◌*◌, ◌/◌, ◌%◌, ◌^◌, ◌<◌, ◌≤◌, List, [], ◌∷◌, take, drop, slice_index, ◌==◌, if◌then◌else◌}
+use Rattle.std.specs.Prelude.{◌⊎◌, ℕ, ◌+◌, ◌*◌, ◌/◌, ◌%◌, ◌^◌, ◌<◌, ◌≤◌, List, [], ◌∷◌, take, drop}
+use Rattle.std.specs.Prelude.{slice_index, ◌==◌, if◌then◌else◌}
 use Rattle.cal_once.specs.declared.shape.Shape.{Shape}
 
 -- a table has word 0, a word for each slot, and its arenas (ours)
@@ -41,7 +42,8 @@ slot_of words place = slice_index words (place + 1)
 
 -- the record that a slot names
 abbrev pub record_at : List ℕ → ℕ → List ℕ
-record_at words place = take (size_in (slot_of words place)) (drop (start_in (slot_of words place)) words)
+record_at words place =
+    take (size_in (slot_of words place)) (drop (start_in (slot_of words place)) words)
 
 -- a slot's word names words of the arena of this number, of which so many are used
 pub record IsWithin (shape : Shape) (number used word : ℕ) : Type 0 where

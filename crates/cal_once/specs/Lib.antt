@@ -3,6 +3,5 @@ pub mod Views
 pub mod Sound
 pub mod Rule
 pub mod Steps
-pub mod Seats
 pub mod Puts
-pub mod Finds
+pub mod Seats

@@ -1,4 +1,5 @@
 use Rattle.std.specs.Prelude.{◌≡◌, ◌≢◌, ◌⊎◌, ℕ, ◌+◌, ◌<◌, ◌≤◌, List, length}
+use Rattle.cal_words.specs.declared.sort.RecSort.{Ghosts as RecSort}
 use Rattle.cal_once.specs.declared.view.View.{View}
 use Rattle.cal_once.specs.declared.view.Plan.{Plan}
 use Rattle.cal_once.specs.Layout.{IsWithin, AreApart, start_in, times}
@@ -7,26 +8,39 @@ use Rattle.cal_once.specs.Views.{Saw, Knows, Holds, AllJoined, all_published}
 -- a known record's parent is the root and its depth 1, or its parent's depth is one less
 abbrev pub IsBelow : {S : Type 0} → Plan S → View S → ℕ → ℕ → Type 0
 IsBelow plan v parent depth = ((parent ≡ 0) × (depth ≡ 1))
-    ⊎ ((place : ℕ) × (parent ≡ place + 1) × (place < plan.shape.slots) × ((slot above : ℕ) → Saw v.seen (place + 1) slot → Saw v.seen (start_in slot + 1) above → depth ≡ above + 1))
+    ⊎ ((place : ℕ) × (parent ≡ place + 1) × (place < plan.shape.slots)
+    × ((slot above : ℕ) → Saw v.seen (place + 1) slot → Saw v.seen (start_in slot + 1) above
+    → depth ≡ above + 1))
 
-module _ {S : Type 0} (IsRecord : S → List ℕ → Type 0) (MayPublish : S → ℕ → List ℕ → Type 0) where
-  -- the record is one of the table's sort, and stands in the list of the one seat whose number published it
+module _ {S : Type 0} (law : RecSort S) where
+  -- the record is one of the table's sort, and stands in the list of the one seat whose number
+  -- published it
   pub record IsLawful (plan : Plan S) (v : View S) (place : ℕ) (words : List ℕ) : Type 0 where
-    pub is_record : IsRecord plan.sort words
+    pub is_record : law.is_record plan.sort words
     pub number : ℕ
-    pub may_publish : MayPublish plan.sort number words
+    pub may_publish : law.may_publish plan.sort number words
     pub own : number ≡ v.number → times place v.published ≡ 1
 
-  -- What each seat knows of the table, whatever the other seats do. Each word stands for good, each slot's record
-  -- lies whole in one arena and apart from the others, and each record is at one place.
+  -- What each seat knows of the table, whatever the other seats do. Each word stands for good, each
+  -- slot's record lies whole in one arena and apart from the others, and each record is at one
+  -- place.
   pub record IsSound (plan : Plan S) (v : View S) : Type 0 where
     pub own_arena : v.number < plan.shape.arenas
     pub room : v.used + length v.draft ≤ plan.shape.arena
     pub one_word : (i x y : ℕ) → Saw v.seen i x → Saw v.seen i y → x ≡ y
-    pub within : (place slot : ℕ) → place < plan.shape.slots → Saw v.seen (place + 1) slot → (slot ≢ 0) × ((number : ℕ) × IsWithin plan.shape number plan.shape.arena slot)
-    pub apart : (p q a b : ℕ) → p < plan.shape.slots → q < plan.shape.slots → p ≢ q → Saw v.seen (p + 1) a → Saw v.seen (q + 1) b → AreApart a b
-    pub one_place : (p q : ℕ) (words : List ℕ) → p < plan.shape.slots → q < plan.shape.slots → Holds v p words → Holds v q words → p ≡ q
-    pub one_record : (place : ℕ) (a b : List ℕ) → place < plan.shape.slots → Holds v place a → Holds v place b → a ≡ b
-    pub lawful : (place : ℕ) (words : List ℕ) → place < plan.shape.slots → Holds v place words → IsLawful plan v place words
-    pub below : (place slot parent depth : ℕ) → place < plan.shape.slots → Saw v.seen (place + 1) slot → Saw v.seen (start_in slot) parent → Saw v.seen (start_in slot + 1) depth → IsBelow plan v parent depth
-    pub once : AllJoined v → (place : ℕ) → (place < plan.shape.slots → Knows v place → times place (all_published v) ≡ 1) × (plan.shape.slots ≤ place → times place (all_published v) ≡ 0)
+    pub within : (place slot : ℕ) → place < plan.shape.slots → Saw v.seen (place + 1) slot
+        → (slot ≢ 0) × ((number : ℕ) × IsWithin plan.shape number plan.shape.arena slot)
+    pub apart : (p q a b : ℕ) → p < plan.shape.slots → q < plan.shape.slots → p ≢ q
+        → Saw v.seen (p + 1) a → Saw v.seen (q + 1) b → AreApart a b
+    pub one_place : (p q : ℕ) (words : List ℕ) → p < plan.shape.slots → q < plan.shape.slots
+        → Holds v p words → Holds v q words → p ≡ q
+    pub one_record : (place : ℕ) (a b : List ℕ) → place < plan.shape.slots → Holds v place a
+        → Holds v place b → a ≡ b
+    pub lawful : (place : ℕ) (words : List ℕ) → place < plan.shape.slots → Holds v place words
+        → IsLawful plan v place words
+    pub below : (place slot parent depth : ℕ) → place < plan.shape.slots
+        → Saw v.seen (place + 1) slot → Saw v.seen (start_in slot) parent
+        → Saw v.seen (start_in slot + 1) depth → IsBelow plan v parent depth
+    pub once : AllJoined v → (place : ℕ)
+        → (place < plan.shape.slots → Knows v place → times place (all_published v) ≡ 1)
+        × (plan.shape.slots ≤ place → times place (all_published v) ≡ 0)

@@ -1,4 +1,6 @@
-use Rattle.std.specs.Prelude.{◌≡◌, ◌≢◌, ℕ, zero, suc, ◌+◌, ◌-◌, ◌<◌, ◌⊎◌, Bool, true, false, ◌||◌, ◌&&◌, ◌==◌, if◌then◌else◌, Option, Some, None, List, [], ◌∷◌, ◌++◌, length, take, slice_index, IsTrue}
+use Rattle.std.specs.Prelude.{◌≡◌, ◌≢◌, ℕ, zero, suc, ◌+◌, ◌-◌, ◌<◌, ◌⊎◌, Bool, true, false, ◌||◌}
+use Rattle.std.specs.Prelude.{◌&&◌, ◌==◌, if◌then◌else◌, Option, Some, None, List, [], ◌∷◌, ◌++◌}
+use Rattle.std.specs.Prelude.{length, take, slice_index, IsTrue}
 use Rattle.cal_once.specs.declared.view.View.{View}
 use Rattle.cal_once.specs.declared.view.Plan.{Plan}
 use Rattle.cal_once.specs.Layout.{size_in, start_in}
@@ -47,20 +49,27 @@ module _ {S : Type 0} where
     pub size : size_in slot ≡ length words
     pub each : (i : ℕ) → i < length words → Saw v.seen (start_in slot + i) (slice_index words i)
 
-  -- the place holds another record than this one, as the seat knows by its length or by one of its words
+  -- the place holds another record than this one, as the seat knows by its length or by one of its
+  -- words
   pub record HoldsOther (v : View S) (place : ℕ) (words : List ℕ) : Type 0 where
     pub slot : ℕ
     pub known : Saw v.seen (place + 1) slot
-    pub differs : (size_in slot ≢ length words) ⊎ ((i : ℕ) × (x : ℕ) × (i < size_in slot) × Saw v.seen (start_in slot + i) x × (x ≢ slice_index words i))
+    pub differs : (size_in slot ≢ length words)
+        ⊎ ((i : ℕ) × (x : ℕ) × (i < size_in slot) × Saw v.seen (start_in slot + i) x
+        × (x ≢ slice_index words i))
 
-  -- the record's parent is the root and its depth 1, or the seat knows the parent, and its depth is one less
+  -- the record's parent is the root and its depth 1, or the seat knows the parent, and its depth is
+  -- one less
   abbrev pub KnowsParent : View S → ℕ → List ℕ → Type 0
   KnowsParent v slots words = ((slice_index words 0 ≡ 0) × (slice_index words 1 ≡ 1))
-      ⊎ ((parent : ℕ) × (slot : ℕ) × (depth : ℕ) × (parent < slots) × (slice_index words 0 ≡ parent + 1) × Saw v.seen (parent + 1) slot × Saw v.seen (start_in slot + 1) depth × (slice_index words 1 ≡ depth + 1))
+      ⊎ ((parent : ℕ) × (slot : ℕ) × (depth : ℕ) × (parent < slots)
+      × (slice_index words 0 ≡ parent + 1) × Saw v.seen (parent + 1) slot
+      × Saw v.seen (start_in slot + 1) depth × (slice_index words 1 ≡ depth + 1))
 
   -- some record that the seat knows has its parent at this place
   abbrev pub IsParent : View S → ℕ → ℕ → Type 0
-  IsParent v slots parent = (place : ℕ) × (slot : ℕ) × (place < slots) × Saw v.seen (place + 1) slot × Saw v.seen (start_in slot) (parent + 1)
+  IsParent v slots parent = (place : ℕ) × (slot : ℕ) × (place < slots)
+      × Saw v.seen (place + 1) slot × Saw v.seen (start_in slot) (parent + 1)
 
   -- every seat that was split off was joined
   abbrev pub AllJoined : View S → Type 0
@@ -91,7 +100,9 @@ module _ {S : Type 0} where
     used = if found == 0 then v.used + length v.draft else v.used;
     draft = if found == 0 then [] else v.draft;
     published = if found == 0 then v.published ++ place ∷ [] else v.published;
-    seen = if found == 0 then (place + 1, word) ∷ placed (start_in word) v.draft ++ v.seen else (place + 1, found) ∷ v.seen;
+    seen = if found == 0
+        then (place + 1, word) ∷ placed (start_in word) v.draft ++ v.seen
+        else (place + 1, found) ∷ v.seen;
   }
 
   -- the first seat after a split, and the new seat
@@ -99,40 +110,67 @@ module _ {S : Type 0} where
   split_off v = record v { others = v.others ++ None ∷ [] }
 
   abbrev pub new_seat : View S → View S
-  new_seat v = record v { number = length v.others + 1; used = 0; draft = []; published = []; looks = []; others = [] }
+  new_seat v = record v {
+    number = length v.others + 1;
+    used = 0;
+    draft = [];
+    published = [];
+    looks = [];
+    others = [];
+  }
 
   -- the first seat after a join: it knows what either knew
   abbrev pub joined : View S → View S → View S
-  joined v w = record v { seen = v.seen ++ w.seen; others = joined_with v.others (w.number - 1) w.published }
+  joined v w = record v {
+    seen = v.seen ++ w.seen;
+    others = joined_with v.others (w.number - 1) w.published;
+  }
 
   -- a joined seat says nothing more
   abbrev pub spent : View S
-  spent = record { plan = None; number = 0; used = 0; draft = []; published = []; looks = []; seen = []; others = [] }
+  spent = record {
+    plan = None;
+    number = 0;
+    used = 0;
+    draft = [];
+    published = [];
+    looks = [];
+    seen = [];
+    others = [];
+  }
+
+  -- what the seat knew stands for good
+  abbrev pub KnowsMore : View S → View S → Type 0
+  KnowsMore v w = (i x : ℕ) → Saw v.seen i x → Saw w.seen i x
 
   -- the seat has learned words of the table, and may have drafted a record; else it is as before
   pub record Learns (v w : View S) : Type 0 where
     pub same : w ≡ record v { draft = w.draft; seen = w.seen }
-    pub more : (i x : ℕ) → Saw v.seen i x → Saw w.seen i x
+    pub more : KnowsMore v w
 
-  -- the same seat later: what it knew stands for good
-  pub record IsLater (v w : View S) : Type 0 where
-    pub plan : w.plan ≡ v.plan
-    pub number : w.number ≡ v.number
-    pub others : w.others ≡ v.others
-    pub more : (i x : ℕ) → Saw v.seen i x → Saw w.seen i x
+  -- the seat has noted that the slot of a place is empty
+  abbrev pub noting : ℕ → View S → View S
+  noting place v = record v { looks = v.looks ++ place ∷ [] }
 
-  -- the same seat later, which has published nothing
-  pub record KeepsOwn (v w : View S) : Type 0 where
-    pub later : IsLater v w
-    pub used : w.used ≡ v.used
-    pub published : w.published ≡ v.published
+  -- the seat has published a record of these words at a place
+  abbrev pub publishing : List ℕ → ℕ → View S → View S
+  publishing words place v = record v {
+    used = v.used + length words;
+    published = v.published ++ place ∷ [];
+  }
+
+  -- the same seat later
+  abbrev pub IsLater : View S → View S → Type 0
+  IsLater v w =
+      (w.plan ≡ v.plan) × (w.number ≡ v.number) × (w.others ≡ v.others) × KnowsMore v w
 
   -- the length of a known place's record, and one of its words
   abbrev pub IsSizeOf : View S → ℕ → ℕ → Type 0
   IsSizeOf v place size = (slot : ℕ) × Saw v.seen (place + 1) slot × (size ≡ size_in slot)
 
   abbrev pub IsWordOf : View S → ℕ → ℕ → ℕ → Type 0
-  IsWordOf v place i word = (slot : ℕ) × Saw v.seen (place + 1) slot × Saw v.seen (start_in slot + i) word
+  IsWordOf v place i word = (slot : ℕ) × Saw v.seen (place + 1) slot
+      × Saw v.seen (start_in slot + i) word
 
   -- how many of the first n places the seat knows
   abbrev pub known_count : View S → ℕ → ℕ
@@ -141,4 +179,4 @@ module _ {S : Type 0} where
 
   -- the first seat of a table
   abbrev pub first_seat : Plan S → View S
-  first_seat plan = record { plan = Some plan; number = 0; used = 0; draft = []; published = []; looks = []; seen = []; others = [] }
+  first_seat plan = record spent { plan = Some plan }

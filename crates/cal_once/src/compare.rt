@@ -20,13 +20,12 @@ impl<S: RecSort> Rows<S> {
         requires seat { IsAt self.now seat.old }
         requires place { place < (plan_of self.now).shape.slots }
         requires known { Saw seat.old.me.0.seen (place + 1) slot }
-        requires sound { IsSound S.is_record S.may_publish (plan_of self.now) seat.old.me.0 }
+        requires sound { IsSound S.RecSort (plan_of self.now) seat.old.me.0 }
         ensures seat { IsAt self.now seat.new × (seat.new.me.1 ≡ seat.old.me.1) }
         ensures same { OnTrue result (Holds seat.new.me.0 place (P.words rec.now)) }
         ensures other { OnFalse result (HoldsOther seat.new.me.0 place (P.words rec.now)) }
-        ensures learns { Learns seat.old.me.0 seat.new.me.0
-            × (seat.new.me.0.draft ≡ seat.old.me.0.draft) }
-        ensures sound { IsSound S.is_record S.may_publish (plan_of self.now) seat.new.me.0 }
+        ensures learns { Learns seat.old.me.0 seat.new.me.0 }
+        ensures sound { IsSound S.RecSort (plan_of self.now) seat.new.me.0 }
     {
         let size = rec.len();
         if slot / (1 << 32) != size {

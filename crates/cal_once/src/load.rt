@@ -1,36 +1,26 @@
-ghost use Rattle.std.specs.Prelude.{◌≡◌, ◌+◌, ◌<◌, ◌≤◌, false, true};
+ghost use Rattle.std.specs.Prelude.{◌≡◌, ◌+◌, ◌<◌, ◌≤◌};
 ghost use Rattle.cal_once.specs.Layout.{start_in, size_in};
 ghost use Rattle.cal_once.specs.Views.{Saw};
 ghost use Rattle.cal_once.specs.Sound.{IsSound};
 ghost use Rattle.cal_once.specs.Seats.{IsAt, plan_of};
 ghost use Rattle.cal_once.specs.Steps.{Looked, Read as ReadsWord};
 
-use crate::rule::{Look, Peek, Read};
+use crate::rule::{Look, Read};
 use crate::{Rows, View};
 use atomic_table::Seat;
 use cal_words::RecSort;
 
 impl<S: RecSort> Rows<S> {
-    // Loads a slot.
-    pub(crate) fn peek(&self, seat: &mut Seat<u8, View<S>>, place: u64) -> u64
+    // Loads a slot, and may note that it is empty.
+    pub(crate) fn load<const NOTED: bool>(&self, seat: &mut Seat<u8, View<S>>, place: u64) -> u64
         requires seat { IsAt self.now seat.old }
         requires place { place < (plan_of self.now).shape.slots }
         ensures seat { IsAt self.now seat.new }
-        ensures looked { Looked S.is_record S.may_publish false place seat.old.me result
-            seat.new.me }
+        ensures looked { Looked S.RecSort NOTED place seat.old.me result seat.new.me }
     {
-        self.table.shared.load::<Peek>(seat, place as usize + 1)
-    }
-
-    // Loads a slot, and notes that it is empty.
-    pub(crate) fn note(&self, seat: &mut Seat<u8, View<S>>, place: u64) -> u64
-        requires seat { IsAt self.now seat.old }
-        requires place { place < (plan_of self.now).shape.slots }
-        ensures seat { IsAt self.now seat.new }
-        ensures looked { Looked S.is_record S.may_publish true place seat.old.me result
-            seat.new.me }
-    {
-        self.table.shared.load::<Look>(seat, place as usize + 1)
+        self.table
+            .shared
+            .load::<Look<NOTED>>(seat, place as usize + 1)
     }
 
     // Loads word i of the table, which is one of the record of a place whose slot's word is `slot`.
@@ -38,10 +28,10 @@ impl<S: RecSort> Rows<S> {
         requires seat { IsAt self.now seat.old }
         requires place { place < (plan_of self.now).shape.slots }
         requires known { Saw seat.old.me.0.seen (place + 1) slot }
-        requires sound { IsSound S.is_record S.may_publish (plan_of self.now) seat.old.me.0 }
+        requires sound { IsSound S.RecSort (plan_of self.now) seat.old.me.0 }
         requires inside { (start_in slot ≤ i) × (i < start_in slot + size_in slot) }
         ensures seat { IsAt self.now seat.new }
-        ensures read { ReadsWord S.is_record S.may_publish i seat.old.me result seat.new.me }
+        ensures read { ReadsWord S.RecSort i seat.old.me result seat.new.me }
     {
         let _place = place;
         let _slot = slot;

@@ -2,7 +2,8 @@ ghost use Rattle.std.specs.Prelude.{◌≡◌, ◌+◌, ◌<◌, ◌≤◌, leng
 ghost use Rattle.cal_once.specs.Layout.{arena_start, slot_for};
 ghost use Rattle.cal_once.specs.Views.{drafted, Learns};
 ghost use Rattle.cal_once.specs.Seats.{IsAt, next_word, plan_of};
-ghost use Rattle.cal_once.specs.Steps.{MayOffer, Offered};
+ghost use Rattle.cal_once.specs.Puts.{MayOffer};
+ghost use Rattle.cal_once.specs.Steps.{Offered};
 
 use crate::rule::{Draft, Offer};
 use crate::{Rows, View};
@@ -41,8 +42,8 @@ impl<S: RecSort> Rows<S> {
         }
     }
 
-    // Exchanges the slot of a place, at this distance from the draft's home, against 0. The word that was
-    // found.
+    // Exchanges the slot of a place, at this distance from the draft's home, against 0. The word
+    // that was found.
     pub(crate) fn offer(
         &self,
         seat: &mut Seat<u8, View<S>>,
@@ -51,11 +52,12 @@ impl<S: RecSort> Rows<S> {
         word: u64,
     ) -> u64
         requires seat { IsAt self.now seat.old }
-        requires word { word ≡ slot_for (length seat.old.me.0.draft) (next_word self.now seat.old.me.0) }
-        requires may { MayOffer S.is_record S.may_publish S.home_of (plan_of self.now) seat.old.me.0
+        requires word { word
+            ≡ slot_for (length seat.old.me.0.draft) (next_word self.now seat.old.me.0) }
+        requires may { MayOffer S.RecSort (plan_of self.now) seat.old.me.0
             place distance }
         ensures seat { IsAt self.now seat.new }
-        ensures offered { Offered S.is_record S.may_publish place word seat.old.me result
+        ensures offered { Offered S.RecSort place word seat.old.me result
             seat.new.me }
     {
         let _distance = distance;

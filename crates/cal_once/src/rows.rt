@@ -13,6 +13,6 @@ pub struct Rows<S: RecSort> {
     pub(crate) table: Table<u8, View<S>, Plan<S>, WriteOnce, Global>,
     pub(crate) plan: Plan<S>,
     ghost plan_is: { plan ≡ table.shared.key },
-    ghost long: { table.shared.table_id.words ≡ word_count plan.shape },
+    ghost long: { table.shared.table_id.words ≡ word_count table.shared.key.shape },
     ghost shaped: { IsShape plan.shape },
 }

@@ -9,29 +9,18 @@ impl<S: RecSort> TableRule<u8, View<S>, Plan<S>> for WriteOnce {
     ghost use Rattle.cal_once.specs.Rule.{Kept};
     ghost use Rattle.cal_once.specs.Views.{first_seat};
 
-    ghost holds = { λ plan state. Kept S.is_record S.home_of S.may_publish plan state };
+    ghost holds = { λ plan state. Kept S.RecSort plan state };
 
     ghost first = { first_seat };
 }
 
-/// A load of a slot.
-pub struct Peek;
+/// A load of a slot, which may be noted where it is empty.
+pub struct Look<const NOTED: bool>;
 
-impl<S: RecSort> Play<u8, View<S>> for Peek {
-    ghost use Rattle.std.specs.Prelude.{false};
+impl<S: RecSort, const NOTED: bool> Play<u8, View<S>> for Look<NOTED> {
     ghost use Rattle.cal_once.specs.Steps.{looks};
 
-    ghost then = { looks S.is_record S.may_publish false };
-}
-
-/// A load of a slot, which is noted where it is empty.
-pub struct Look;
-
-impl<S: RecSort> Play<u8, View<S>> for Look {
-    ghost use Rattle.std.specs.Prelude.{true};
-    ghost use Rattle.cal_once.specs.Steps.{looks};
-
-    ghost then = { looks S.is_record S.may_publish true };
+    ghost then = { looks S.RecSort NOTED };
 }
 
 /// A load of a record's word.
@@ -40,7 +29,7 @@ pub struct Read;
 impl<S: RecSort> Play<u8, View<S>> for Read {
     ghost use Rattle.cal_once.specs.Steps.{reads};
 
-    ghost then = { reads S.is_record S.may_publish };
+    ghost then = { reads S.RecSort };
 }
 
 /// A store of a word of a draft.
@@ -58,7 +47,7 @@ pub struct Offer;
 impl<S: RecSort> Play<u8, View<S>> for Offer {
     ghost use Rattle.cal_once.specs.Steps.{offers};
 
-    ghost then = { offers S.is_record S.may_publish };
+    ghost then = { offers S.RecSort };
 }
 
 /// The first seat gives away a new one.

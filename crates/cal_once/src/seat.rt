@@ -3,7 +3,8 @@ ghost use Rattle.std.specs.Prelude.{◌≡◌, ◌+◌, [], length};
 use crate::View;
 use atomic_table::Seat;
 
-/// A seat at a table of write-once rows, with an arena of its own. Contracts see what it knows, as a `View`.
+/// A seat at a table of write-once rows, with an arena of its own. Contracts see what it knows, as
+/// a `View`.
 pub struct RowSeat<S> {
     pub(crate) seat: Seat<u8, View<S>>,
     pub(crate) number: u64,

@@ -7,7 +7,8 @@ use crate::{RowSeat, Rows};
 use cal_words::RecSort;
 
 impl<S: RecSort> Rows<S> {
-    /// A new seat, with the next number and arena. It knows what the first seat knows, and has published nothing.
+    /// A new seat, with the next number and arena. It knows what the first seat knows, and has
+    /// published nothing.
     pub fn split(&self, seat: &mut RowSeat<S>) -> RowSeat<S>
         requires seat { IsSeatOf self.now seat.old }
         requires first { (view seat.old).number ≡ 0 }

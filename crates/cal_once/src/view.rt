@@ -21,8 +21,10 @@ pub struct View<S> {
     pub published: LinkedList<u64>,
     /// The places that it noted as empty.
     pub looks: LinkedList<u64>,
-    /// The words of the table that it has met in filled slots and in their records, each with its number.
+    /// The words of the table that it has met in filled slots and in their records, each with its
+    /// number.
     pub seen: LinkedList<(u64, u64)>,
-    /// Of the first seat: for each seat that was split off, the places that it published, once it was joined.
+    /// Of the first seat: for each seat that was split off, the places that it published, once it
+    /// was joined.
     pub others: LinkedList<Option<LinkedList<u64>>>,
 }

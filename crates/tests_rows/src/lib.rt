@@ -1,8 +1,12 @@
 //! Tests of the tables that running threads share, and of the words of their records.
+//! Tests of the layers that share memory between threads: the words of records, and the tables in
+//! which they stand.
 //!
 //! Each file is one layer's table of worked rows and hand-written answers. It promises nothing
 //! that a contract says; it shows what no clause can say, that calls succeed with ample memory.
 #![tactic(auto)]
 
+#[cfg(test)]
+mod tables;
 #[cfg(test)]
 mod words;

@@ -1,16 +1,33 @@
-use Rattle.std.proofs.Common.{◌≡◌, ℕ, List, sym, ap, ◌∙◌, subst}
-use Rattle.cal_once.specs.declared.view.View.{View}
+use Rattle.std.proofs.Common.{◌≡◌, ◌≢◌, ◌+◌, length, ap, ◌∙◌, subst, arith}
+use Rattle.cal_once.specs.Layout.{IsShape, arena_start, slot_for}
+use Rattle.cal_once.specs.Puts.{ask_for}
 use Rattle.cal_once.specs.Seats.{plan_of}
-use Rattle.cal_once.specs.Steps.{MayOffer}
+use Rattle.cal_once.specs.Views.{Saw, Learns, offered}
+use Rattle.cal_once.proofs.Answering.{may_offer, missed, published_here, reached_later, start_small}
 use Rattle.cal_once.proofs.rows.Rows.claim.Goals as goal
-use Rattle.cal_once.proofs.rows.Rows.claim.Goals.{After-len, then-not-drafted, else-not-drafted}
+use Rattle.cal_once.proofs.rows.Rows.claim.Goals.{After-offer-found}
 
--- the record is drafted, now or before
-is_drafted : (g : _) (c : After-len g) → c.if-not-drafted.seat.me.0 ≡ record c.args.seat.now.me.0 { draft = g.P.Packed.words c.args.rec.now }
-is_drafted g c = elim c.if-not-drafted.branch [
-  | then-not-drafted w ↦ ap (λ s. s.me.0) w.seat-is ∙ w.draft.ensures.drafted
-  | else-not-drafted w ↦ ap (λ s. s.me.0) w.seat-is ∙ ap (λ (l : List ℕ). let v : View _ = record c.args.seat.now.me.0 { draft = l } in v) (c.requires.drafted w.if-not-drafted.false)
-]
+pub offer-found-requires-clause-may : goal.offer-found-requires-clause-may
+offer-found-requires-clause-may g c = may_offer g.S.RecSort (plan_of c.args.self.now) c.args.seat.now.me.0 c.draft.new.seat.me.0 (g.P.Packed.words c.args.rec.now) c.args.at.place c.args.at.distance c.draft.ensures.drafted c.requires.may c.requires.at
 
-pub offer-requires-clause-may : goal.offer-requires-clause-may
-offer-requires-clause-may g c = subst (λ (v : View _). MayOffer g.S.RecSort.is_record g.S.RecSort.may_publish g.S.RecSort.home_of (plan_of c.args.self.now) v c.args.at.place c.args.at.distance) (sym (is_drafted g c)) c.requires.may
+-- what the exchange leaves
+left : (g : _) (c : After-offer-found g) → c.offer-found.new.seat.me.0 ≡ offered c.args.at.place (slot_for (length (g.P.Packed.words c.args.rec.now)) (arena_start (plan_of c.args.self.now).shape c.args.number + c.args.used)) c.offer-found.result (record c.args.seat.now.me.0 { draft = g.P.Packed.words c.args.rec.now })
+left g c = ap (λ m. m.0) c.offer-found.ensures.offered.view ∙ (λ i. offered c.args.at.place (slot_for (c.len.ensures i) (arena_start (c.args.self.now.plan_is i).shape c.args.number + c.args.used)) c.offer-found.result (c.draft.ensures.drafted i))
+
+pub returns-then-found-eq0-clause-visits : goal.returns-then-found-eq0-clause-visits
+returns-then-found-eq0-clause-visits g c =
+    let plan = plan_of c.args.self.now in
+    let shape = subst (λ p. IsShape p.shape) c.args.self.now.plan_is c.args.self.now.shaped in
+    let is_arena = c.requires.sound.own_arena in
+    let room = c.requires.room in
+    published_here (ask_for g.S.RecSort plan (g.P.Packed.words c.args.rec.now)) c.args.seat.now.me.0 c.offer-found.new.seat.me.0 c.args.at.place c.args.at.distance (arena_start plan.shape c.args.number + c.args.used) c.offer-found.result
+    (left g (goal.at.returns-then-found-eq0-clause-visits g c).After-offer-found) c.if-found-eq0.true (start_small plan.shape c.args.number c.args.used shape (omega arith) (omega arith)) c.requires.at
+
+-- the slot was filled by another seat
+learned : (g : _) (c : After-offer-found g) → c.offer-found.result ≢ 0 → Learns c.args.seat.now.me.0 c.offer-found.new.seat.me.0 × Saw c.offer-found.new.seat.me.0.seen (c.args.at.place + 1) c.offer-found.result
+learned g c ne = missed (ask_for g.S.RecSort (plan_of c.args.self.now) (g.P.Packed.words c.args.rec.now)) c.args.seat.now.me.0 c.offer-found.new.seat.me.0 c.args.at.place (slot_for (length (g.P.Packed.words c.args.rec.now)) (arena_start (plan_of c.args.self.now).shape c.args.number + c.args.used)) c.offer-found.result (left g c) ne
+
+pub meet-requires-clause-at : goal.meet-requires-clause-at
+meet-requires-clause-at g c =
+    let l = learned g (goal.at.meet-requires-clause-at g c).After-offer-found c.if-found-eq0.false in
+    reached_later (ask_for g.S.RecSort (plan_of c.args.self.now) (g.P.Packed.words c.args.rec.now)) c.args.seat.now.me.0 c.offer-found.new.seat.me.0 c.args.at.place c.args.at.distance l.0.more c.requires.at

@@ -1,47 +1,7 @@
-use Rattle.std.proofs.Common.{◌+◌, ◌%◌, ◌^◌, ℕ, ap, ◌∙◌, sym, subst, refl, arith, below_more}
-use Rattle.cal_once.specs.Views.{Saw}
-use Rattle.cal_once.proofs.Learning.{learns_nothing, learns_read, learns_then, saw_read, from_same}
+use Rattle.std.proofs.Common.{◌+◌, ◌^◌, ◌%◌, ap, ◌∙◌, arith}
 use Rattle.cal_once.proofs.rows.Rows.compare.Goals as goal
 
-pub read-word-requires : goal.read-word-requires
-read-word-requires g c = record {
-  seat = c.loop-i.invariant.at;
-  place = c.requires.place;
-  known = c.loop-i.invariant.learns.more (c.args.place + 1) c.args.slot c.requires.known;
-  sound = c.loop-i.invariant.sound;
-  inside = (omega arith, omega arith);
-}
-
-pub loop-i-init : goal.loop-i-init
-loop-i-init g c = record {
-  at = c.requires.seat;
-  hand = refl;
-  known = λ k l. absurd (omega arith);
-  learns = learns_nothing c.args.seat.now.me.0;
-  drafted = refl;
-  sound = c.requires.sound;
-}
-
-pub loop-i-preserved : goal.loop-i-preserved
-loop-i-preserved g c =
+pub returns-clause-same : goal.returns-clause-same
+returns-clause-same g c =
     let inv = c.loop-i.invariant in
-    let step = learns_read c.loop-i.seat.me.0 c.read-word.new.seat.me.0 (c.args.slot % 2 ^ 32 + c.loop-i.i) c.read-word.result (ap (λ m. m.0) c.read-word.ensures.read.view) in
-    record {
-      at = c.read-word.ensures.seat;
-      hand = ap (λ m. m.1) c.read-word.ensures.read.view ∙ inv.hand;
-      known = below_more _ _ (λ k l. step.more _ _ (inv.known k l)) (let same = from_same _ _ (sym c.matches.ensures ∙ c.if-not-matches.false) in subst (λ (x : ℕ). Saw c.read-word.new.seat.me.0.seen (c.args.slot % 2 ^ 32 + c.loop-i.i) x) (sym same) (saw_read c.loop-i.seat.me.0 c.read-word.new.seat.me.0 (c.args.slot % 2 ^ 32 + c.loop-i.i) c.read-word.result (ap (λ m. m.0) c.read-word.ensures.read.view)));
-      learns = learns_then c.args.seat.now.me.0 c.loop-i.seat.me.0 c.read-word.new.seat.me.0 inv.learns step;
-      drafted = ap (λ m. m.0.draft) c.read-word.ensures.read.view ∙ inv.drafted;
-      sound = c.read-word.ensures.read.sound _ inv.at.plan;
-    }
-
-pub returns : goal.returns
-returns g c =
-    let inv = c.loop-i.invariant in
-    record {
-      seat = (inv.at, inv.hand);
-      same = record { slot = c.args.slot; known = inv.learns.more _ _ c.requires.known; size = c.if-slot-size.false ∙ c.len-size.ensures; each = λ i l. inv.known i (omega arith) };
-      other = tt;
-      learns = (inv.learns, inv.drafted);
-      sound = inv.sound;
-    }
+    record { slot = c.args.slot; known = inv.learns.more _ _ c.requires.known; size = c.if-slot-size.false ∙ c.len-size.ensures; each = λ i l. inv.known i (omega arith) }

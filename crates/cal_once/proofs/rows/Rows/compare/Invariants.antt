@@ -11,6 +11,5 @@ invariant-loop-i g l = record {
   hand : l.seat.me.1 ≡ l.initial.seat.me.1;
   known : (k : ℕ) → k < l.i → Saw l.seat.me.0.seen (l.start + k) (slice_index (g.P.Packed.words l.rec) k);
   learns : Learns l.initial.seat.me.0 l.seat.me.0;
-  drafted : l.seat.me.0.draft ≡ l.initial.seat.me.0.draft;
-  sound : IsSound g.S.RecSort.is_record g.S.RecSort.may_publish (plan_of l.self) l.seat.me.0;
+  sound : IsSound g.S.RecSort (plan_of l.self) l.seat.me.0;
 }

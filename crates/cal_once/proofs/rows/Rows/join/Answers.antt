@@ -1,19 +1,17 @@
 use Rattle.std.proofs.Common.{◌+◌, ◌-◌, length, ap, ◌∙◌, sym, arith}
 use Rattle.cal_once.proofs.Seen.{length-joined}
 use Rattle.cal_once.proofs.Seats.{allows_join}
-use Rattle.cal_once.proofs.Within.{words_are}
 use Rattle.cal_once.proofs.rows.Rows.join.Goals as goal
 
 pub join_seat-requires : goal.join_seat-requires
 join_seat-requires g c =
     let rows = c.args.self.now in
-    let plan = rows.table.shared.key in
-    let long = words_are rows.plan plan rows.table.shared.table_id.words rows.plan_is rows.long in (
+    let plan = rows.table.shared.key in (
       c.requires.seats.0.table,
       ap (λ s. s.table_id) c.into_seat.ensures.seat ∙ c.requires.seats.1.table,
       c.into_seat.ensures.bare,
       omega arith,
-      allows_join g.S.RecSort.is_record g.S.RecSort.home_of g.S.RecSort.may_publish g.S.RecSort.has_parent plan c.args.seat.now.seat.id c.args.seat.now.seat.me.0 c.into_seat.result.id c.into_seat.result.me.0 c.requires.seats.0.plan c.requires.first
+      allows_join g.S.RecSort plan c.args.seat.now.seat.id c.args.seat.now.seat.me.0 c.into_seat.result.id c.into_seat.result.me.0 c.requires.seats.0.plan c.requires.first
           (ap (λ s. s.me.0.plan) c.into_seat.ensures.seat ∙ c.requires.seats.1.plan),
     )
 

@@ -9,5 +9,5 @@ use Rattle.cal_once.proofs.rows.Rows.new.Goals as goal
 pub of_words-requires : goal.of_words-requires
 of_words-requires g c =
     let plan : Plan g.row.S.Denot = record { shape = c.args.shape; sort = c.args.sort } in
-    subst (λ (ws : List ℕ). Kept g.S.RecSort.is_record g.S.RecSort.home_of g.S.RecSort.may_publish plan (opening ws [] (first_seat plan))) (sym (c.as_slice.ensures.value ∙ c.in_ok-words.ensures))
-    (opens g.S.RecSort.is_record g.S.RecSort.home_of g.S.RecSort.may_publish plan c.requires)
+    subst (λ (ws : List ℕ). Kept g.S.RecSort plan (opening ws [] (first_seat plan))) (sym (c.as_slice.ensures.value ∙ c.in_ok-words.ensures))
+    (opens g.S.RecSort plan c.requires)

@@ -1,21 +1,12 @@
-use Rattle.std.proofs.Common.{ap, arith}
+use Rattle.std.proofs.Common.{arith}
 use Rattle.cal_once.proofs.Seats.{allows_split}
-use Rattle.cal_once.proofs.Within.{words_are}
 use Rattle.cal_once.proofs.rows.Rows.split.Goals as goal
 
 pub split_seat-new-requires : goal.split_seat-new-requires
 split_seat-new-requires g c =
     let rows = c.args.self.now in
-    let plan = rows.table.shared.key in
-    let long = words_are rows.plan plan rows.table.shared.table_id.words rows.plan_is rows.long in (
+    let plan = rows.table.shared.key in (
       c.requires.seat.table,
       omega arith,
-      allows_split g.S.RecSort.is_record g.S.RecSort.home_of g.S.RecSort.may_publish g.S.RecSort.has_parent plan c.args.seat.now.seat.id c.args.seat.now.seat.me.0 c.requires.seat.plan c.requires.first c.requires.some_left,
+      allows_split g.S.RecSort plan c.args.seat.now.seat.id c.args.seat.now.seat.me.0 c.requires.seat.plan c.requires.first c.requires.some_left,
     )
-
-pub overflow_add-seat : goal.overflow_add-seat
-overflow_add-seat g c =
-    let arenas = ap (λ p. p.shape.arenas) c.args.self.now.plan_is in
-    let made = c.args.seat.now.made_is in
-    let left = c.requires.some_left in
-    omega arith

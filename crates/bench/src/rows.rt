@@ -1,0 +1,110 @@
+ghost use Rattle.std.specs.Prelude.{◌≡◌, ◌+◌, ◌^◌, ◌<◌, ◌≤◌, All, length};
+ghost use Rattle.cal_once.specs.Seats.{IsSeatOf, plan_of, view};
+ghost use Rattle.cal_once.specs.Views.{first_seat};
+
+use anyhow::Result;
+use cal_once::{RowSeat, Rows, Shape};
+use cal_value::Variant;
+use cal_words::{NodeId, NodeRec, NodeSort, know_node};
+use std::rt::Clock;
+use std::thread;
+use std::thread::Threads;
+use std::time::Instant;
+
+/// How many records are put in all, and how many slots there are.
+const RECORDS: u32 = 1_000_000;
+
+const SLOTS: u64 = 1 << 21;
+
+/// Times a million inserts by one seat, as many searches for known records, and half a million
+/// inserts each by two seats side by side.
+pub fn measure<R: Clock + Print + AllocGlobal + Threads + Sync>(rt: &R) -> Result<()> {
+    alone(rt)?;
+    side_by_side(rt)
+}
+
+// Puts the children of the root with these attributes.
+fn fill(rows: &Rows<NodeSort>, seat: &mut RowSeat<NodeSort>, from: u32, count: u32)
+    requires seat { IsSeatOf rows.now seat.old }
+    requires few { from + count < 2 ^ 32 }
+    ensures { IsSeatOf rows.now seat.new }
+{
+    let value = Variant::Bool(true);
+    for attr in from..from + count {
+        let rec = NodeRec {
+            parent: NodeId(0),
+            depth: 1,
+            attr,
+            value: &value,
+        };
+        know_node(&rec);
+        let _ = rows.put(seat, &rec, 0);
+    }
+}
+
+fn alone(rt: &(impl Clock + Print + AllocGlobal)) -> Result<()> {
+    let shape = Shape {
+        slots: SLOTS,
+        homes: SLOTS,
+        arena: 5_000_000,
+        arenas: 1,
+    };
+    let (rows, mut seat) = Rows::new(rt.alloc(), shape, NodeSort)?;
+    let begun = Instant::now(rt)?;
+    fill(&rows, &mut seat, 0, RECORDS);
+    let new = begun.elapsed(rt)?;
+    let begun = Instant::now(rt)?;
+    fill(&rows, &mut seat, 0, RECORDS);
+    let known = begun.elapsed(rt)?;
+    println!(rt;
+        "one seat: {} ms for new records, {} ms for known ones, {} filled",
+        new.as_millis(),
+        known.as_millis(),
+        rows.filled(&mut seat)
+    )?;
+    Ok(())
+}
+
+#[derive(Drop)]
+struct Worker {
+    seat: RowSeat<NodeSort>,
+}
+
+fn side_by_side<R: Clock + Print + AllocGlobal + Threads + Sync>(rt: &R) -> Result<()> {
+    let shape = Shape {
+        slots: SLOTS,
+        homes: SLOTS,
+        arena: 2_500_000,
+        arenas: 3,
+    };
+    let (rows, mut first) = Rows::new(rt.alloc(), shape, NodeSort)?;
+    let one = rows.split(&mut first);
+    let two = rows.split(&mut first);
+    let mut workers = [Worker { seat: one }, Worker { seat: two }];
+    let begun = Instant::now(rt)?;
+    fill_all(rt, &rows, &mut workers);
+    let new = begun.elapsed(rt)?;
+    println!(rt;
+        "two seats: {} ms for new records, {} known",
+        new.as_millis(),
+        rows.filled(&mut first)
+    )?;
+    Ok(())
+}
+
+fn fill_all<R: Threads + Sync>(rt: &R, rows: &Rows<NodeSort>, workers: &mut [Worker])
+    requires seats { All (λ w. IsSeatOf rows.now w.seat) workers.old }
+    requires two { length workers.old ≡ 2 }
+{
+    thread::for_each_mut(
+        rt,
+        workers,
+        2,
+        &|number, worker| fill(
+            rows,
+            &mut worker.seat,
+            RECORDS / 2 * number as u32,
+            RECORDS / 2,
+        ),
+    );
+}

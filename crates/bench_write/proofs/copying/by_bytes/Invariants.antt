@@ -1,7 +1,0 @@
-use Rattle.std.proofs.Common.{◌≡◌, take}
-use Rattle.bench_write.specs.Copies.{with_escapes}
-use Rattle.bench_write.proofs.copying.by_bytes.Given as goal
-
--- the bytes so far are copied
-abbrev pub invariant-loop-byte : goal.invariant-loop-byte
-invariant-loop-byte l = l.out.items ≡ with_escapes (take l.byte-index l.bytes)

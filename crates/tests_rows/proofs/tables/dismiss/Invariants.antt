@@ -1,0 +1,14 @@
+use Rattle.std.proofs.Common.{◌≡◌, All, vec_len}
+use Rattle.cal_once.specs.Seats.{IsSeatOf, view}
+use Rattle.tests_rows.proofs.tables.dismiss.Given as goal
+
+-- each worker that is left has a seat of the table
+abbrev pub invariant-loop-worker : goal.invariant-loop-worker
+invariant-loop-worker l = record {
+  seat : IsSeatOf l.rows l.first;
+  first : (view l.first).number ≡ 0;
+  seats : All (λ w. IsSeatOf l.rows w.seat) l.workers.items;
+}
+
+abbrev pub decreases-loop-worker : goal.decreases-loop-worker
+decreases-loop-worker l = vec_len l.workers

@@ -1,0 +1,13 @@
+use Rattle.std.proofs.Common.{◌≡◌, All, length, vec_len}
+use Rattle.cal_once.specs.Seats.{IsSeatOf, view}
+use Rattle.tests_rows.proofs.tables.hire.Given as goal
+
+-- each worker so far has a seat of the table
+abbrev pub invariant-loop-number : goal.invariant-loop-number
+invariant-loop-number l = record {
+  seat : IsSeatOf l.rows l.first;
+  first : (view l.first).number ≡ 0;
+  made : length (view l.first).others ≡ l._number;
+  hired : vec_len l.workers ≡ l._number;
+  seats : All (λ w. IsSeatOf l.rows w.seat) l.workers.items;
+}
