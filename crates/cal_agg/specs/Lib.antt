@@ -1,0 +1,5 @@
+pub mod Numbers
+pub mod Results
+pub mod Parts
+pub mod Joins
+pub mod Laws

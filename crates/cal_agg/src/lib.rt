@@ -1,0 +1,23 @@
+//! Aggregation kernels: what a query or a table keeps of a list of numbers.
+//!
+//! The layers above use that a kernel is a function of the numbers that were added, that adding a
+//! concatenation is merging, that merging is associative and commutative with `start` as its unit, and
+//! that `value` is the kernel's definition over those numbers. No kernel takes memory.
+#![tactic(auto)]
+
+mod count;
+mod formulas;
+mod greatest;
+mod kernel;
+mod least;
+mod num;
+mod parts;
+mod sum;
+
+pub use count::Count;
+pub use formulas::{average, percent_total};
+pub use greatest::Greatest;
+pub use kernel::Kernel;
+pub use least::Least;
+pub use num::Num;
+pub use sum::Sum;
