@@ -3,3 +3,4 @@ pub mod Results
 pub mod Parts
 pub mod Joins
 pub mod Laws
+pub mod Rows

@@ -5,6 +5,7 @@
 //! that `value` is the kernel's definition over those numbers. No kernel takes memory.
 #![tactic(auto)]
 
+mod cell;
 mod count;
 mod formulas;
 mod greatest;
@@ -12,12 +13,15 @@ mod kernel;
 mod least;
 mod num;
 mod parts;
+mod row;
 mod sum;
 
+pub use cell::Cell;
 pub use count::Count;
 pub use formulas::{average, percent_total};
 pub use greatest::Greatest;
 pub use kernel::Kernel;
 pub use least::Least;
 pub use num::Num;
+pub use row::AggRow;
 pub use sum::Sum;
