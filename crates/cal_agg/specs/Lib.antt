@@ -2,5 +2,6 @@ pub mod Numbers
 pub mod Results
 pub mod Parts
 pub mod Joins
-pub mod Laws
+pub mod Shown
+pub mod Limits
 pub mod Rows

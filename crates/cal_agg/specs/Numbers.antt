@@ -1,5 +1,6 @@
 -- The numbers that kernels take: whole ones, and fixed ones in nano-units.
-use Rattle.std.specs.Prelude.{ℕ, ◌≤◌, ◌^◌, ℤ, pos, ◌*ℤ◌, unsigned_abs, Bool, true, false, ◌||◌, List, [], ◌∷◌}
+use Rattle.std.specs.Prelude.{ℕ, ◌≤◌, ◌^◌, ℤ, pos, ◌*ℤ◌, unsigned_abs}
+use Rattle.std.specs.Prelude.{Bool, true, false, ◌||◌, List, [], ◌∷◌}
 use Rattle.cal_agg.specs.declared.num.Num.{Num}
 use Rattle.cal_agg.specs.declared.num.Num.TheVariants.{Whole, Fixed}
 

@@ -48,7 +48,8 @@ pub record RowHasRoom (row : AggRow) : Type 0 where
   pub cells : All CellHasRoom row.cells
 
 -- adding a concatenation to a cell is merging
-pub cell_over-append : (ns ms : List Num) → cell_over (ns ++ ms) ≡ merged_cell (cell_over ns) (cell_over ms)
+pub cell_over-append : (ns ms : List Num)
+  → cell_over (ns ++ ms) ≡ merged_cell (cell_over ns) (cell_over ms)
 cell_over-append ns ms = λ i. record {
   sum = parts_by-append sum_joins ns ms i;
   least = parts_by-append least_joins ns ms i;

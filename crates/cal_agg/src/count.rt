@@ -3,7 +3,8 @@ ghost use Rattle.std.proofs.Math.IntN.{+ℤ_idl, +ℤ_comm, +ℤ_assoc};
 ghost use Rattle.cal_agg.specs.declared.num.Num.TheVariants.{Whole};
 ghost use Rattle.cal_agg.specs.Numbers.{IsSmallWhole, IsWithin};
 ghost use Rattle.cal_agg.specs.Results.{count_of};
-ghost use Rattle.cal_agg.specs.Laws.{count_of-append, count_of-within};
+ghost use Rattle.cal_agg.specs.Joins.{count_of-append};
+ghost use Rattle.cal_agg.specs.Limits.{count_of-within};
 
 use crate::{Kernel, Num};
 use std::marker::Model;

@@ -2,7 +2,9 @@ ghost use Rattle.std.specs.Int.{int_max};
 ghost use Rattle.cal_agg.specs.Numbers.{IsSmall};
 ghost use Rattle.cal_agg.specs.Parts.{IsAny, merged_by, greatest_over};
 ghost use Rattle.cal_agg.specs.Results.{greatest_of};
-ghost use Rattle.cal_agg.specs.Joins.{greatest_joins, merged_comm, merged_assoc, no_parts_unit, parts_by-append, value_by};
+ghost use Rattle.cal_agg.specs.Joins.{greatest_joins, merged_assoc, merged_comm};
+ghost use Rattle.cal_agg.specs.Joins.{no_parts_unit, parts_by-append};
+ghost use Rattle.cal_agg.specs.Shown.{value_by};
 
 use crate::parts::{greater, measured};
 use crate::{Kernel, Num};
@@ -73,7 +75,7 @@ impl Kernel for Greatest {
         self.fixed = greater(self.fixed, other.fixed);
     }
 
-    #[tactic(auto, using(crate::specs::Joins::greatest_of_added))]
+    #[tactic(auto, using(crate::specs::Shown::greatest_of_added))]
     fn value(&self) -> Option<Num> {
         match (self.whole, self.fixed) {
             (None, None) => None,

@@ -2,7 +2,9 @@ ghost use Rattle.std.specs.Int.{int_min};
 ghost use Rattle.cal_agg.specs.Numbers.{IsSmall};
 ghost use Rattle.cal_agg.specs.Parts.{IsAny, merged_by, least_over};
 ghost use Rattle.cal_agg.specs.Results.{least_of};
-ghost use Rattle.cal_agg.specs.Joins.{least_joins, merged_comm, merged_assoc, no_parts_unit, parts_by-append, value_by};
+ghost use Rattle.cal_agg.specs.Joins.{least_joins, merged_assoc, merged_comm};
+ghost use Rattle.cal_agg.specs.Joins.{no_parts_unit, parts_by-append};
+ghost use Rattle.cal_agg.specs.Shown.{value_by};
 
 use crate::parts::{lesser, measured};
 use crate::{Kernel, Num};
@@ -73,7 +75,7 @@ impl Kernel for Least {
         self.fixed = lesser(self.fixed, other.fixed);
     }
 
-    #[tactic(auto, using(crate::specs::Joins::least_of_added))]
+    #[tactic(auto, using(crate::specs::Shown::least_of_added))]
     fn value(&self) -> Option<Num> {
         match (self.whole, self.fixed) {
             (None, None) => None,

@@ -1,8 +1,9 @@
 //! Aggregation kernels: what a query or a table keeps of a list of numbers.
 //!
 //! The layers above use that a kernel is a function of the numbers that were added, that adding a
-//! concatenation is merging, that merging is associative and commutative with `start` as its unit, and
-//! that `value` is the kernel's definition over those numbers. No kernel takes memory.
+//! concatenation is merging, that merging is associative and commutative with `start` as its unit,
+//! and that `value` is the kernel's definition over those numbers. Only making a row takes memory.
+//! How a query finds the numbers of a group isn't said here.
 #![tactic(auto)]
 
 mod cell;

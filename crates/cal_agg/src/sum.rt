@@ -2,8 +2,10 @@ ghost use Rattle.std.specs.Prelude.{◌+ℤ◌};
 ghost use Rattle.cal_agg.specs.Numbers.{IsSmall};
 ghost use Rattle.cal_agg.specs.Parts.{AreWithin, merged_by, sum_over};
 ghost use Rattle.cal_agg.specs.Results.{sum_of};
-ghost use Rattle.cal_agg.specs.Joins.{sum_joins, merged_comm, merged_assoc, no_parts_unit, parts_by-append, sum_held};
-ghost use Rattle.cal_agg.specs.Laws.{sum_over-within};
+ghost use Rattle.cal_agg.specs.Joins.{sum_joins, merged_assoc, merged_comm};
+ghost use Rattle.cal_agg.specs.Joins.{no_parts_unit, parts_by-append};
+ghost use Rattle.cal_agg.specs.Shown.{sum_held};
+ghost use Rattle.cal_agg.specs.Limits.{sum_over-within};
 
 use crate::parts::{added, fixed_sum, mixed_sum};
 use crate::{Kernel, Num};
@@ -70,7 +72,7 @@ impl Kernel for Sum {
         self.fixed = added(self.fixed, other.fixed);
     }
 
-    #[tactic(auto, using(crate::specs::Joins::sum_of_added))]
+    #[tactic(auto, using(crate::specs::Shown::sum_of_added))]
     fn value(&self) -> Option<Num> {
         match (self.whole, self.fixed) {
             (None, None) => None,
