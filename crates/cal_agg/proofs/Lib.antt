@@ -1,2 +1,3 @@
 mod Cells
+mod Ends
 mod Sums

@@ -12,7 +12,7 @@ pub record IsSum (x y : Option ℤ) (a b : ℤ) : Type 0 where
   pub fits : FitsSigned w128 (a +ℤ b)
 
 pub both-sum : (x y : Option ℤ) (a b : ℤ) → x ≡ Some a → y ≡ Some b
-  → ForSome (both ◌+ℤ◌ x y) (IsWithin 126) → IsSum x y a b
+    → ForSome (both ◌+ℤ◌ x y) (IsWithin 126) → IsSum x y a b
 both-sum x y a b p q small =
     let value : both ◌+ℤ◌ x y ≡ Some (a +ℤ b) = rw (p, q) in
     let below : unsigned_abs (a +ℤ b) ≤ 2 ^ 126 = small (a +ℤ b) value in

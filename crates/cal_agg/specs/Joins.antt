@@ -49,7 +49,7 @@ module _ {join : ℤ → ℤ → ℤ} (joins : IsJoin join) where
   both_comm (Some x) (Some y) = ap Some (joins.commutative x y)
 
   pub both_assoc : (x y z : Option ℤ)
-    → both join (both join x y) z ≡ both join x (both join y z)
+      → both join (both join x y) z ≡ both join x (both join y z)
   both_assoc None y z = refl
   both_assoc (Some x) None z = refl
   both_assoc (Some x) (Some y) None = refl
@@ -57,13 +57,13 @@ module _ {join : ℤ → ℤ → ℤ} (joins : IsJoin join) where
 
   -- two numbers taken into a third in either order
   pub both_swap : (x y z : Option ℤ)
-    → both join x (both join y z) ≡ both join y (both join x z)
+      → both join x (both join y z) ≡ both join y (both join x z)
   both_swap x y z =
       sym (both_assoc x y z) ∙ ap (λ w. both join w z) (both_comm x y) ∙ both_assoc y x z
 
   -- numbers measured after they were taken together
   pub both-measured : (x y : Option ℤ)
-    → option_map nano_units (both join x y)
+      → option_map nano_units (both join x y)
       ≡ both join (option_map nano_units x) (option_map nano_units y)
   both-measured None y = refl
   both-measured (Some x) None = refl
@@ -76,7 +76,7 @@ module _ {join : ℤ → ℤ → ℤ} (joins : IsJoin join) where
   }
 
   pub merged_assoc : (k l m : Parts)
-    → merged_by join (merged_by join k l) m ≡ merged_by join k (merged_by join l m)
+      → merged_by join (merged_by join k l) m ≡ merged_by join k (merged_by join l m)
   merged_assoc k l m = λ i. record {
     whole = both_assoc k.whole l.whole m.whole i;
     fixed = both_assoc k.fixed l.fixed m.fixed i;
@@ -84,15 +84,15 @@ module _ {join : ℤ → ℤ → ℤ} (joins : IsJoin join) where
 
   -- adding a concatenation is merging
   pub parts_by-append : (ns ms : List Num)
-    → parts_by join (ns ++ ms) ≡ merged_by join (parts_by join ns) (parts_by join ms)
+      → parts_by join (ns ++ ms) ≡ merged_by join (parts_by join ns) (parts_by join ms)
   parts_by-append [] ms = refl
   parts_by-append (n ∷ ns) ms =
       ap (merged_by join (part_of n)) (parts_by-append ns ms)
-        ∙ sym (merged_assoc (part_of n) (parts_by join ns) (parts_by join ms))
+      ∙ sym (merged_assoc (part_of n) (parts_by join ns) (parts_by join ms))
 
 -- so it is for a count
 pub count_of-append : (ns ms : List Num) → count_of (ns ++ ms) ≡ count_of ns +ℤ count_of ms
 count_of-append [] ms = sym (+ℤ_idl (count_of ms))
 count_of-append (n ∷ ns) ms =
     ap (λ z. number n +ℤ z) (count_of-append ns ms)
-      ∙ sym (+ℤ_assoc (number n) (count_of ns) (count_of ms))
+    ∙ sym (+ℤ_assoc (number n) (count_of ns) (count_of ms))

@@ -5,3 +5,4 @@ pub mod Joins
 pub mod Shown
 pub mod Limits
 pub mod Rows
+pub mod Ends

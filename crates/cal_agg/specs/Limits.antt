@@ -16,7 +16,7 @@ unsigned_abs-add : (x y : ℤ) → unsigned_abs (x +ℤ y) ≤ unsigned_abs x + 
 unsigned_abs-add x y = omega (arith, ints)
 
 count_bound : (ns : List Num) → AllByRecursion IsSmallWhole ns
-  → unsigned_abs (count_of ns) ≤ length ns * 2 ^ 86
+    → unsigned_abs (count_of ns) ≤ length ns * 2 ^ 86
 count_bound [] h = omega arith
 count_bound (Whole n ∷ ns) h =
     let rest = count_bound ns h.1 in
@@ -27,7 +27,7 @@ count_bound (Fixed n ∷ ns) h = absurd h.0
 
 -- a count of at most 2^40 weights
 pub count_of-within : (ns : List Num) → All IsSmallWhole ns → length ns ≤ 2 ^ 40
-  → IsWithin 126 (count_of ns)
+    → IsWithin 126 (count_of ns)
 count_of-within ns small short =
     let bound = count_bound ns (recursion_from_All IsSmallWhole ns small) in
     omega arith
@@ -61,12 +61,12 @@ sum_bound (Fixed n ∷ ns) h =
     record { whole = omega arith; fixed = omega arith }
 
 magnitude_within : (bits : ℕ) (z : Option ℤ) → magnitude z ≤ 2 ^ bits
-  → (x : ℤ) → z ≡ Some x → IsWithin bits x
+    → (x : ℤ) → z ≡ Some x → IsWithin bits x
 magnitude_within bits z h x e = rw e at h
 
 -- a sum of at most 2^40 numbers
 pub sum_over-within : (ns : List Num) → All IsSmall ns → length ns ≤ 2 ^ 40
-  → AreWithin 126 (sum_over ns)
+    → AreWithin 126 (sum_over ns)
 sum_over-within ns small short =
     let bound = sum_bound ns (recursion_from_All IsSmall ns small) in
     record {
@@ -76,7 +76,7 @@ sum_over-within ns small short =
 
 -- a sum of at most 2^32 numbers, of which a percentage may be taken
 pub sum_over-within_118 : (ns : List Num) → All IsSmall ns → length ns ≤ 2 ^ 32
-  → AreWithin 118 (sum_over ns)
+    → AreWithin 118 (sum_over ns)
 sum_over-within_118 ns small short =
     let bound = sum_bound ns (recursion_from_All IsSmall ns small) in
     record {

@@ -49,7 +49,7 @@ pub record RowHasRoom (row : AggRow) : Type 0 where
 
 -- adding a concatenation to a cell is merging
 pub cell_over-append : (ns ms : List Num)
-  → cell_over (ns ++ ms) ≡ merged_cell (cell_over ns) (cell_over ms)
+    → cell_over (ns ++ ms) ≡ merged_cell (cell_over ns) (cell_over ms)
 cell_over-append ns ms = λ i. record {
   sum = parts_by-append sum_joins ns ms i;
   least = parts_by-append least_joins ns ms i;
@@ -58,7 +58,7 @@ cell_over-append ns ms = λ i. record {
 
 -- so it is for the cells of a row
 pub merged_cells-map : {A : Type 0} (f g : A → List Num) (xs : List A)
-  → merged_cells (map (λ x. cell_over (f x)) xs) (map (λ x. cell_over (g x)) xs)
+    → merged_cells (map (λ x. cell_over (f x)) xs) (map (λ x. cell_over (g x)) xs)
     ≡ map (λ x. cell_over (f x ++ g x)) xs
 merged_cells-map f g [] = refl
 merged_cells-map f g (x ∷ xs) =

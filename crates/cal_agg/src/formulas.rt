@@ -9,10 +9,8 @@ use crate::{Kernel, Num, Sum};
 
 /// `avg`: a sum divided by the number of its contributions, rounded towards 0.
 pub fn average(sum: &Sum, contributions: u64) -> Option<Num>
-    ensures {
-        (ns : List Number) → sum.now ≡ sum_over ns → contributions ≡ length ns
-          → result ≡ average_of ns
-    }
+    ensures { (ns : List Number) → sum.now ≡ sum_over ns → contributions ≡ length ns
+        → result ≡ average_of ns }
 {
     if contributions == 0 {
         return None;
@@ -26,10 +24,8 @@ pub fn average(sum: &Sum, contributions: u64) -> Option<Num>
 /// `percent_total`: a group's sum as a percentage of the sum of all groups, rounded towards 0.
 pub fn percent_total(group: &Sum, all: &Sum) -> Option<Num>
     requires { AreWithin 118 group.now }
-    ensures {
-        (ns ms : List Number) → group.now ≡ sum_over ns → all.now ≡ sum_over ms
-          → result ≡ percent_total_of ns ms
-    }
+    ensures { (ns ms : List Number) → group.now ≡ sum_over ns → all.now ≡ sum_over ms
+        → result ≡ percent_total_of ns ms }
 {
     match (group.value()?, all.value()?) {
         (Num::Whole(group), Num::Whole(all)) => percentage(group, all),

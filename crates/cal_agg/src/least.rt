@@ -19,9 +19,7 @@ pub struct Least {
 
 impl Model for Least {
     ghost use Rattle.std.specs.Option.{ForSome};
-
     ghost use Rattle.cal_agg.specs.Numbers.{IsWithin};
-
     ghost use Rattle.cal_agg.specs.Parts.{Parts};
 
     ghost Value = { Parts };
