@@ -14,7 +14,7 @@ module _ {S : Type 0} (over : List Num → S) (merged : S → S → S)
       → merged kernel (over (x ∷ [])) ≡ over (take (i + 1) xs)
   over_next xs i x kernel e short read =
       ap (λ k. merged k (over (x ∷ []))) e ∙ sym (concatenation (take i xs) (x ∷ []))
-        ∙ ap (λ y. over (take i xs ++ y ∷ [])) read ∙ ap over (sym (take_more xs i x short))
+      ∙ ap (λ y. over (take i xs ++ y ∷ [])) read ∙ ap over (sym (take_more xs i x short))
 
   -- there is room for it
   pub room_next : (takes : Num → Type 0) (has_room : S → Type 0)
@@ -25,4 +25,4 @@ module _ {S : Type 0} (over : List Num → S) (merged : S → S → S)
   room_next takes has_room room xs i x kernel e short read taken few =
       let some : length (take (i + 1) xs) ≤ 2 ^ 40 = simp length-take (omega arith) in
       subst has_room (sym (over_next xs i x kernel e short read))
-        (room (take (i + 1) xs) (All-take takes (i + 1) xs taken) some)
+      (room (take (i + 1) xs) (All-take takes (i + 1) xs taken) some)

@@ -122,15 +122,14 @@ fn numbers_at_their_limit(rt: HostRuntime) {
 #[test]
 fn a_fixed_sum_of_2_to_118_is_there(rt: HostRuntime) {
     let rest = 22821989124883899501170709;
-    let four = [Whole(LIMIT), Whole(LIMIT), Whole(LIMIT), Whole(LIMIT)];
+    let a = Whole(LIMIT);
+    let sum = summed(&rt, &[a, a, a, a, Whole(rest), Fixed(70086144)]);
     let most = 332306998946228968225951765070086144;
-    let [a, b, c, d] = four;
-    let sum = summed(&rt, &[a, b, c, d, Whole(rest), Fixed(70086144)]);
     assert_eq!(rt; sum.value(), Some(Fixed(most)));
-    let sum = summed(&rt, &[a, b, c, d, Whole(rest), Fixed(70086145)]);
+    let sum = summed(&rt, &[a, a, a, a, Whole(rest), Fixed(70086145)]);
     assert_eq!(rt; sum.value(), None);
     assert_eq!(rt; average(&sum, 6), None);
-    let sum = summed(&rt, &[a, b, c, d, Whole(rest), Whole(1)]);
+    let sum = summed(&rt, &[a, a, a, a, Whole(rest), Whole(1)]);
     assert_eq!(rt; sum.value(), Some(Whole(332306998946228968225951766)));
 }
 
@@ -149,10 +148,7 @@ fn percentages_round_towards_0(rt: HostRuntime) {
 
 #[test]
 fn a_percentage_of_too_large_a_measure_is_absent(rt: HostRuntime) {
-    let group = summed(
-        &rt,
-        &[Whole(LIMIT), Whole(LIMIT), Whole(LIMIT), Whole(LIMIT), Whole(LIMIT)],
-    );
+    let group = summed(&rt, &[Whole(LIMIT), Whole(LIMIT), Whole(LIMIT), Whole(LIMIT), Whole(LIMIT)]);
     assert_eq!(rt; percent_total(&group, &group), Some(Whole(100)));
     let all = summed(&rt, &[Fixed(1)]);
     assert_eq!(rt; percent_total(&group, &all), None);
@@ -186,7 +182,8 @@ fn a_cell_keeps_a_sum_and_both_ends(rt: HostRuntime) {
 fn a_count_reaches_2_to_126(rt: HostRuntime) {
     let mut count = Count::start();
     count.add(Whole(LIMIT));
-    for _bits in 86..126u32 {
+    for bits in 86..126u32 {
+        let _ = bits;
         let copy = count;
         count.merge(&copy);
     }
