@@ -13,5 +13,5 @@ pub doubled_within : (z : ℤ) (bits : ℕ) → unsigned_abs z ≤ 2 ^ bits → 
     → unsigned_abs (z +ℤ z) ≤ 2 ^ 126
 doubled_within z bits h short =
     let more = doubled z bits h in
-    let most : 2 ^ (bits + 1) ≤ 2 ^ 126 = pow_mono (omega arith) in
+    let most : 2 ^ (bits + 1) ≤ 2 ^ 126 = pow_mono {i = bits + 1} {j = 126} (omega arith) in
     omega arith
