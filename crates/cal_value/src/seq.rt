@@ -4,8 +4,13 @@ ghost use Rattle.std.specs.Option.{option_copied};
 ghost use Rattle.std.specs.Cmp.Lexicographic.{pointwise, lists_agrees, lists_equiv, lists_per};
 ghost use Rattle.std.specs.Cmp.Lexicographic.{lists_po, lists_ties, lists_total, slice_cmp};
 ghost use Rattle.std.specs.Cmp.Lexicographic.{slice_partial_cmp};
+ghost use Rattle.std.specs.Prelude.{◌≡◌, ◌==◌, ◌<◌, ◌↔◌, IsSome, [], ◌∷◌, ◌++◌, length, IfOk, IfSome, IfNone, OnOk, OnErr, slice_get, slice_set};
+ghost use Rattle.std.specs.Borrow.{LendsIf, sem};
+ghost use Rattle.std.specs.Option.{option_copied, option_copied_mut};
+ghost use Rattle.std.specs.Cmp.Lexicographic.{pointwise, lists_agrees, lists_equiv, lists_per, lists_po, lists_ties, lists_total, slice_cmp, slice_partial_cmp};
 ghost use Rattle.std.specs.Hash as fed;
 ghost use Rattle.std.specs.Hash.{items_Alike};
+ghost use Rattle.cal_value.specs.contracts.seq.Seq.{the_row};
 
 use crate::{OutOfMemory, TryCopy};
 use std::alloc::Global;
@@ -74,6 +79,15 @@ impl<T> Seq<T> {
         ensures { option_copied result ≡ slice_get self.now place }
     {
         self.items.as_slice().get(place)
+    }
+
+    /// The item at a place, to be changed where it is.
+    pub fn get_mut(&mut self, place: usize) -> Option<&mut T>
+        ensures* writes_back { sem 𝓛 (LendsIf (the_row T.row) T.row self.entry result (λ item. slice_set self.old place item) self.old) }
+        ensures item { option_copied_mut result ≡ slice_get self.old place }
+        ensures within { IsSome result ↔ (place < length self.old) }
+    {
+        self.items.get_mut(place)
     }
 
     /// Adds an item at the end. An `Err` leaves the list, and drops the item.

@@ -1,0 +1,4 @@
+mod Cells
+mod Ends
+mod Lists
+mod Sums
