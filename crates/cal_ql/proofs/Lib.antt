@@ -1,3 +1,5 @@
 pub mod Scans
 pub mod Choices
 pub mod TokenSteps
+pub mod Quotes
+pub mod Lists

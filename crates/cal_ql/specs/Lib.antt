@@ -1,7 +1,11 @@
+pub mod Clauses
+pub mod Conds
+pub mod Kernels
 pub mod Kinds
+pub mod Lets
 pub mod Names
 pub mod Reading
 pub mod Scanning
 pub mod Signs
-pub mod Tokens
 pub mod Steps
+pub mod Tokens

@@ -1,5 +1,5 @@
 -- What the steps of the reader answer (private).
-use Rattle.std.specs.Prelude.{◌≡◌, ℕ, ◌<◌, Result, Ok, Err}
+use Rattle.std.specs.Prelude.{◌≡◌, ℕ, ◌<◌, ◌≤◌, Result, Ok, Err}
 use Rattle.cal_ql.specs.declared.end.QueryEnd as ends
 use Rattle.cal_ql.specs.declared.end.QueryEnd.TheVariants as end
 use Rattle.cal_ql.specs.declared.ahead.Ahead.{Ahead}
@@ -29,6 +29,10 @@ tokens_ahead ahead = tokens_from ahead.whole ahead.rest.now 0
 -- one reader is further on than another
 unfoldable pub Advances : Ahead → Ahead → Type 0
 Advances old new = count (tokens_ahead new) < count (tokens_ahead old)
+
+-- or not further back
+unfoldable pub Keeps : Ahead → Ahead → Type 0
+Keeps old new = count (tokens_ahead new) ≤ count (tokens_ahead old)
 
 -- what a step that reads answers: a value and where it stopped
 abbrev pub seen_pair : {X : Type 0} → X × Ahead → X × Tokens

@@ -2,11 +2,18 @@
 #![tactic(auto)]
 
 mod ahead;
+mod basic;
+mod clauses;
+mod conds;
 mod end;
+mod kernels;
 mod kind;
+mod lets;
 mod names;
 mod query;
+mod rule;
 mod scan;
+mod select;
 mod token;
 
 pub use end::QueryEnd;
