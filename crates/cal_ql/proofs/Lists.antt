@@ -42,7 +42,7 @@ pub further-none : {X : Type 0} (item : ℕ → Tokens → Read X) (front : List
 further-none {X} item front zero n ts none = ap (λ (xs : List X). Ok (xs, ts)) (append-nil front)
 further-none {X} item front (suc most) n ts none = rw none (ap (λ (xs : List X). Ok (xs, ts)) (append-nil front))
 
-first_count : (ts rest : Tokens) (t : Token) → first_of ts ≡ Some (t, rest) → count ts ≡ suc (count rest)
+pub first_count : (ts rest : Tokens) (t : Token) → first_of ts ≡ Some (t, rest) → count ts ≡ suc (count rest)
 unfolding first_of
 first_count (end place) rest t e = absurd cc
 first_count (broken fault) rest t e = absurd cc

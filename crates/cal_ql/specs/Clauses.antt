@@ -100,6 +100,10 @@ clauses_within (suc most) clauses ts = do
   next ← clause_at clauses ts
   clauses_within most next.0 next.1
 
+-- all clauses, of which there are no more than tokens
+unfoldable pub all_clauses : Tokens → Result Clauses Fault
+all_clauses ts = clauses_within (count ts) no_clauses ts
+
 -- what SELECT lists, and the kernels of SELECT
 abbrev pub items_of : Option Selection → Option (List Item)
 items_of None = None
@@ -122,12 +126,6 @@ query_of clauses = record {
   format = unwrap_or clauses.format format.Expand;
 }
 
--- The query that tokens mean, or their first fault. There are no more clauses than tokens.
-unfoldable pub reading_of : Tokens → Result Query Fault
-reading_of ts = do
-  clauses ← clauses_within (count ts) no_clauses ts
-  Ok (query_of clauses)
-
 -- the query that a text means, or its first fault
 abbrev pub reading : List ℕ → Result Query Fault
-reading text = reading_of (tokens_of text)
+reading text = all_clauses (tokens_of text) >>= λ clauses. Ok (query_of clauses)

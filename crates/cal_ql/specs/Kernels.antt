@@ -34,8 +34,8 @@ names_behind ts = do
 -- ( [name {, name}] )
 unfoldable pub names_at : Tokens → Read (List (List ℕ))
 names_at ts = do
-  open ← past_sign signed.Open ts
-  option_map_or (λ close. Ok ([], close)) (behind_sign signed.Close open) (names_behind open)
+  inside ← past_sign signed.Open ts
+  option_map_or (λ close. Ok ([], close)) (behind_sign signed.Close inside) (names_behind inside)
 
 -- the name of a kernel's result, where AS gives none
 abbrev pub result_name : kernels.KernelName → List ℕ → List ℕ

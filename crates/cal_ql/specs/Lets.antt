@@ -1,5 +1,5 @@
 -- LET let {, let}, with let = name = op ( arg {, arg} )
-use Rattle.std.specs.Prelude.{ℕ, ℤ, pos, neg_ℤ, int_lt, Bool, false, List, length, Option, Some, None, Result, Ok, Err, is_some, unwrap_or, nat_le, ◌==◌, ◌&&◌, ◌||◌, if◌then◌else◌}
+use Rattle.std.specs.Prelude.{ℕ, ℤ, pos, neg_ℤ, int_lt, Bool, false, List, [], ◌∷◌, length, Option, Some, None, Result, Ok, Err, is_some, unwrap_or, nat_le, ◌==◌, ◌&&◌, ◌||◌, if◌then◌else◌}
 use Rattle.std.specs.List.{filter_map}
 use Rattle.cal_value.specs.Reading.{value_of}
 use Rattle.cal_value.specs.declared.kind.Kind.TheVariants as value_kind
@@ -86,8 +86,8 @@ takes op.Sum names number = nat_le 1 names && nat_le names 16
 -- ( arg {, arg} )
 unfoldable pub arguments_at : ops.Op → Tokens → Read (List arguments.Argument)
 arguments_at o ts = do
-  open ← past_sign signed.Open ts
-  found ← separated (argument_at o) open
+  inside ← past_sign signed.Open ts
+  found ← separated (argument_at o) inside
   close ← past_sign signed.Close found.1
   Ok (found.0, close)
 

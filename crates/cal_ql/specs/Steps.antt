@@ -27,11 +27,11 @@ unfoldable pub tokens_ahead : Ahead → Tokens
 tokens_ahead ahead = tokens_from ahead.whole ahead.rest.now 0
 
 -- one reader is further on than another
-unfoldable pub Advances : Ahead → Ahead → Type 0
+abbrev pub Advances : Ahead → Ahead → Type 0
 Advances old new = count (tokens_ahead new) < count (tokens_ahead old)
 
 -- or not further back
-unfoldable pub Keeps : Ahead → Ahead → Type 0
+abbrev pub Keeps : Ahead → Ahead → Type 0
 Keeps old new = count (tokens_ahead new) ≤ count (tokens_ahead old)
 
 -- what a step that reads answers: a value and where it stopped

@@ -59,7 +59,7 @@ impl<'a> Ahead<'a> {
     }
 
     /// The first token, and what stands behind it.
-    #[tactic(auto, unfolding(crate::specs::Reading::first_of, crate::specs::Steps::Advances))]
+    #[tactic(auto, unfolding(crate::specs::Reading::first_of))]
     pub(crate) fn first(self) -> Option<(Token<'a>, Ahead<'a>)>
         ensures first { option_map (λ x. (token_of x.0, tokens_ahead x.1)) result
             ≡ first_of (tokens_ahead self.entry) }

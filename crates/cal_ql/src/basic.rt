@@ -57,7 +57,7 @@ pub(crate) fn past_sign<'a>(sign: Sign, ahead: Ahead<'a>) -> Result<Ahead<'a>, Q
 }
 
 /// [AS name], or else this name.
-#[tactic(auto, unfolding(crate::specs::Reading::header_at, crate::specs::Steps::Advances, crate::specs::Steps::Keeps))]
+#[tactic(auto, unfolding(crate::specs::Reading::header_at))]
 pub(crate) fn header_at<'a>(
     alloc: Global,
     name: Text,

@@ -115,6 +115,7 @@ fn negated_at<'a>(alloc: Global, ahead: Ahead<'a>) -> Result<(Cond, Ahead<'a>), 
 }
 
 /// cond = test | NOT test | NOT ( test )
+#[derive(Clone, Copy)]
 pub(crate) struct CondRule;
 
 impl Rule for CondRule {
@@ -152,6 +153,7 @@ fn direction_at(ahead: Ahead<'_>) -> (bool, Ahead<'_>)
 }
 
 /// key = name [ASC | DESC]
+#[derive(Clone, Copy)]
 pub(crate) struct KeyRule;
 
 impl Rule for KeyRule {

@@ -29,6 +29,7 @@ fn kernel_at<'a>(
 }
 
 /// name, wherever it stands in a list
+#[derive(Clone, Copy)]
 pub(crate) struct NameRule;
 
 impl Rule for NameRule {
@@ -135,6 +136,7 @@ pub(crate) fn agg_at<'a>(
 }
 
 /// agg
+#[derive(Clone, Copy)]
 pub(crate) struct AggRule;
 
 impl Rule for AggRule {

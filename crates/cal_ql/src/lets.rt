@@ -88,6 +88,7 @@ fn is_number_place(op: Op, index: usize) -> bool
 }
 
 /// arg, of an operator
+#[derive(Clone, Copy)]
 struct ArgumentOf(Op);
 
 impl Rule for ArgumentOf {
@@ -180,6 +181,7 @@ fn let_of(
 }
 
 /// let = name = op ( arg {, arg} )
+#[derive(Clone, Copy)]
 pub(crate) struct LetRule;
 
 impl Rule for LetRule {

@@ -2,7 +2,7 @@ use crate::names::{Format, KernelName, Op};
 use cal_value::{Seq, Text};
 
 /// A query, as a CalQL text means it. Without FORMAT the format is expand.
-#[derive(Debug, Drop)]
+#[derive(Debug, PartialEq, Eq, Drop)]
 pub struct Query {
     pub lets: Seq<Let>,
     /// What SELECT lists. None where there is no SELECT, and for `*`.
@@ -16,7 +16,7 @@ pub struct Query {
 }
 
 /// A definition of LET. Where no number is given, `n` is 1.
-#[derive(Debug, Drop)]
+#[derive(Debug, PartialEq, Eq, Drop)]
 pub struct Let {
     pub name: Text,
     pub op: Op,
@@ -25,14 +25,14 @@ pub struct Let {
 }
 
 /// What SELECT lists: a column's name and its header. A kernel's item has its result name in both.
-#[derive(Debug, Drop)]
+#[derive(Debug, PartialEq, Eq, Drop)]
 pub struct Item {
     pub name: Text,
     pub header: Text,
 }
 
 /// A kernel over the numbers of an attribute, and the name of its result. `count` has no attribute.
-#[derive(Debug, Drop)]
+#[derive(Debug, PartialEq, Eq, Drop)]
 pub struct Agg {
     pub kernel: KernelName,
     pub attr: Text,
@@ -40,7 +40,7 @@ pub struct Agg {
 }
 
 /// A condition of WHERE.
-#[derive(Debug, Drop)]
+#[derive(Debug, PartialEq, Eq, Drop)]
 pub struct Cond {
     pub not: bool,
     pub name: Text,
@@ -48,7 +48,7 @@ pub struct Cond {
 }
 
 /// What a condition asks of the entries of its name: that there is one, or how one's value compares.
-#[derive(Debug, Drop)]
+#[derive(Debug, PartialEq, Eq, Drop)]
 pub enum Test {
     Has,
     Eq(Text),
@@ -59,7 +59,7 @@ pub enum Test {
 }
 
 /// A key of ORDER BY, upwards or downwards.
-#[derive(Debug, Drop)]
+#[derive(Debug, PartialEq, Eq, Drop)]
 pub struct OrderKey {
     pub name: Text,
     pub down: bool,

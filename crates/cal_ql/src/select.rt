@@ -52,6 +52,7 @@ fn column_at<'a>(alloc: Global, ahead: Ahead<'a>) -> Result<(Item, Ahead<'a>), Q
 }
 
 /// item = name [AS name] | agg
+#[derive(Clone, Copy)]
 struct ItemRule;
 
 impl Rule for ItemRule {

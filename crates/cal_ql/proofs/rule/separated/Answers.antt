@@ -26,11 +26,9 @@ returns-in_err-item-clause-read g c =
     (Reads-fails c.in_err-item.field-0.0 (g.R.Rule.item_at c.args.rule.now) c.loop-behind.items (tokens_ahead c.loop-behind.rest) (tokens_ahead c.in-Some.behind) _ (sym c.in-Some.ensures.behind) (rw c.len.ensures at c.in_err-item.ensures.read) c.loop-behind.invariant.0)
 
 pub loop-behind-smaller : goal.loop-behind-smaller
-unfolding Advances
 loop-behind-smaller g c = omega (arith, c.in_ok-item.ensures.further, c.in-Some.ensures.further)
 
 pub loop-behind-preserved : goal.loop-behind-preserved
-unfolding Advances
 loop-behind-preserved g c =
     (Reads-more (g.R.Rule.item_at c.args.rule.now) c.loop-behind.items c.push-in-Some.new.self (tokens_ahead c.loop-behind.rest) (tokens_ahead c.in-Some.behind) (tokens_ahead c.in_ok-item.next) c.in_ok-item.item _
     (sym c.in-Some.ensures.behind) (rw c.len.ensures at c.in_ok-item.ensures.read) c.in_ok-push-2.ensures.ok c.in_ok-item.ensures.further c.loop-behind.invariant.0,
