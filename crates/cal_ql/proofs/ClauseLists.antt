@@ -3,7 +3,10 @@ use Rattle.std.proofs.Common.{◌≡◌, ℕ, zero, suc, ◌-◌, ◌<◌, ◌�
 use Rattle.cal_ql.specs.declared.clauses.Clauses.{Clauses}
 use Rattle.cal_ql.specs.declared.end.QueryEnd.{QueryEnd}
 use Rattle.cal_ql.specs.declared.end.QueryEnd.TheVariants as ends
-use Rattle.cal_ql.specs.Clauses.{all_clauses, clause_at, clauses_within, no_clauses}
+use Rattle.cal_ql.specs.declared.kind.QueryKind.TheVariants.{ExpectedClause}
+use Rattle.cal_ql.specs.declared.token.Keyword as keywords
+use Rattle.cal_ql.specs.declared.token.Keyword.TheVariants as keyword
+use Rattle.cal_ql.specs.Clauses.{all_clauses, clause_at, clause_behind, clauses_within, no_clauses}
 use Rattle.cal_ql.specs.Reading.{Read, count, first_of, is_end, refused}
 use Rattle.cal_ql.specs.Steps.{Fails}
 use Rattle.cal_ql.specs.Tokens.{Fault, Token, Tokens, end, broken, token}
@@ -64,3 +67,20 @@ pub Remains-done : (clauses : Clauses) (ts : Tokens) (total : Result Clauses Fau
 Remains-done clauses (end p) total ended remains = sym remains.all
 Remains-done clauses (broken fault) total ended remains = absurd cc
 Remains-done clauses (token p t rest) total ended remains = absurd cc
+
+-- a keyword that begins no clause
+pub no_clause : (clauses : Clauses) (here ts : Tokens) (k : keywords.Keyword) → (k ≡ keyword.Let → ⊥) → (k ≡ keyword.Select → ⊥) → (k ≡ keyword.Aggregate → ⊥) → (k ≡ keyword.Where → ⊥) → (k ≡ keyword.Group → ⊥) → (k ≡ keyword.Order → ⊥) → (k ≡ keyword.Format → ⊥)
+    → clause_behind clauses here k ts ≡ Err (refused ExpectedClause here)
+unfolding clause_behind
+no_clause clauses here ts keyword.Let a b c d e f g = absurd (a refl)
+no_clause clauses here ts keyword.Select a b c d e f g = absurd (b refl)
+no_clause clauses here ts keyword.Aggregate a b c d e f g = absurd (c refl)
+no_clause clauses here ts keyword.Where a b c d e f g = absurd (d refl)
+no_clause clauses here ts keyword.Group a b c d e f g = absurd (e refl)
+no_clause clauses here ts keyword.Order a b c d e f g = absurd (f refl)
+no_clause clauses here ts keyword.Format a b c d e f g = absurd (g refl)
+no_clause clauses here ts keyword.By a b c d e f g = refl
+no_clause clauses here ts keyword.As a b c d e f g = refl
+no_clause clauses here ts keyword.Not a b c d e f g = refl
+no_clause clauses here ts keyword.Asc a b c d e f g = refl
+no_clause clauses here ts keyword.Desc a b c d e f g = refl

@@ -31,11 +31,11 @@ use Rattle.cal_ql.proofs.GrammarStops.{Stops, EndsList, ends_at_close, header_co
 argument_is : (o : ops.Op) (n : ℕ) (ts rest : Tokens) (a : arguments.Argument) → Stops rest → Argument o n a ts rest → argument_at o n ts ≡ Ok (a, rest)
 unfolding argument_at number_at
 argument_is o n ts rest (argument.Name name) stop part = rw (part.0, name_is name ts rest part.1) refl
-argument_is o n ts rest (argument.Number m) stop part = rw (part.0, part.2.2, part.2.1) refl
+argument_is o n ts rest (argument.Number m) stop part = rw (part.0, part.3, part.2) refl
 
 argument_count : (o : ops.Op) (n : ℕ) (ts rest : Tokens) (a : arguments.Argument) → Argument o n a ts rest → count rest ≤ count ts
 argument_count o n ts rest (argument.Name name) part = omega (arith, name_count name ts rest part.1)
-argument_count o n ts rest (argument.Number m) part = omega (arith, the_count (word part.1) ts rest part.2.2)
+argument_count o n ts rest (argument.Number m) part = omega (arith, the_count (word part.1) ts rest part.3)
 
 op_is : (o : ops.Op) (call : List ℕ) (ts rest : Tokens) → op_named call ≡ Some o → Name call ts rest → op_at ts ≡ Ok (o, rest)
 unfolding op_at

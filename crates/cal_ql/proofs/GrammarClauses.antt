@@ -98,19 +98,19 @@ unfolding clause_at
 clause_found before next ts rest e = clause_first_found before next ts rest (first_of ts) refl e
 
 within_found : (most : ℕ) (before all : Clauses) (ts : Tokens) → clauses_within most before ts ≡ Ok all → (cs : List Clause) × AreClauses cs before all ts
-within_found most before all (end place) e = ([], ok_is before all e, refl)
+within_found most before all (end place) e = ([], (ok_is before all e, refl))
 within_found zero before all (broken fault) e = absurd cc
 within_found zero before all (token place t rest) e = absurd cc
 within_found (suc most) before all (broken fault) e =
     let one = bind_ok (clause_at before (broken fault)) (λ next. clauses_within most next.0 next.1) all e in
     let made = clause_found before one.0.0 (broken fault) one.0.1 one.1 in
     let others = within_found most one.0.0 all one.0.1 one.2 in
-    (made.0 ∷ others.0, one.0.0, one.0.1, made.1, made.2, others.1)
+    (made.0 ∷ others.0, (one.0.0, one.0.1, made.1, made.2, others.1))
 within_found (suc most) before all (token place t rest) e =
     let one = bind_ok (clause_at before (token place t rest)) (λ next. clauses_within most next.0 next.1) all e in
     let made = clause_found before one.0.0 (token place t rest) one.0.1 one.1 in
     let others = within_found most one.0.0 all one.0.1 one.2 in
-    (made.0 ∷ others.0, one.0.0, one.0.1, made.1, made.2, others.1)
+    (made.0 ∷ others.0, (one.0.0, one.0.1, made.1, made.2, others.1))
 
 pub reading_means : (text : List ℕ) (query : Query) → reading text ≡ Ok query → Means text query
 unfolding all_clauses

@@ -50,7 +50,7 @@ argument_found o index ts rest a e =
       | inl number ↦ (
           let one = bind_ok (number_at o ts) (λ n. Ok (argument.Number n.0, n.1)) (a, rest) number.1 in
           let there = number_first_found o ts one.0.1 (first_of ts) one.0.0 one.1 in
-          subst (λ (x : arguments.Argument × Tokens). Argument o index x.0 ts x.1) (ok_is (argument.Number one.0.0, one.0.1) (a, rest) one.2) (number.0, there))
+          subst (λ (x : arguments.Argument × Tokens). Argument o index x.0 ts x.1) (ok_is (argument.Number one.0.0, one.0.1) (a, rest) one.2) (number.0, there.0, there.1, there.2))
       | inr name ↦ (
           let one = bind_ok (name_at ts) (λ n. Ok (argument.Name n.0, n.1)) (a, rest) name.1 in
           subst (λ (x : arguments.Argument × Tokens). Argument o index x.0 ts x.1) (ok_is (argument.Name one.0.0, one.0.1) (a, rest) one.2) (name.0, name_found ts one.0.1 one.0.0 one.1))
@@ -68,7 +68,7 @@ let_of_is name o found l e =
       | inr wrong ↦ absurd (let none : None ≡ Some l = wrong.1 in cc)
     ]
 
-pair_is : {name name' : List ℕ} {o o' : ops.Op} → name ≡ name' → o ≡ o' → (name, o) ≡ (name', o')
+pair_is : {name name' : List ℕ} {o o' : ops.Op} → name ≡ name' → o ≡ o' → ◌≡◌ {A = List ℕ × ops.Op} (name, o) (name', o')
 pair_is p q = cc
 
 -- the parts of a definition
@@ -84,7 +84,7 @@ record LetParts (l : Let) (ts rest : Tokens) : Type 0 where
 let_parts : (l : Let) (ts rest : Tokens) → LetParts l ts rest → LetPart l ts rest
 let_parts l ts rest p =
     let is = let_of_is p.name p.o p.arguments l p.makes in
-    let makes : let_of l.name l.op p.arguments ≡ Some l = rw (← is.0, ← is.1) p.makes in
+    let makes = subst (λ (x : List ℕ × ops.Op). let_of x.0 x.1 p.arguments ≡ Some l) (pair_is is.0 is.1) p.makes in
     (record { op = p.call; arguments = p.arguments; is_op = p.is_op ∙ ap (λ (o : ops.Op). Some o) is.1; makes = makes },
     subst (λ (x : List ℕ × ops.Op). (Name x.0 ⨾ The (sign signed.Equals) ⨾ Name p.call ⨾ The (sign signed.Open) ⨾ Listed (Argument x.1) 0 p.arguments ⨾ The (sign signed.Close)) ts rest) (pair_is is.0 is.1) p.parts)
 
@@ -127,7 +127,7 @@ let_found ts rest l e =
 
 -- ---- kernels
 
-any_name_found : (number : ℕ) (ts rest : Tokens) (name : List ℕ) → any_name_at number ts ≡ Ok (name, rest) → Name name ts rest
+pub any_name_found : (number : ℕ) (ts rest : Tokens) (name : List ℕ) → any_name_at number ts ≡ Ok (name, rest) → Name name ts rest
 any_name_found number ts rest name e = name_found ts rest name e
 
 kernel_found : (ts rest : Tokens) (k : kernels.KernelName) → kernel_at ts ≡ Ok (k, rest) → (call : List ℕ) × (kernel_named call ≡ Some k) × Name call ts rest
@@ -262,7 +262,7 @@ cond_found ts rest cond e = cond_choice ts rest cond (behind_key keyword.Not ts)
 -- ---- ORDER BY
 
 direction_choice : (ts rest : Tokens) (down : Bool) (desc asc : Option Tokens) → behind_key keyword.Desc ts ≡ desc → behind_key keyword.Asc ts ≡ asc
-    → option_map_or (λ after. Ok (true, after)) desc (option_map_or (λ after. Ok (false, after)) asc (Ok (false, ts))) ≡ Ok (down, rest) → Direction down ts rest
+    → option_map_or {U = Read Bool} (λ after. Ok (true, after)) desc (option_map_or {U = Read Bool} (λ after. Ok (false, after)) asc (Ok (false, ts))) ≡ Ok (down, rest) → Direction down ts rest
 direction_choice ts rest down (Some after) asc is_desc is_asc e =
     subst (λ (x : Bool × Tokens). Direction x.0 ts x.1) (ok_is (true, after) (down, rest) e) (key_found keyword.Desc ts after is_desc)
 direction_choice ts rest down None (Some after) is_desc is_asc e =

@@ -133,7 +133,7 @@ stop_relation ts stop = stop_relation_first (first_of ts) stop
 pub stops_at : (t : Token) (ts rest : Tokens) → stops (Some (t, rest)) ≡ true → The t ts rest → Stops ts
 stops_at t ts rest stop the = ap stops the ∙ stop
 
-both_are : {name name' : List ℕ} {ts ts' : Tokens} → name ≡ name' → ts ≡ ts' → (name, ts) ≡ (name', ts')
+both_are : {name name' : List ℕ} {ts ts' : Tokens} → name ≡ name' → ts ≡ ts' → ◌≡◌ {A = List ℕ × Tokens} (name, ts) (name', ts')
 both_are p q = cc
 
 -- ---- [AS name]

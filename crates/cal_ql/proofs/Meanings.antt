@@ -5,15 +5,24 @@ use Rattle.cal_ql.specs.declared.end.QueryEnd.{QueryEnd}
 use Rattle.cal_ql.specs.declared.end.QueryEnd.TheVariants as ends
 use Rattle.cal_ql.specs.declared.query.Query.{Query}
 use Rattle.cal_ql.specs.Clauses.{reading}
-use Rattle.cal_ql.specs.Meaning.{HasFault, IsRefused, Means}
+use Rattle.cal_ql.specs.FirstFault.{HasFault, IsRefused}
+use Rattle.cal_ql.specs.Grammar.{Means}
 use Rattle.cal_ql.specs.Steps.{Gives}
 use Rattle.cal_ql.specs.Tokens.{Fault}
 use Rattle.cal_ql.specs.Valid.{IsValidQuery}
 use Rattle.cal_ql.proofs.Binds.{ok_is}
+use Rattle.cal_ql.proofs.GrammarClauses.{reading_means}
+use Rattle.cal_ql.proofs.GrammarWhole.{means_reading}
 use Rattle.cal_ql.proofs.ValidClauses.{reading_valid}
 
+pub means_or_reads : (text : List ℕ) (query : Query) → Means text query ↔ (reading text ≡ Ok query)
+means_or_reads text query = (means_reading text query, reading_means text query)
+
+pub means_valid : (text : List ℕ) (query : Query) → Means text query → IsValidQuery query
+means_valid text query means = reading_valid text query (means_reading text query means)
+
 pub one_query : (text : List ℕ) (query other : Query) → Means text query → Means text other → query ≡ other
-one_query text query other means means_too = ok_is query other (sym means ∙ means_too)
+one_query text query other means means_too = ok_is query other (sym (means_reading text query means) ∙ means_reading text other means_too)
 
 abbrev failed : Fault → Result Query Fault
 failed fault = Err fault
@@ -25,14 +34,14 @@ pub one_fault : (text : List ℕ) (fault other : Fault) → HasFault text fault 
 one_fault text fault other has has_too = err_is fault other (sym has ∙ has_too)
 
 fault_of : (text : List ℕ) (read : Result Query Fault) → reading text ≡ read → ((query : Query) → Means text query → ⊥) → (fault : Fault) × HasFault text fault
-fault_of text (Ok query) is none = absurd (none query is)
+fault_of text (Ok query) is none = absurd (none query (reading_means text query is))
 fault_of text (Err fault) is none = (fault, is)
 
 pub fault_or_query : (text : List ℕ) → ((fault : Fault) × HasFault text fault) ↔ ((query : Query) → Means text query → ⊥)
-fault_or_query text = (λ has query means. (let both : Err has.0 ≡ Ok query = sym has.1 ∙ means in cc), λ none. fault_of text (reading text) refl none)
+fault_or_query text = (λ has query means. (let both : Err has.0 ≡ Ok query = sym has.1 ∙ means_reading text query means in cc), λ none. fault_of text (reading text) refl none)
 
 pub meant : (text : List ℕ) (result : Result Query QueryEnd) → Gives (λ query. query) result (reading text) → IfOk result (λ query. Means text query)
-meant text (Ok query) gives = gives
+meant text (Ok query) gives = reading_means text query gives
 meant text (Err e) gives = tt
 
 pub valid : (text : List ℕ) (result : Result Query QueryEnd) → Gives (λ query. query) result (reading text) → IfOk result (λ query. IsValidQuery query)

@@ -1,10 +1,10 @@
 pub mod Clauses
 pub mod Conds
+pub mod FirstFault
 pub mod Grammar
 pub mod Kernels
 pub mod Kinds
 pub mod Lets
-pub mod Meaning
 pub mod Names
 pub mod Once
 pub mod Reading

@@ -1,6 +1,7 @@
 ghost use Rattle.std.specs.Prelude.{◌≡◌, IfOk, IfErr};
 ghost use Rattle.cal_ql.specs.Clauses.{query_of, reading};
-ghost use Rattle.cal_ql.specs.Meaning.{IsRefused, Means};
+ghost use Rattle.cal_ql.specs.FirstFault.{IsRefused};
+ghost use Rattle.cal_ql.specs.Grammar.{Means};
 ghost use Rattle.cal_ql.specs.Steps.{Gives};
 ghost use Rattle.cal_ql.specs.Valid.{IsValidQuery};
 

@@ -1,14 +1,9 @@
--- What a text means, and its first fault.
-use Rattle.std.specs.Prelude.{◌≡◌, ℕ, List, Result, Ok, Err}
+-- The first fault of a text.
+use Rattle.std.specs.Prelude.{◌≡◌, ℕ, List, Err}
 use Rattle.cal_ql.specs.declared.end.QueryEnd as ends
 use Rattle.cal_ql.specs.declared.end.QueryEnd.TheVariants as end
-use Rattle.cal_ql.specs.declared.query.Query.{Query}
 use Rattle.cal_ql.specs.Clauses.{reading}
 use Rattle.cal_ql.specs.Tokens.{Fault}
-
--- a text means the query that the grammar reads in it up to its end
-abbrev pub Means : List ℕ → Query → Type 0
-Means text query = reading text ≡ Ok query
 
 -- the first fault of a text: the first token that the grammar can't take
 abbrev pub HasFault : List ℕ → Fault → Type 0
