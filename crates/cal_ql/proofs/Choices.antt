@@ -1,5 +1,5 @@
 -- Tests and what they choose.
-use Rattle.std.proofs.Common.{◌≡◌, ◌⊎◌, Bool, true, false, cond, Option, Some, None, refl, inl, inr}
+use Rattle.std.proofs.Common.{◌≡◌, ◌⊎◌, Bool, true, false, cond, refl, inl, inr}
 
 -- which way a test went
 pub either_way : (b : Bool) → (b ≡ true) ⊎ (b ≡ false)

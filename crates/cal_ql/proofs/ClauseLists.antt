@@ -1,5 +1,5 @@
 -- Reading the clauses one after another.
-use Rattle.std.proofs.Common.{◌≡◌, ℕ, zero, suc, ◌-◌, ◌<◌, ◌≤◌, Bool, true, false, Result, Ok, Err, refl, sym, ap, ◌∙◌, arith}
+use Rattle.std.proofs.Common.{◌≡◌, ℕ, zero, suc, ◌-◌, ◌<◌, ◌≤◌, true, false, Result, Ok, Err, refl, sym, ap, ◌∙◌, arith}
 use Rattle.cal_ql.specs.declared.clauses.Clauses.{Clauses}
 use Rattle.cal_ql.specs.declared.end.QueryEnd.{QueryEnd}
 use Rattle.cal_ql.specs.declared.end.QueryEnd.TheVariants as ends

@@ -1,30 +1,27 @@
 -- What is of the grammar is read: each rule.
-use Rattle.std.proofs.Common.{◌≡◌, ◌⊎◌, ℕ, zero, suc, ◌+◌, ◌<◌, ◌≤◌, Bool, true, false, cond, List, [], ◌∷◌, Option, Some, None, Result, Ok, Err, refl, sym, ap, subst, ◌∙◌, arith, inl, inr}
-use Rattle.cal_ql.specs.declared.token.Sign as signs
+use Rattle.std.proofs.Common.{◌≡◌, ℕ, ◌<◌, ◌≤◌, Bool, true, false, cond, List, [], ◌∷◌, Some, None, Ok, refl, sym, ap, ◌∙◌, arith, inl, inr}
 use Rattle.cal_ql.specs.declared.token.Sign.TheVariants as signed
 use Rattle.cal_ql.specs.declared.token.Keyword.TheVariants as keyword
 use Rattle.cal_ql.specs.declared.names.Op as ops
 use Rattle.cal_ql.specs.declared.names.KernelName as kernels
 use Rattle.cal_ql.specs.declared.names.Format as formats
 use Rattle.cal_ql.specs.declared.query.Let.{Let}
-use Rattle.cal_ql.specs.declared.query.Item.{Item}
 use Rattle.cal_ql.specs.declared.query.Agg.{Agg}
 use Rattle.cal_ql.specs.declared.query.Cond.{Cond}
 use Rattle.cal_ql.specs.declared.query.OrderKey.{OrderKey}
-use Rattle.cal_ql.specs.declared.query.Test.TheVariants as test
 use Rattle.cal_ql.specs.declared.conds.Relation as relations
 use Rattle.cal_ql.specs.declared.lets.Argument as arguments
 use Rattle.cal_ql.specs.declared.lets.Argument.TheVariants as argument
 use Rattle.cal_ql.specs.declared.select.Picked as picks
 use Rattle.cal_ql.specs.declared.select.Picked.TheVariants as picked
 use Rattle.cal_ql.specs.Names.{op_named, kernel_named, format_named}
-use Rattle.cal_ql.specs.Tokens.{Token, key, word, quoted, sign, Tokens}
-use Rattle.cal_ql.specs.Reading.{Read, ◌>>=◌, count, first_of, behind_sign, behind_key, past_sign, name_at, header_at, separated}
-use Rattle.cal_ql.specs.Lets.{argument_at, arguments_at, is_number_place, let_at, let_of, number_at, number_in, op_at}
-use Rattle.cal_ql.specs.Kernels.{agg_at, any_name_at, attr_of, begins_call, column_at, item_at, kernel_at, names_at, names_behind, result_name}
-use Rattle.cal_ql.specs.Conds.{behind_relation, cond_at, direction_at, enclosed_test_at, format_at, negated_at, order_key_at, relation_of, test_at, test_of}
-use Rattle.cal_ql.specs.Grammar.{The, ◌⨾◌, Name, Listed, Header, Argument, Call, LetPart, Names, KernelCall, AggPart, ItemPart, Rel, TestPart, CondPart, Direction, KeyPart}
-use Rattle.cal_ql.proofs.GrammarStops.{Stops, EndsList, ends_at_close, header_count, header_is, key_is, listed_count, listed_is, name_count, name_is, name_no_key, name_no_sign, past_is, sign_is, stop_key, stop_relation, stop_sign, stops_at, the_count}
+use Rattle.cal_ql.specs.Tokens.{key, word, sign, Tokens}
+use Rattle.cal_ql.specs.Reading.{count, behind_sign, behind_key}
+use Rattle.cal_ql.specs.Lets.{argument_at, arguments_at, let_at, number_at, op_at}
+use Rattle.cal_ql.specs.Kernels.{agg_at, any_name_at, begins_call, column_at, item_at, kernel_at, names_at, names_behind, result_name}
+use Rattle.cal_ql.specs.Conds.{behind_relation, cond_at, direction_at, enclosed_test_at, format_at, negated_at, order_key_at, test_at}
+use Rattle.cal_ql.specs.Grammar.{The, ◌⨾◌, Name, Listed, Header, Argument, LetPart, Names, AggPart, ItemPart, Rel, TestPart, CondPart, Direction, KeyPart}
+use Rattle.cal_ql.proofs.GrammarStops.{Stops, ends_at_close, header_count, header_is, key_is, listed_count, listed_is, name_count, name_is, name_no_key, name_no_sign, past_is, sign_is, stop_key, stop_relation, stop_sign, stops_at, the_count}
 
 -- ---- LET
 
@@ -54,8 +51,15 @@ let_is n ts rest l stop (call, (r1, name, (r2, equals, (r3, op_name, inside)))) 
 
 pub let_count : (n : ℕ) (ts rest : Tokens) (l : Let) → LetPart l ts rest → count rest ≤ count ts
 let_count n ts rest l (call, (r1, name, (r2, equals, (r3, op_name, (r4, open_, (r5, list, close)))))) =
-    omega (arith, name_count l.name ts r1 name, the_count (sign signed.Equals) r1 r2 equals, name_count call.op r2 r3 op_name, the_count (sign signed.Open) r3 r4 open_,
-    listed_count (Argument l.op) (argument_at l.op) (argument_is l.op) (argument_count l.op) call.arguments r4 r5 list, the_count (sign signed.Close) r5 rest close)
+    omega (
+      arith,
+      name_count l.name ts r1 name,
+      the_count (sign signed.Equals) r1 r2 equals,
+      name_count call.op r2 r3 op_name,
+      the_count (sign signed.Open) r3 r4 open_,
+      listed_count (Argument l.op) (argument_at l.op) (argument_is l.op) (argument_count l.op) call.arguments r4 r5 list,
+      the_count (sign signed.Close) r5 rest close,
+    )
 
 -- ---- kernels
 

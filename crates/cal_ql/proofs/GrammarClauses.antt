@@ -1,5 +1,5 @@
 -- What is read is of the grammar: the clauses, and the whole text.
-use Rattle.std.proofs.Common.{◌≡◌, ℕ, zero, suc, Bool, true, false, cond, List, [], ◌∷◌, Option, Some, None, Result, Ok, Err, refl, sym, ap, subst, ◌∙◌, inl, inr}
+use Rattle.std.proofs.Common.{◌≡◌, ℕ, zero, suc, false, List, [], ◌∷◌, Option, Some, None, Ok, refl, subst, inl, inr}
 use Rattle.std.specs.Prelude.{is_some}
 use Rattle.std.specs.Option.{option_map_or}
 use Rattle.std.proofs.lemmas.Bool.{cond-false}
@@ -9,10 +9,9 @@ use Rattle.cal_ql.specs.declared.token.Sign.TheVariants as signed
 use Rattle.cal_ql.specs.declared.token.Keyword as keywords
 use Rattle.cal_ql.specs.declared.token.Keyword.TheVariants as keyword
 use Rattle.cal_ql.specs.declared.query.Query.{Query}
-use Rattle.cal_ql.specs.declared.select.Picked as picks
 use Rattle.cal_ql.specs.declared.select.Selection.{Selection}
 use Rattle.cal_ql.specs.Tokens.{Token, Tokens, key, word, quoted, sign, end, broken, token, tokens_of}
-use Rattle.cal_ql.specs.Reading.{Read, ◌>>=◌, or_fault, refused, count, first_of, behind_sign, behind_key, is_end, separated}
+use Rattle.cal_ql.specs.Reading.{refused, count, first_of, behind_sign, behind_key, separated}
 use Rattle.cal_ql.specs.Lets.{let_at}
 use Rattle.cal_ql.specs.Kernels.{any_name_at, agg_at, item_at}
 use Rattle.cal_ql.specs.Conds.{cond_at, order_key_at, format_at}
@@ -21,7 +20,7 @@ use Rattle.cal_ql.specs.Grammar as grammar
 use Rattle.cal_ql.specs.Grammar.{The, ◌⨾◌, Name, Listed, LetPart, AggPart, ItemPart, CondPart, KeyPart, Clause, ClausePart, with_clause, AreClauses, Means}
 use Rattle.cal_ql.proofs.Choices.{chosen}
 use Rattle.cal_ql.proofs.Binds.{bind_ok, or_fault_ok, ok_is}
-use Rattle.cal_ql.proofs.GrammarSound.{sign_found, key_found, name_found, listed_found}
+use Rattle.cal_ql.proofs.GrammarSound.{sign_found, key_found, listed_found}
 use Rattle.cal_ql.proofs.GrammarRules.{let_found, agg_found, item_found, cond_found, order_key_found, format_found, any_name_found}
 
 -- a clause makes these clauses of those before, and ends here

@@ -1,8 +1,8 @@
 -- What each rule reads is of the grammar.
-use Rattle.std.proofs.Common.{◌≡◌, ◌⊎◌, ℕ, zero, suc, Bool, true, false, cond, List, [], ◌∷◌, Option, Some, None, Result, Ok, Err, refl, sym, ap, subst, ◌∙◌, inl, inr}
+use Rattle.std.proofs.Common.{◌≡◌, ℕ, Bool, true, false, cond, List, [], ◌∷◌, Option, Some, None, Ok, refl, ap, subst, ◌∙◌, inl, inr}
 use Rattle.std.specs.Prelude.{ℤ, pos, length, unwrap_or}
 use Rattle.std.specs.Option.{option_map_or}
-use Rattle.cal_ql.specs.declared.kind.QueryKind.TheVariants.{UnknownOp, UnknownKernel, UnknownFormat, BadArity, BadNumber, ExpectedBy}
+use Rattle.cal_ql.specs.declared.kind.QueryKind.TheVariants.{UnknownOp, UnknownKernel, UnknownFormat, BadArity, BadNumber}
 use Rattle.cal_ql.specs.declared.token.Sign as signs
 use Rattle.cal_ql.specs.declared.token.Sign.TheVariants as signed
 use Rattle.cal_ql.specs.declared.token.Keyword.TheVariants as keyword
@@ -22,11 +22,11 @@ use Rattle.cal_ql.specs.declared.select.Picked as picks
 use Rattle.cal_ql.specs.declared.select.Picked.TheVariants as picked
 use Rattle.cal_ql.specs.Names.{op_named, kernel_named, format_named}
 use Rattle.cal_ql.specs.Tokens.{Token, key, word, quoted, sign, Tokens}
-use Rattle.cal_ql.specs.Reading.{Read, ◌>>=◌, or_fault, refused, first_of, behind_sign, behind_key, past_sign, name_at, header_at, separated}
+use Rattle.cal_ql.specs.Reading.{Read, or_fault, refused, first_of, behind_sign, behind_key, past_sign, name_at, header_at, separated}
 use Rattle.cal_ql.specs.Lets.{argument_at, arguments_at, is_number_place, let_at, let_of, number_at, names_in, number_at, number_first, number_in, number_of, op_at, takes}
 use Rattle.cal_ql.specs.Kernels.{agg_at, any_name_at, attr_of, begins_call, column_at, item_at, kernel_at, names_at, names_behind, result_name}
 use Rattle.cal_ql.specs.Conds.{behind_relation, compared, cond_at, direction_at, enclosed_test_at, format_at, negated_at, order_key_at, relation_first, relation_of, test_at, test_of, with_rest}
-use Rattle.cal_ql.specs.Grammar.{The, ◌⨾◌, Name, Listed, Header, Argument, Call, LetPart, Names, KernelCall, AggPart, ItemPart, Rel, TestPart, CondPart, Direction, KeyPart}
+use Rattle.cal_ql.specs.Grammar.{The, ◌⨾◌, Name, Listed, Header, Argument, LetPart, Names, AggPart, ItemPart, Rel, TestPart, CondPart, Direction, KeyPart}
 use Rattle.cal_ql.proofs.Choices.{chosen}
 use Rattle.cal_ql.proofs.Binds.{bind_ok, or_fault_ok, ok_is}
 use Rattle.cal_ql.proofs.GrammarSound.{sign_found, key_found, past_found, name_found, header_found, listed_found}
@@ -84,9 +84,10 @@ record LetParts (l : Let) (ts rest : Tokens) : Type 0 where
 let_parts : (l : Let) (ts rest : Tokens) → LetParts l ts rest → LetPart l ts rest
 let_parts l ts rest p =
     let is = let_of_is p.name p.o p.arguments l p.makes in
-    let makes = subst (λ (x : List ℕ × ops.Op). let_of x.0 x.1 p.arguments ≡ Some l) (pair_is is.0 is.1) p.makes in
-    (record { op = p.call; arguments = p.arguments; is_op = p.is_op ∙ ap (λ (o : ops.Op). Some o) is.1; makes = makes },
-    subst (λ (x : List ℕ × ops.Op). (Name x.0 ⨾ The (sign signed.Equals) ⨾ Name p.call ⨾ The (sign signed.Open) ⨾ Listed (Argument x.1) 0 p.arguments ⨾ The (sign signed.Close)) ts rest) (pair_is is.0 is.1) p.parts)
+    let makes = subst (λ (x : List ℕ × ops.Op). let_of x.0 x.1 p.arguments ≡ Some l) (pair_is is.0 is.1) p.makes in (
+      record { op = p.call; arguments = p.arguments; is_op = p.is_op ∙ ap (λ (o : ops.Op). Some o) is.1; makes = makes },
+      subst (λ (x : List ℕ × ops.Op). (Name x.0 ⨾ The (sign signed.Equals) ⨾ Name p.call ⨾ The (sign signed.Open) ⨾ Listed (Argument x.1) 0 p.arguments ⨾ The (sign signed.Close)) ts rest) (pair_is is.0 is.1) p.parts,
+    )
 
 op_found : (ts rest : Tokens) (o : ops.Op) → op_at ts ≡ Ok (o, rest) → (call : List ℕ) × (op_named call ≡ Some o) × Name call ts rest
 unfolding op_at
@@ -171,9 +172,10 @@ agg_found ts rest agg e =
     let call = kernel_found ts k.0.1 k.0.0 k.1 in
     let parts = names_found k.0.1 names.0.1 names.0.0 names.1 in
     let made : Agg = record { kernel = k.0.0; attr = attr.0; name = header.0.0 } in
-    subst (λ (x : Agg × Tokens). AggPart x.0 ts x.1) (ok_is (made, header.0.1) (agg, rest) header.2)
-    (record { kernel = call.0; names = names.0.0; is_kernel = call.1; is_attr = or_fault_ok _ _ attr.0 attr.1 },
-    (k.0.1, call.2, (parts.0, parts.1, (parts.2.0, parts.2.1, (names.0.1, parts.2.2, header_found (result_name k.0.0 attr.0) header.0.0 names.0.1 header.0.1 header.1)))))
+    subst (λ (x : Agg × Tokens). AggPart x.0 ts x.1) (ok_is (made, header.0.1) (agg, rest) header.2) (
+      record { kernel = call.0; names = names.0.0; is_kernel = call.1; is_attr = or_fault_ok _ _ attr.0 attr.1 },
+      (k.0.1, call.2, (parts.0, parts.1, (parts.2.0, parts.2.1, (names.0.1, parts.2.2, header_found (result_name k.0.0 attr.0) header.0.0 names.0.1 header.0.1 header.1)))),
+    )
 
 -- ---- SELECT
 

@@ -1,5 +1,5 @@
 -- What is read is of the grammar: the parts that every rule has.
-use Rattle.std.proofs.Common.{◌≡◌, ◌⊎◌, ℕ, zero, suc, Bool, true, false, cond, List, [], ◌∷◌, Option, Some, None, Result, Ok, Err, refl, sym, ap, subst, ◌∙◌, inl, inr}
+use Rattle.std.proofs.Common.{◌≡◌, ◌⊎◌, ℕ, zero, suc, true, List, [], ◌∷◌, Option, Some, None, Ok, refl, sym, ap, subst, ◌∙◌, inl, inr}
 use Rattle.std.specs.Prelude.{nat_eq}
 use Rattle.std.specs.Option.{option_map_or}
 use Rattle.std.specs.Cmp.Lexicographic.{pointwise, bytes_decides}
@@ -143,11 +143,11 @@ module _ {X : Type 0} (part : ℕ → X → Tokens → Tokens → Type 0) (item 
   further_found (suc most) n ts rest xs e =
       further_choice part n ts rest xs _
       (λ behind comma found.
-        let one = bind_ok (item n behind) (λ x. further_within most item (suc n) x.1 >>= λ others. Ok (x.0 ∷ others.0, others.1)) (xs, rest) found in
-        let more = bind_ok (further_within most item (suc n) one.0.1) (λ others. Ok (one.0.0 ∷ others.0, others.1)) (xs, rest) one.2 in
-        let list = listed_cons part n one.0.0 more.0.0 behind one.0.1 more.0.1 (each n behind one.0.1 one.0.0 one.1) (further_found most (suc n) one.0.1 more.0.1 more.0.0 more.1) in
-        let made : Followed part n (one.0.0 ∷ more.0.0) ts more.0.1 = (behind, comma, list) in
-        subst (λ (x : List X × Tokens). Followed part n x.0 ts x.1) (ok_is (one.0.0 ∷ more.0.0, more.0.1) (xs, rest) more.2) made)
+      let one = bind_ok (item n behind) (λ x. further_within most item (suc n) x.1 >>= λ others. Ok (x.0 ∷ others.0, others.1)) (xs, rest) found in
+      let more = bind_ok (further_within most item (suc n) one.0.1) (λ others. Ok (one.0.0 ∷ others.0, others.1)) (xs, rest) one.2 in
+      let list = listed_cons part n one.0.0 more.0.0 behind one.0.1 more.0.1 (each n behind one.0.1 one.0.0 one.1) (further_found most (suc n) one.0.1 more.0.1 more.0.0 more.1) in
+      let made : Followed part n (one.0.0 ∷ more.0.0) ts more.0.1 = (behind, comma, list) in
+      subst (λ (x : List X × Tokens). Followed part n x.0 ts x.1) (ok_is (one.0.0 ∷ more.0.0, more.0.1) (xs, rest) more.2) made)
       (behind_sign signed.Comma ts) refl e
 
   pub listed_found : (ts rest : Tokens) (xs : List X) → separated item ts ≡ Ok (xs, rest) → Listed part 0 xs ts rest

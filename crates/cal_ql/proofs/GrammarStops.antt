@@ -1,18 +1,17 @@
 -- What is of the grammar is read: the parts that every rule has, and what may stand behind a part.
-use Rattle.std.proofs.Common.{◌≡◌, ◌⊎◌, ℕ, zero, suc, ◌+◌, ◌-◌, ◌<◌, ◌≤◌, Bool, true, false, cond, List, [], ◌∷◌, Option, Some, None, Result, Ok, Err, refl, sym, ap, subst, ◌∙◌, arith, inl, inr}
+use Rattle.std.proofs.Common.{◌≡◌, ℕ, zero, suc, ◌≤◌, Bool, true, false, List, [], ◌∷◌, Option, Some, None, Ok, refl, sym, ap, subst, ◌∙◌, arith, inl, inr}
 use Rattle.std.specs.Prelude.{nat_eq}
 use Rattle.std.specs.Cmp.Lexicographic.{pointwise, bytes_decides}
-use Rattle.std.proofs.lemmas.Bool.{cond-false}
 use Rattle.cal_ql.specs.declared.token.Sign as signs
 use Rattle.cal_ql.specs.declared.token.Sign.TheVariants as signed
 use Rattle.cal_ql.specs.declared.token.Keyword as keywords
 use Rattle.cal_ql.specs.declared.token.Keyword.TheVariants as keyword
 use Rattle.cal_ql.specs.Names.{keyword_name}
 use Rattle.cal_ql.specs.Signs.{sign_text}
-use Rattle.cal_ql.specs.Tokens.{Token, key, word, quoted, sign, Tokens, end, broken, token}
-use Rattle.cal_ql.specs.Reading.{Read, ◌>>=◌, count, first_of, behind_this_sign, behind_this_key, behind_sign, behind_key, past_sign, name_at, header_at, further_within, separated}
+use Rattle.cal_ql.specs.Tokens.{Token, key, word, quoted, sign, Tokens}
+use Rattle.cal_ql.specs.Reading.{Read, count, first_of, behind_this_sign, behind_this_key, behind_sign, behind_key, past_sign, name_at, header_at, further_within, separated}
 use Rattle.cal_ql.specs.Conds.{behind_relation, relation_first}
-use Rattle.cal_ql.specs.Grammar.{The, ◌⨾◌, Name, Listed, Header}
+use Rattle.cal_ql.specs.Grammar.{The, Name, Listed, Header}
 use Rattle.cal_ql.proofs.Choices.{either_way}
 use Rattle.cal_ql.proofs.GrammarSound.{Followed, same_sign, same_key}
 use Rattle.cal_ql.proofs.Lists.{first_count}

@@ -1,7 +1,6 @@
 -- What is of the grammar is read: the clauses, and the whole text.
-use Rattle.std.proofs.Common.{◌≡◌, ℕ, zero, suc, ◌<◌, ◌≤◌, Bool, true, false, cond, List, [], ◌∷◌, Option, Some, None, Result, Ok, Err, refl, sym, ap, subst, ◌∙◌, arith, inl, inr}
-use Rattle.std.specs.Prelude.{is_some, ◌↔◌}
-use Rattle.std.proofs.lemmas.Bool.{cond-false}
+use Rattle.std.proofs.Common.{◌≡◌, ℕ, zero, suc, ◌≤◌, Bool, true, false, cond, List, [], ◌∷◌, Option, Some, None, Ok, refl, ap, ◌∙◌, arith}
+use Rattle.std.specs.Prelude.{is_some}
 use Rattle.cal_ql.specs.declared.clauses.Clauses.{Clauses}
 use Rattle.cal_ql.specs.declared.token.Sign.TheVariants as signed
 use Rattle.cal_ql.specs.declared.token.Keyword as keywords
@@ -9,16 +8,15 @@ use Rattle.cal_ql.specs.declared.token.Keyword.TheVariants as keyword
 use Rattle.cal_ql.specs.declared.query.Query.{Query}
 use Rattle.cal_ql.specs.declared.select.Picked as picks
 use Rattle.cal_ql.specs.declared.select.Picked.TheVariants as picked
-use Rattle.cal_ql.specs.Tokens.{Fault, Token, Tokens, key, word, quoted, sign, end, broken, token, tokens_of}
-use Rattle.cal_ql.specs.Reading.{Read, ◌>>=◌, count, first_of, behind_sign, behind_key, is_end, separated}
+use Rattle.cal_ql.specs.Tokens.{Token, Tokens, key, sign, end, broken, token, tokens_of}
+use Rattle.cal_ql.specs.Reading.{count, first_of, behind_sign, is_end}
 use Rattle.cal_ql.specs.Lets.{let_at}
 use Rattle.cal_ql.specs.Kernels.{any_name_at, agg_at, item_at}
-use Rattle.cal_ql.specs.Conds.{cond_at, order_key_at, format_at}
-use Rattle.cal_ql.specs.Clauses.{all_clauses, clause_at, clause_behind, clause_first, clauses_within, has_clause, listed_at, no_clauses, past_by, query_of, reading, selected_all, selection_at, selection_of}
+use Rattle.cal_ql.specs.Conds.{cond_at, order_key_at}
+use Rattle.cal_ql.specs.Clauses.{all_clauses, clause_at, clause_behind, clauses_within, has_clause, listed_at, no_clauses, past_by, reading, selected_all, selection_at, selection_of}
 use Rattle.cal_ql.specs.Grammar as grammar
 use Rattle.cal_ql.specs.Grammar.{The, ◌⨾◌, Name, Listed, LetPart, AggPart, ItemPart, CondPart, KeyPart, Clause, ClausePart, with_clause, AreClauses, Means}
-use Rattle.cal_ql.proofs.Choices.{chosen}
-use Rattle.cal_ql.proofs.GrammarStops.{Stops, EndsList, key_is, listed_count, listed_is, name_count, name_no_sign, sign_is, stops_at, the_count, begins_clause}
+use Rattle.cal_ql.proofs.GrammarStops.{EndsList, key_is, listed_count, listed_is, name_count, name_no_sign, sign_is, stops_at, the_count, begins_clause}
 use Rattle.cal_ql.proofs.GrammarAgain.{let_is, let_count, any_name_is, any_name_count, agg_is, agg_count, item_is, item_count, cond_is, cond_count, order_key_is, order_key_count, format_is}
 
 abbrev some_clauses : Clauses → Option Clauses

@@ -1,18 +1,17 @@
 -- Reading the items of a list.
-use Rattle.std.proofs.Common.{◌≡◌, ℕ, zero, suc, ◌+◌, ◌<◌, ◌≤◌, Bool, true, false, List, [], ◌∷◌, ◌++◌, Option, Some, None, Result, Ok, Err, refl, sym, ap, ◌∙◌, append_assoc, arith, ◌-◌, length, inl, inr}
+use Rattle.std.proofs.Common.{◌≡◌, ℕ, zero, suc, ◌<◌, ◌≤◌, List, [], ◌∷◌, ◌++◌, Some, None, Ok, Err, refl, sym, ap, ◌∙◌, append_assoc, arith, ◌-◌, length, inl, inr}
 use Rattle.std.specs.Prelude.{nat_eq}
 use Rattle.std.specs.Cmp.Lexicographic.{pointwise}
 use Rattle.std.proofs.lemmas.List.{append-nil, length-append}
 use Rattle.cal_ql.specs.declared.token.Sign.{Sign}
 use Rattle.cal_ql.specs.declared.token.Sign.TheVariants as signed
-use Rattle.cal_ql.specs.declared.token.Keyword.{Keyword}
 use Rattle.cal_ql.specs.declared.end.QueryEnd.{QueryEnd}
 use Rattle.cal_ql.specs.declared.end.QueryEnd.TheVariants as ends
 use Rattle.cal_ql.specs.Signs.{sign_text}
 use Rattle.cal_ql.specs.Steps.{Fails}
 use Rattle.cal_ql.proofs.Choices.{chosen}
 use Rattle.cal_ql.specs.Tokens.{Token, Fault, Tokens, end, broken, token, key, word, quoted, sign}
-use Rattle.cal_ql.specs.Reading.{Read, ◌>>=◌, count, first_of, behind_sign, behind_key, further_within, separated}
+use Rattle.cal_ql.specs.Reading.{Read, ◌>>=◌, count, first_of, behind_sign, further_within, separated}
 
 -- items that were read before
 abbrev pub with_front : {X : Type 0} → List X → Read (List X) → Read (List X)

@@ -1,5 +1,5 @@
 -- Items that move from one list to others.
-use Rattle.std.proofs.Common.{◌≡◌, List, [], ◌∷◌, ◌++◌, Option, Some, None, refl}
+use Rattle.std.proofs.Common.{Option, Some, None}
 
 -- what was found before, or else what is found now
 abbrev pub or_else : {X : Type 0} → Option X → Option X → Option X

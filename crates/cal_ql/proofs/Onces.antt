@@ -52,7 +52,7 @@ other_name kept agg other named unnamed =
 without_known : (kept : List Agg) (agg other : Agg) → is_named kept agg ≡ true → not (is_named kept other) ≡ (not (pointwise nat_eq other.name agg.name) && not (is_named kept other))
 without_known kept agg other named =
     elim (either_way (is_named kept other)) [
-      | inl too ↦ rw too (elim (either_way (pointwise nat_eq other.name agg.name)) [ | inl same ↦ rw same refl | inr apart ↦ rw apart refl ])
+      | inl too ↦ rw too (elim (either_way (pointwise nat_eq other.name agg.name)) [ inl same ↦ rw same refl | inr apart ↦ rw apart refl ])
       | inr unnamed ↦ rw (unnamed, other_name kept agg other named unnamed) refl
     ]
 

@@ -1,5 +1,5 @@
 -- What holds of each item that a list reads.
-use Rattle.std.proofs.Common.{◌≡◌, ℕ, zero, suc, List, [], ◌∷◌, Option, Some, None, Result, Ok, Err, refl, sym, ap, subst, ◌∙◌}
+use Rattle.std.proofs.Common.{◌≡◌, ℕ, zero, suc, List, [], ◌∷◌, Option, Some, None, Ok, subst}
 use Rattle.std.specs.Option.{option_map_or}
 use Rattle.std.specs.List.{AllByRecursion}
 use Rattle.cal_ql.specs.declared.token.Sign.TheVariants as signed
@@ -18,10 +18,10 @@ module _ {X : Type 0} (P : X → Type 0) (item : ℕ → Tokens → Read X) (eac
   all_further (suc most) n ts rest xs e =
       further_choice P (behind_sign signed.Comma ts) _ ts rest xs
       (λ behind found.
-        let one = bind_ok (item n behind) (λ x. further_within most item (suc n) x.1 >>= λ others. Ok (x.0 ∷ others.0, others.1)) (xs, rest) found in
-        let more = bind_ok (further_within most item (suc n) one.0.1) (λ others. Ok (one.0.0 ∷ others.0, others.1)) (xs, rest) one.2 in
-        subst (λ (x : List X × Tokens). AllByRecursion P x.0) (ok_is (one.0.0 ∷ more.0.0, more.0.1) (xs, rest) more.2)
-        (each n behind one.0.1 one.0.0 one.1, all_further most (suc n) one.0.1 more.0.1 more.0.0 more.1))
+      let one = bind_ok (item n behind) (λ x. further_within most item (suc n) x.1 >>= λ others. Ok (x.0 ∷ others.0, others.1)) (xs, rest) found in
+      let more = bind_ok (further_within most item (suc n) one.0.1) (λ others. Ok (one.0.0 ∷ others.0, others.1)) (xs, rest) one.2 in
+      subst (λ (x : List X × Tokens). AllByRecursion P x.0) (ok_is (one.0.0 ∷ more.0.0, more.0.1) (xs, rest) more.2)
+      (each n behind one.0.1 one.0.0 one.1, all_further most (suc n) one.0.1 more.0.1 more.0.0 more.1))
       e
 
   -- each item of a list

@@ -1,12 +1,12 @@
 -- The tokens of a text, from what stands first in it.
-use Rattle.std.proofs.Common.{◌≡◌, ℕ, zero, suc, ◌+◌, ◌-◌, ◌<◌, ◌≤◌, Bool, true, false, cond, List, [], ◌∷◌, length, get_or, drop, Option, Some, None, Result, Ok, Err, refl, sym, ap, ◌∙◌, arith, inl, inr}
+use Rattle.std.proofs.Common.{◌≡◌, ℕ, zero, suc, ◌+◌, ◌-◌, ◌<◌, false, List, [], ◌∷◌, length, get_or, drop, Ok, Err, refl, sym, ap, ◌∙◌, arith, inl, inr}
 use Rattle.std.specs.List.{prefix_len}
-use Rattle.std.proofs.Math.Seq.{drop-nil, drop-length}
+use Rattle.std.proofs.Math.Seq.{drop-nil}
 use Rattle.std.proofs.lemmas.Bool.{cond-false, cond-true}
-use Rattle.std.proofs.lemmas.List.Sums.{prefix_len-le-length, prefix_len_stops}
+use Rattle.std.proofs.lemmas.List.Sums.{prefix_len_stops}
 use Rattle.std.proofs.lemmas.List.{drop-drop, get_or-drop, length-drop}
 use Rattle.cal_ql.specs.declared.kind.QueryKind.{QueryKind}
-use Rattle.cal_ql.specs.Tokens.{Token, Fault, Tokens, end, broken, token, is_blank, token_at, tokens_with, tokens_from}
+use Rattle.cal_ql.specs.Tokens.{Token, end, broken, token, is_blank, token_at, tokens_with, tokens_from}
 use Rattle.cal_ql.proofs.Choices.{either_way}
 
 -- the bytes of the token before are passed over

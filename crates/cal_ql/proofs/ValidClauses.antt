@@ -1,14 +1,13 @@
 -- The query of clauses that are read is valid.
-use Rattle.std.proofs.Common.{◌≡◌, ℕ, zero, suc, Bool, true, false, cond, List, [], ◌∷◌, ◌++◌, Option, Some, None, Result, Ok, Err, refl, sym, ap, subst, ◌∙◌, inl, inr}
+use Rattle.std.proofs.Common.{◌≡◌, ℕ, zero, suc, List, [], ◌++◌, Option, Some, None, Ok, subst, inl, inr}
 use Rattle.std.specs.Prelude.{unwrap_or}
 use Rattle.std.specs.List.{AllByRecursion}
 use Rattle.cal_ql.specs.declared.clauses.Clauses.{Clauses}
 use Rattle.cal_ql.specs.declared.token.Keyword as keywords
 use Rattle.cal_ql.specs.declared.token.Keyword.TheVariants as keyword
-use Rattle.cal_ql.specs.declared.query.Let.{Let}
 use Rattle.cal_ql.specs.declared.query.Query.{Query}
 use Rattle.cal_ql.specs.Tokens.{Token, Tokens, key, word, quoted, sign, end, broken, token, tokens_of}
-use Rattle.cal_ql.specs.Reading.{Read, ◌>>=◌, count, first_of, separated}
+use Rattle.cal_ql.specs.Reading.{Read, count, first_of, separated}
 use Rattle.cal_ql.specs.Lets.{let_at}
 use Rattle.cal_ql.specs.Kernels.{any_name_at, agg_at}
 use Rattle.cal_ql.specs.Conds.{cond_at, order_key_at, format_at}

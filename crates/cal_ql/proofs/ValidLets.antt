@@ -1,9 +1,8 @@
 -- Each definition that is read has what its operator takes.
-use Rattle.std.proofs.Common.{◌≡◌, ℕ, ◌≤◌, Bool, true, false, T, cond, not, ◌&&◌, ◌||◌, eqb, leb, List, [], ◌∷◌, length, Option, Some, None, Result, Ok, Err, refl, sym, ap, subst, ◌∙◌, arith, inl, inr}
+use Rattle.std.proofs.Common.{◌≡◌, ℕ, ◌≤◌, Bool, true, false, T, not, ◌&&◌, ◌||◌, eqb, leb, List, [], ◌∷◌, length, Option, Some, None, Ok, refl, sym, subst, inl, inr}
 use Rattle.std.specs.Prelude.{ℤ, pos, ◌≤ℤ◌, int_lt, unwrap_or, is_some}
 use Rattle.std.specs.List.{AllByRecursion}
 use Rattle.std.proofs.lemmas.Bool.{eqb-true, leb-true}
-use Rattle.std.proofs.lemmas.Grind.{common_steps}
 use lib.Signed.{lt_z_no}
 use Rattle.cal_value.specs.Reading.{value_of}
 use Rattle.cal_value.specs.declared.kind.Kind.TheVariants as value_kind
@@ -17,7 +16,7 @@ use Rattle.cal_ql.specs.declared.lets.Argument as arguments
 use Rattle.cal_ql.specs.declared.lets.Argument.TheVariants as argument
 use Rattle.cal_ql.specs.declared.query.Let.{Let}
 use Rattle.cal_ql.specs.Tokens.{Token, Tokens, key, word, quoted, sign}
-use Rattle.cal_ql.specs.Reading.{Read, ◌>>=◌, or_fault, first_of, name_at, past_sign, refused, separated}
+use Rattle.cal_ql.specs.Reading.{or_fault, first_of, name_at, past_sign, refused, separated}
 use Rattle.cal_ql.specs.Lets.{argument_at, arguments_at, in_bounds, is_number_place, least_number, let_at, let_of, names_in, number_at, number_first, number_in, number_of, op_at, takes}
 use Rattle.cal_ql.specs.Valid.{IsLet, TakesNames}
 use Rattle.cal_ql.proofs.Choices.{chosen}

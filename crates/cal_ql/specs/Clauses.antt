@@ -1,5 +1,5 @@
 -- query = any number of clauses, each kind at most once, in any order
-use Rattle.std.specs.Prelude.{ℕ, zero, suc, Bool, true, false, List, [], ◌∷◌, ◌++◌, map, Option, Some, None, Result, Ok, Err, is_some, unwrap_or, if◌then◌else◌}
+use Rattle.std.specs.Prelude.{ℕ, zero, suc, Bool, false, List, [], ◌++◌, map, Option, Some, None, Result, Ok, Err, is_some, unwrap_or, if◌then◌else◌}
 use Rattle.std.specs.Option.{option_map_or}
 use Rattle.std.specs.List.{filter_map}
 use Rattle.cal_ql.specs.declared.kind.QueryKind.TheVariants.{ExpectedClause, DuplicateClause, ExpectedBy}
@@ -13,7 +13,7 @@ use Rattle.cal_ql.specs.declared.query.Query.{Query}
 use Rattle.cal_ql.specs.declared.select.Picked as picks
 use Rattle.cal_ql.specs.declared.select.Selection.{Selection}
 use Rattle.cal_ql.specs.declared.clauses.Clauses.{Clauses}
-use Rattle.cal_ql.specs.Tokens.{Token, key, Fault, Tokens, end, broken, token, tokens_of}
+use Rattle.cal_ql.specs.Tokens.{Token, key, Fault, Tokens, end, tokens_of}
 use Rattle.cal_ql.specs.Reading.{Read, ◌>>=◌, or_fault, count, refused, first_of, behind_sign, behind_key, separated}
 use Rattle.cal_ql.specs.Lets.{let_at}
 use Rattle.cal_ql.specs.Kernels.{any_name_at, agg_at, item_at, item_of, kernel_of, first_of_each}
@@ -22,7 +22,13 @@ use Rattle.cal_ql.specs.Conds.{cond_at, order_key_at, format_at}
 -- the clauses before the first one
 abbrev pub no_clauses : Clauses
 no_clauses = record {
-  lets = None; select = None; aggs = None; conds = None; group = None; order = None; format = None;
+  lets = None;
+  select = None;
+  aggs = None;
+  conds = None;
+  group = None;
+  order = None;
+  format = None;
 }
 
 -- whether a clause of this keyword is among them

@@ -1,5 +1,5 @@
 -- WHERE cond {, cond}, ORDER BY key {, key} and FORMAT name
-use Rattle.std.specs.Prelude.{ℕ, Bool, true, false, List, Option, Some, None, Result, Ok, Err}
+use Rattle.std.specs.Prelude.{ℕ, Bool, true, false, List, Option, Some, None, Ok}
 use Rattle.std.specs.Option.{option_map_or}
 use Rattle.cal_ql.specs.declared.kind.QueryKind.TheVariants.{UnknownFormat}
 use Rattle.cal_ql.specs.declared.token.Sign as signs

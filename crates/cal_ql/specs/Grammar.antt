@@ -1,13 +1,11 @@
 -- The grammar of CalQL, as parts of a text: a part begins at some tokens and ends at others.
-use Rattle.std.specs.Prelude.{◌≡◌, ◌⊎◌, ℕ, zero, suc, Bool, true, false, List, [], ◌∷◌, Option, Some, None, is_some, if◌then◌else◌}
+use Rattle.std.specs.Prelude.{◌≡◌, ◌⊎◌, ℕ, suc, Bool, true, false, List, [], ◌∷◌, Option, Some, None, is_some, if◌then◌else◌}
 use Rattle.cal_ql.specs.declared.token.Sign as signs
 use Rattle.cal_ql.specs.declared.token.Sign.TheVariants as signed
-use Rattle.cal_ql.specs.declared.token.Keyword as keywords
 use Rattle.cal_ql.specs.declared.token.Keyword.TheVariants as keyword
 use Rattle.cal_ql.specs.declared.names.Op as ops
 use Rattle.cal_ql.specs.declared.names.Format as formats
 use Rattle.cal_ql.specs.declared.query.Let.{Let}
-use Rattle.cal_ql.specs.declared.query.Item.{Item}
 use Rattle.cal_ql.specs.declared.query.Agg.{Agg}
 use Rattle.cal_ql.specs.declared.query.Cond.{Cond}
 use Rattle.cal_ql.specs.declared.query.Test.TheVariants as test
@@ -70,7 +68,7 @@ pub record Call (l : Let) : Type 0 where
 abbrev pub LetPart : Let → Tokens → Tokens → Type 0
 LetPart l from to = (call : Call l)
     × (Name l.name ⨾ The (sign signed.Equals) ⨾ Name call.op ⨾ The (sign signed.Open)
-        ⨾ Listed (Argument l.op) 0 call.arguments ⨾ The (sign signed.Close)) from to
+    ⨾ Listed (Argument l.op) 0 call.arguments ⨾ The (sign signed.Close)) from to
 
 -- ---- agg = kernel ( [name {, name}] ) [AS name]
 
@@ -87,7 +85,7 @@ pub record KernelCall (agg : Agg) : Type 0 where
 abbrev pub AggPart : Agg → Tokens → Tokens → Type 0
 AggPart agg from to = (call : KernelCall agg)
     × (Name call.kernel ⨾ The (sign signed.Open) ⨾ Names call.names ⨾ The (sign signed.Close)
-        ⨾ Header (result_name agg.kernel agg.attr) agg.name) from to
+    ⨾ Header (result_name agg.kernel agg.attr) agg.name) from to
 
 -- item = name [AS name] | agg
 abbrev pub ItemPart : picks.Picked → Tokens → Tokens → Type 0
@@ -105,8 +103,8 @@ abbrev pub TestPart : Bool → Cond → Tokens → Tokens → Type 0
 TestPart negated cond from to =
     (Name cond.name from to × (cond ≡ record { not = negated; name = cond.name; test = test.Has }))
     ⊎ ((relation : relations.Relation) × (value : List ℕ)
-        × (cond ≡ record { not = negated; name = cond.name; test = test_of relation value })
-        × (Name cond.name ⨾ Rel relation ⨾ Name value) from to)
+    × (cond ≡ record { not = negated; name = cond.name; test = test_of relation value })
+    × (Name cond.name ⨾ Rel relation ⨾ Name value) from to)
 
 abbrev pub CondPart : Cond → Tokens → Tokens → Type 0
 CondPart cond from to =

@@ -1,5 +1,5 @@
 -- AGGREGATE agg {, agg}, and the items of SELECT
-use Rattle.std.specs.Prelude.{ℕ, Bool, true, false, List, [], ◌∷◌, ◌++◌, Option, Some, None, Result, Ok, Err, codes, is_some, not, filter, nat_eq, ◌&&◌, if◌then◌else◌}
+use Rattle.std.specs.Prelude.{ℕ, Bool, true, false, List, [], ◌∷◌, ◌++◌, Option, Some, None, Ok, codes, is_some, not, filter, nat_eq, ◌&&◌, if◌then◌else◌}
 use Rattle.std.specs.Option.{option_map_or}
 use Rattle.std.specs.Cmp.Lexicographic.{pointwise}
 use Rattle.cal_ql.specs.declared.kind.QueryKind.TheVariants.{UnknownKernel, BadArity}
@@ -11,7 +11,7 @@ use Rattle.cal_ql.specs.declared.query.Agg.{Agg}
 use Rattle.cal_ql.specs.declared.select.Picked as picks
 use Rattle.cal_ql.specs.declared.select.Picked.TheVariants as picked
 use Rattle.cal_ql.specs.Names.{kernel_named}
-use Rattle.cal_ql.specs.Tokens.{Token, key, word, quoted, sign, Tokens}
+use Rattle.cal_ql.specs.Tokens.{Token, word, quoted, Tokens}
 use Rattle.cal_ql.specs.Reading.{Read, ◌>>=◌, or_fault, refused, first_of, behind_sign, past_sign, name_at, header_at, separated}
 
 -- kernel: the name of a kernel

@@ -1,5 +1,5 @@
 -- LET let {, let}, with let = name = op ( arg {, arg} )
-use Rattle.std.specs.Prelude.{ℕ, ℤ, pos, neg_ℤ, int_lt, Bool, false, List, [], ◌∷◌, length, Option, Some, None, Result, Ok, Err, is_some, unwrap_or, nat_le, ◌==◌, ◌&&◌, ◌||◌, if◌then◌else◌}
+use Rattle.std.specs.Prelude.{ℕ, ℤ, pos, neg_ℤ, int_lt, Bool, false, List, [], ◌∷◌, length, Option, Some, None, Ok, Err, is_some, unwrap_or, nat_le, ◌==◌, ◌&&◌, ◌||◌, if◌then◌else◌}
 use Rattle.std.specs.List.{filter_map}
 use Rattle.cal_value.specs.Reading.{value_of}
 use Rattle.cal_value.specs.declared.kind.Kind.TheVariants as value_kind

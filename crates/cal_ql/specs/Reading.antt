@@ -1,6 +1,6 @@
 -- Reading tokens from left to right, with the first fault that is met. A token is looked at only when the grammar
 -- reaches it.
-use Rattle.std.specs.Prelude.{◌≡◌, ℕ, zero, suc, Bool, true, false, List, [], ◌∷◌, Option, Some, None, Result, Ok, Err, nat_eq, if◌then◌else◌}
+use Rattle.std.specs.Prelude.{ℕ, zero, suc, Bool, true, false, List, [], ◌∷◌, Option, Some, None, Result, Ok, Err, nat_eq, if◌then◌else◌}
 use Rattle.std.specs.Option.{option_map_or}
 use Rattle.std.specs.Cmp.Lexicographic.{pointwise}
 use Rattle.cal_ql.specs.declared.kind.QueryKind.{QueryKind}
@@ -84,9 +84,9 @@ abbrev pub further_within : {X : Type 0} → ℕ → (ℕ → Tokens → Read X)
 further_within zero item number ts = Ok ([], ts)
 further_within (suc most) item number ts =
     option_map_or
-        (λ rest. item number rest >>= λ one. further_within most item (suc number) one.1 >>= λ others. Ok (one.0 ∷ others.0, others.1))
-        (behind_sign signed.Comma ts)
-        (Ok ([], ts))
+    (λ rest. item number rest >>= λ one. further_within most item (suc number) one.1 >>= λ others. Ok (one.0 ∷ others.0, others.1))
+    (behind_sign signed.Comma ts)
+    (Ok ([], ts))
 
 -- item {, item}, numbered from 0. There are no more of them than tokens.
 unfoldable pub separated : {X : Type 0} → (ℕ → Tokens → Read X) → Tokens → Read (List X)

@@ -1,5 +1,5 @@
 -- What the steps of the reader answer (private).
-use Rattle.std.specs.Prelude.{◌≡◌, ℕ, ◌<◌, ◌≤◌, Result, Ok, Err}
+use Rattle.std.specs.Prelude.{◌≡◌, ◌<◌, ◌≤◌, Result, Ok, Err}
 use Rattle.cal_ql.specs.declared.end.QueryEnd as ends
 use Rattle.cal_ql.specs.declared.end.QueryEnd.TheVariants as end
 use Rattle.cal_ql.specs.declared.ahead.Ahead.{Ahead}

@@ -30,10 +30,7 @@ fn unquoted(alloc: Global, raw: &str) -> Result<Text, OutOfMemory>
 
 /// name
 #[tactic(auto, unfolding(crate::specs::Reading::name_at))]
-pub(crate) fn name_at<'a>(
-    alloc: Global,
-    ahead: Ahead<'a>,
-) -> Result<(Text, Ahead<'a>), QueryEnd>
+pub(crate) fn name_at<'a>(alloc: Global, ahead: Ahead<'a>) -> Result<(Text, Ahead<'a>), QueryEnd>
     ensures read { Gives seen_pair result (name_at (tokens_ahead ahead.entry)) }
     ensures further { IfOk result (λ x. Advances ahead.entry x.1) }
 {

@@ -72,11 +72,7 @@ impl Clauses {
 
     /// Reads the next clause. After an `Err` the clauses are of no more use.
     #[tactic(auto, unfolding(crate::specs::Clauses::clause_at))]
-    fn read_clause<'a>(
-        &mut self,
-        alloc: Global,
-        ahead: Ahead<'a>,
-    ) -> Result<Ahead<'a>, QueryEnd>
+    fn read_clause<'a>(&mut self, alloc: Global, ahead: Ahead<'a>) -> Result<Ahead<'a>, QueryEnd>
         ensures read { Gives (λ rest. (self.new, tokens_ahead rest)) result
             (clause_at self.old (tokens_ahead ahead.entry)) }
         ensures further { IfOk result (λ rest. Advances ahead.entry rest) }

@@ -67,11 +67,7 @@ fn behind_relation(ahead: Ahead<'_>) -> Option<(Relation, Ahead<'_>)>
 
 /// test = name | name rel name
 #[tactic(auto, unfolding(crate::specs::Conds::test_at))]
-fn test_at<'a>(
-    alloc: Global,
-    not: bool,
-    ahead: Ahead<'a>,
-) -> Result<(Cond, Ahead<'a>), QueryEnd>
+fn test_at<'a>(alloc: Global, not: bool, ahead: Ahead<'a>) -> Result<(Cond, Ahead<'a>), QueryEnd>
     ensures read { Gives seen_pair result (test_at not (tokens_ahead ahead.entry)) }
     ensures further { IfOk result (λ x. Advances ahead.entry x.1) }
 {
@@ -90,10 +86,7 @@ fn test_at<'a>(
 }
 
 #[tactic(auto, unfolding(crate::specs::Conds::enclosed_test_at))]
-fn enclosed_test_at<'a>(
-    alloc: Global,
-    ahead: Ahead<'a>,
-) -> Result<(Cond, Ahead<'a>), QueryEnd>
+fn enclosed_test_at<'a>(alloc: Global, ahead: Ahead<'a>) -> Result<(Cond, Ahead<'a>), QueryEnd>
     ensures read { Gives seen_pair result (enclosed_test_at (tokens_ahead ahead.entry)) }
     ensures further { IfOk result (λ x. Advances ahead.entry x.1) }
 {

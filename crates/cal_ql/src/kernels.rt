@@ -14,10 +14,7 @@ use cal_value::{OutOfMemory, Seq, Text};
 use std::alloc::Global;
 
 #[tactic(auto, unfolding(crate::specs::Kernels::kernel_at))]
-fn kernel_at<'a>(
-    alloc: Global,
-    ahead: Ahead<'a>,
-) -> Result<(KernelName, Ahead<'a>), QueryEnd>
+fn kernel_at<'a>(alloc: Global, ahead: Ahead<'a>) -> Result<(KernelName, Ahead<'a>), QueryEnd>
     ensures read { Gives seen_pair result (kernel_at (tokens_ahead ahead.entry)) }
     ensures further { IfOk result (λ x. Advances ahead.entry x.1) }
 {
@@ -48,10 +45,7 @@ impl Rule for NameRule {
 }
 
 #[tactic(auto, unfolding(crate::specs::Kernels::names_behind))]
-fn names_behind<'a>(
-    alloc: Global,
-    ahead: Ahead<'a>,
-) -> Result<(Seq<Text>, Ahead<'a>), QueryEnd>
+fn names_behind<'a>(alloc: Global, ahead: Ahead<'a>) -> Result<(Seq<Text>, Ahead<'a>), QueryEnd>
     ensures read { Gives seen_pair result (names_behind (tokens_ahead ahead.entry)) }
     ensures further { IfOk result (λ x. Advances ahead.entry x.1) }
 {
@@ -62,10 +56,7 @@ fn names_behind<'a>(
 
 /// ( [name {, name}] )
 #[tactic(auto, unfolding(crate::specs::Kernels::names_at))]
-fn names_at<'a>(
-    alloc: Global,
-    ahead: Ahead<'a>,
-) -> Result<(Seq<Text>, Ahead<'a>), QueryEnd>
+fn names_at<'a>(alloc: Global, ahead: Ahead<'a>) -> Result<(Seq<Text>, Ahead<'a>), QueryEnd>
     ensures read { Gives seen_pair result (names_at (tokens_ahead ahead.entry)) }
     ensures further { IfOk result (λ x. Advances ahead.entry x.1) }
 {
@@ -106,22 +97,13 @@ fn attr_of(alloc: Global, kernel: KernelName, mut names: Seq<Text>) -> Option<Te
                 None
             }
         }
-        _ => {
-            if names.len() == 1 {
-                names.pop()
-            } else {
-                None
-            }
-        }
+        _ => { if names.len() == 1 { names.pop() } else { None } }
     }
 }
 
 /// agg = kernel ( [name {, name}] ) [AS name]
 #[tactic(auto, unfolding(crate::specs::Kernels::agg_at))]
-pub(crate) fn agg_at<'a>(
-    alloc: Global,
-    ahead: Ahead<'a>,
-) -> Result<(Agg, Ahead<'a>), QueryEnd>
+pub(crate) fn agg_at<'a>(alloc: Global, ahead: Ahead<'a>) -> Result<(Agg, Ahead<'a>), QueryEnd>
     ensures read { Gives seen_pair result (agg_at (tokens_ahead ahead.entry)) }
     ensures further { IfOk result (λ x. Advances ahead.entry x.1) }
 {

@@ -18,5 +18,4 @@ pub fn meaning_law()
     ensures fault { (text : List ℕ)
         → (((fault : Fault) × HasFault text fault) ↔ ((query : Query) → ¬ Means text query)) }
     ensures valid { (text : List ℕ) (query : Query) → Means text query → IsValidQuery query }
-{
-}
+{}

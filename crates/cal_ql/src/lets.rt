@@ -57,11 +57,7 @@ fn number_in(alloc: Global, op: Op, word: &str) -> Result<Option<i64>, OutOfMemo
 }
 
 #[tactic(auto, unfolding(crate::specs::Lets::number_at))]
-fn number_at<'a>(
-    alloc: Global,
-    op: Op,
-    ahead: Ahead<'a>,
-) -> Result<(i64, Ahead<'a>), QueryEnd>
+fn number_at<'a>(alloc: Global, op: Op, ahead: Ahead<'a>) -> Result<(i64, Ahead<'a>), QueryEnd>
     ensures read { Gives seen_pair result (number_at op (tokens_ahead ahead.entry)) }
     ensures further { IfOk result (λ x. Advances ahead.entry x.1) }
 {

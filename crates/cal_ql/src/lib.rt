@@ -29,5 +29,5 @@ pub use end::QueryEnd;
 pub use kind::QueryKind;
 pub use laws::meaning_law;
 pub use names::{Format, KernelName, Op};
-pub use reading::parse_query;
 pub use query::{Agg, Cond, Item, Let, OrderKey, Query, Test};
+pub use reading::parse_query;

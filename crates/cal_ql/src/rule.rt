@@ -3,8 +3,8 @@ ghost use Rattle.cal_ql.specs.Reading.{separated};
 ghost use Rattle.cal_ql.specs.Steps.{Advances, Gives, seen_pair, tokens_ahead};
 ghost use Rattle.cal_ql.specs.Tokens.{Fault, Tokens};
 
-use crate::ahead::Ahead;
 use crate::QueryEnd;
+use crate::ahead::Ahead;
 use crate::token::Sign;
 use cal_value::Seq;
 use std::alloc::Global;

@@ -101,10 +101,7 @@ fn selection_of(alloc: Global, picked: Seq<Picked>) -> Result<Selection, OutOfMe
 }
 
 #[tactic(auto, unfolding(crate::specs::Clauses::listed_at))]
-fn listed_at<'a>(
-    alloc: Global,
-    ahead: Ahead<'a>,
-) -> Result<(Selection, Ahead<'a>), QueryEnd>
+fn listed_at<'a>(alloc: Global, ahead: Ahead<'a>) -> Result<(Selection, Ahead<'a>), QueryEnd>
     ensures read { Gives seen_pair result (listed_at (tokens_ahead ahead.entry)) }
     ensures further { IfOk result (λ x. Advances ahead.entry x.1) }
 {

@@ -3,6 +3,7 @@ use cal_ql::{
 };
 use cal_value::TryCopy;
 use std::alloc::{AllocError, Global};
+use std::process::Abort;
 use std::test::Fail;
 
 /// Texts that mean no query, with the place and the kind of the first fault.
@@ -291,46 +292,46 @@ fn shown(alloc: Global, text: &str) -> Result<String, AllocError> {
     }
 }
 
-fn table(rt: &HostRuntime, rows: &[(&str, &str)]) -> Result<(), Fail> {
+fn table(rt: &impl Abort, alloc: Global, rows: &[(&str, &str)]) -> Result<(), Fail> {
     for (text, answer) in rows {
-        assert_eq!(rt; shown(rt.alloc(), *text)?.as_str(), *answer, "{text}");
+        assert_eq!(rt; shown(alloc, *text)?.as_str(), *answer, "{text}");
     }
     Ok(())
 }
 
 #[test]
 fn bad_tokens_and_open_quotes(rt: HostRuntime) -> Result<(), Fail> {
-    table(&rt, &TOKEN_FAULTS)
+    table(&rt, rt.alloc(), &TOKEN_FAULTS)
 }
 
 #[test]
 fn clauses_that_are_missing_or_stand_twice(rt: HostRuntime) -> Result<(), Fail> {
-    table(&rt, &CLAUSE_FAULTS)
+    table(&rt, rt.alloc(), &CLAUSE_FAULTS)
 }
 
 #[test]
 fn names_that_are_missing(rt: HostRuntime) -> Result<(), Fail> {
-    table(&rt, &NAME_FAULTS)
+    table(&rt, rt.alloc(), &NAME_FAULTS)
 }
 
 #[test]
 fn signs_that_are_missing(rt: HostRuntime) -> Result<(), Fail> {
-    table(&rt, &SIGN_FAULTS)
+    table(&rt, rt.alloc(), &SIGN_FAULTS)
 }
 
 #[test]
 fn kernels_operators_arguments_and_numbers(rt: HostRuntime) -> Result<(), Fail> {
-    table(&rt, &CALL_FAULTS)
+    table(&rt, rt.alloc(), &CALL_FAULTS)
 }
 
 #[test]
 fn formats_and_by(rt: HostRuntime) -> Result<(), Fail> {
-    table(&rt, &FORMAT_FAULTS)
+    table(&rt, rt.alloc(), &FORMAT_FAULTS)
 }
 
 #[test]
 fn texts_mean_queries(rt: HostRuntime) -> Result<(), Fail> {
-    table(&rt, &QUERIES)
+    table(&rt, rt.alloc(), &QUERIES)
 }
 
 /// A text of many names, in which no result name comes twice.

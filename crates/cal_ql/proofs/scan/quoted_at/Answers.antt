@@ -1,9 +1,9 @@
-use Rattle.std.proofs.Common.{◌≡◌, ℕ, List, [], ◌∷◌, ◌+◌, ◌-◌, ◌<◌, ◌≤◌, ◌∙◌, length, get_or, drop, take, arith, ap, sym, Option, Some, rules, subst, refl}
+use Rattle.std.proofs.Common.{◌≡◌, ℕ, List, [], ◌∷◌, ◌+◌, ◌-◌, ◌<◌, ◌∙◌, length, get_or, drop, take, arith, ap, sym, Option, Some, rules, subst, refl}
 use Rattle.std.specs.List.{slice_get}
-use Rattle.std.specs.Str.{IsCharBoundary, IsUtf8}
+use Rattle.std.specs.Str.{IsCharBoundary}
 use Rattle.std.proofs.lemmas.List.{get_or-drop, length-drop, take_all}
 use Rattle.std.proofs.lemmas.Str.{IsCharBoundary-before_ascii, IsCharBoundary-after_ascii}
-use Rattle.cal_ql.specs.Tokens.{Lexeme, quoted, quoted_at, quoted_len, unquoted}
+use Rattle.cal_ql.specs.Tokens.{quoted_len}
 use Rattle.cal_ql.proofs.Scans.{quote_closes}
 use Rattle.cal_ql.proofs.scan.quoted_at.Goals as goal
 

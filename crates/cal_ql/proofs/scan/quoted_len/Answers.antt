@@ -1,4 +1,3 @@
-use Rattle.std.proofs.Common.{◌∙◌, rules}
 use Rattle.cal_ql.specs.Tokens.{quoted_len}
 use Rattle.cal_ql.proofs.Scans.{counted-zero, quoted_stop, quoted_taken, quoted_plain}
 use Rattle.cal_ql.proofs.scan.quoted_len.Goals as goal

@@ -1,4 +1,4 @@
-use Rattle.std.proofs.Common.{rules, ◌∙◌, sym, Some, ◌≡◌, length}
+use Rattle.std.proofs.Common.{rules, Some, ◌≡◌}
 use Rattle.cal_ql.specs.Signs.{sign_at}
 use Rattle.cal_ql.proofs.Scans.{word_boundary, sign_boundary}
 use Rattle.cal_ql.proofs.scan.token_at.Goals as goal

@@ -1,8 +1,8 @@
-use Rattle.std.proofs.Common.{◌≡◌, ℕ, List, ◌+◌, ◌-◌, ◌<◌, ◌∙◌, length, drop, arith, ap, sym, rules}
+use Rattle.std.proofs.Common.{◌≡◌, ℕ, List, ◌<◌, ◌∙◌, length, drop, arith, ap, sym}
 use Rattle.std.proofs.lemmas.Bool.{eqb-true, eqb-false}
 use Rattle.std.specs.List.{prefix_len}
-use Rattle.cal_ql.specs.Steps.{tokens_ahead, tokens_at}
-use Rattle.cal_ql.specs.Tokens.{end, broken, token, is_blank, tokens_from}
+use Rattle.cal_ql.specs.Steps.{tokens_ahead}
+use Rattle.cal_ql.specs.Tokens.{end, is_blank, tokens_from}
 use Rattle.cal_ql.specs.Scanning.{token_of}
 use Rattle.cal_ql.proofs.Scans.{blanks_boundary}
 use Rattle.cal_ql.proofs.TokenSteps.{no_blank, tokens_blanks, tokens_end, tokens_first_broken, tokens_first_token}

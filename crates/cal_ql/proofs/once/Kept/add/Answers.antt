@@ -1,4 +1,4 @@
-use Rattle.std.proofs.Common.{◌≡◌, Bool, not, List, ℕ, ◌∙◌, sym, ap}
+use Rattle.std.proofs.Common.{not, ◌∙◌, sym, ap}
 use Rattle.std.proofs.lemmas.Bool.{cond-false, cond-true}
 use Rattle.cal_ql.proofs.Onces.{known_name}
 use Rattle.cal_ql.proofs.once.Kept.add.Goals as goal
