@@ -15,15 +15,12 @@ use Rattle.cal_ql.specs.Kernels.{any_name_at, agg_at, item_at}
 use Rattle.cal_ql.specs.Conds.{cond_at, order_key_at}
 use Rattle.cal_ql.specs.Clauses.{all_clauses, clause_at, clause_behind, clauses_within, has_clause, listed_at, no_clauses, past_by, reading, selected_all, selection_at, selection_of}
 use Rattle.cal_ql.specs.Grammar as grammar
-use Rattle.cal_ql.specs.Grammar.{The, ◌⨾◌, Name, Listed, LetPart, AggPart, ItemPart, CondPart, KeyPart, Clause, ClausePart, with_clause, AreClauses, Means}
+use Rattle.cal_ql.specs.Grammar.{The, ◌⨾◌, Name, Listed, LetPart, AggPart, ItemPart, CondPart, KeyPart, Clause, ClausePart, with_clause, if_new, AreClauses, Means}
 use Rattle.cal_ql.proofs.GrammarStops.{EndsList, key_is, listed_count, listed_is, name_count, name_no_sign, sign_is, stops_at, the_count, begins_clause}
 use Rattle.cal_ql.proofs.GrammarAgain.{let_is, let_count, any_name_is, any_name_count, agg_is, agg_count, item_is, item_count, cond_is, cond_count, order_key_is, order_key_count, format_is}
 
-abbrev some_clauses : Clauses → Option Clauses
-some_clauses clauses = Some clauses
-
 -- where a kind is new, the clauses have it from then on
-made_is : (there : Bool) (made next : Clauses) → cond there None (some_clauses made) ≡ Some next → (there ≡ false) × (made ≡ next)
+made_is : (there : Bool) (made next : Clauses) → if_new there made ≡ Some next → (there ≡ false) × (made ≡ next)
 made_is true made next e = absurd cc
 made_is false made next e = (refl, cc)
 

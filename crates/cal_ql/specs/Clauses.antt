@@ -44,7 +44,8 @@ has_clause clauses _ = false
 
 -- what SELECT lists, and its kernels
 abbrev pub selection_of : List picks.Picked → Selection
-selection_of picked = record { items = Some (map item_of picked); aggs = filter_map kernel_of picked }
+selection_of picked =
+    record { items = Some (map item_of picked); aggs = filter_map kernel_of picked }
 
 abbrev pub selected_all : Selection
 selected_all = record { items = None; aggs = [] }
@@ -56,7 +57,8 @@ listed_at ts = do
 
 -- SELECT * | SELECT item {, item}
 unfoldable pub selection_at : Tokens → Read Selection
-selection_at ts = option_map_or (λ rest. Ok (selected_all, rest)) (behind_sign signed.Star ts) (listed_at ts)
+selection_at ts =
+    option_map_or (λ rest. Ok (selected_all, rest)) (behind_sign signed.Star ts) (listed_at ts)
 
 -- BY, behind GROUP or ORDER
 unfoldable pub past_by : Tokens → Result Tokens Fault
@@ -91,7 +93,8 @@ clause_behind clauses here _ ts = Err (refused ExpectedClause here)
 
 abbrev pub clause_first : Clauses → Tokens → Option (Token × Tokens) → Read Clauses
 clause_first clauses here (Some (key k, rest)) =
-    if has_clause clauses k then Err (refused DuplicateClause here) else clause_behind clauses here k rest
+    if has_clause clauses k then Err (refused DuplicateClause here)
+    else clause_behind clauses here k rest
 clause_first clauses here _ = Err (refused ExpectedClause here)
 
 -- the next clause, of a kind that didn't come before
@@ -119,8 +122,8 @@ abbrev pub kernels_of : Option Selection → List Agg
 kernels_of None = []
 kernels_of (Some selection) = selection.aggs
 
--- The query of the clauses: the kernels of SELECT stand before those of AGGREGATE, each result name once, the first
--- kept. Without FORMAT it is expand.
+-- The query of the clauses: the kernels of SELECT stand before those of AGGREGATE, each result name
+-- once, the first kept. Without FORMAT it is expand.
 abbrev pub query_of : Clauses → Query
 query_of clauses = record {
   lets = unwrap_or clauses.lets [];

@@ -1,5 +1,5 @@
 -- The grammar of CalQL, as parts of a text: a part begins at some tokens and ends at others.
-use Rattle.std.specs.Prelude.{◌≡◌, ◌⊎◌, ℕ, suc, Bool, true, false, List, [], ◌∷◌, Option, Some, None, is_some, if◌then◌else◌}
+use Rattle.std.specs.Prelude.{◌≡◌, ◌⊎◌, ℕ, suc, Bool, true, false, List, [], ◌∷◌, Option, Some, None, is_some}
 use Rattle.cal_ql.specs.declared.token.Sign as signs
 use Rattle.cal_ql.specs.declared.token.Sign.TheVariants as signed
 use Rattle.cal_ql.specs.declared.token.Keyword.TheVariants as keyword
@@ -27,36 +27,43 @@ use Rattle.cal_ql.specs.Clauses.{no_clauses, query_of, selected_all, selection_o
 
 -- ---- parts
 
+-- where a part begins and ends
+abbrev pub Part : Type 1
+Part = Tokens → Tokens → Type 0
+
 -- this token alone
-abbrev pub The : Token → Tokens → Tokens → Type 0
+abbrev pub The : Token → Part
 The t from to = first_of from ≡ Some (t, to)
 
 -- one part, and another one behind it
 infixr 5 ◌⨾◌
-abbrev pub ◌⨾◌ : (Tokens → Tokens → Type 0) → (Tokens → Tokens → Type 0) → Tokens → Tokens → Type 0
+abbrev pub ◌⨾◌ : Part → Part → Part
 (p ⨾ q) from to = (middle : Tokens) × p from middle × q middle to
 
 -- name: a word that is no keyword, or a quoted text
-abbrev pub Name : List ℕ → Tokens → Tokens → Type 0
+abbrev pub Name : List ℕ → Part
 Name name from to = The (word name) from to ⊎ The (quoted name) from to
 
 -- item {, item}, the first of this number
-abbrev pub Listed : {X : Type 0} → (ℕ → X → Tokens → Tokens → Type 0) → ℕ → List X → Tokens → Tokens → Type 0
+abbrev pub Listed : {X : Type 0} → (ℕ → X → Part) → ℕ → List X → Part
 Listed item number [] from to = ⊥
 Listed item number (x ∷ []) from to = item number x from to
 Listed item number (x ∷ y ∷ xs) from to =
     (item number x ⨾ The (sign signed.Comma) ⨾ Listed item (suc number) (y ∷ xs)) from to
 
 -- [AS name], where the first name is the one without it
-abbrev pub Header : List ℕ → List ℕ → Tokens → Tokens → Type 0
-Header without name from to = (The (key keyword.As) ⨾ Name name) from to ⊎ ((name ≡ without) × (from ≡ to))
+abbrev pub Header : List ℕ → List ℕ → Part
+Header without name from to =
+    (The (key keyword.As) ⨾ Name name) from to ⊎ ((name ≡ without) × (from ≡ to))
 
 -- ---- let = name = op ( arg {, arg} )
 
-abbrev pub Argument : ops.Op → ℕ → arguments.Argument → Tokens → Tokens → Type 0
-Argument o number (argument.Name name) from to = (is_number_place o number ≡ false) × Name name from to
+abbrev pub Argument : ops.Op → ℕ → arguments.Argument → Part
+Argument o number (argument.Name name) from to =
+    (is_number_place o number ≡ false) × Name name from to
 Argument o number (argument.Number n) from to =
-    (is_number_place o number ≡ true) × (text : List ℕ) × (number_in o text ≡ Some n) × The (word text) from to
+    (is_number_place o number ≡ true) × (text : List ℕ) × (number_in o text ≡ Some n)
+    × The (word text) from to
 
 -- what a definition says before it is made
 pub record Call (l : Let) : Type 0 where
@@ -65,14 +72,14 @@ pub record Call (l : Let) : Type 0 where
   pub is_op : op_named op ≡ Some l.op
   pub makes : let_of l.name l.op arguments ≡ Some l
 
-abbrev pub LetPart : Let → Tokens → Tokens → Type 0
+abbrev pub LetPart : Let → Part
 LetPart l from to = (call : Call l)
     × (Name l.name ⨾ The (sign signed.Equals) ⨾ Name call.op ⨾ The (sign signed.Open)
     ⨾ Listed (Argument l.op) 0 call.arguments ⨾ The (sign signed.Close)) from to
 
 -- ---- agg = kernel ( [name {, name}] ) [AS name]
 
-abbrev pub Names : List (List ℕ) → Tokens → Tokens → Type 0
+abbrev pub Names : List (List ℕ) → Part
 Names [] from to = from ≡ to
 Names (name ∷ names) from to = Listed (λ number. Name) 0 (name ∷ names) from to
 
@@ -82,43 +89,44 @@ pub record KernelCall (agg : Agg) : Type 0 where
   pub is_kernel : kernel_named kernel ≡ Some agg.kernel
   pub is_attr : attr_of agg.kernel names ≡ Some agg.attr
 
-abbrev pub AggPart : Agg → Tokens → Tokens → Type 0
+abbrev pub AggPart : Agg → Part
 AggPart agg from to = (call : KernelCall agg)
     × (Name call.kernel ⨾ The (sign signed.Open) ⨾ Names call.names ⨾ The (sign signed.Close)
     ⨾ Header (result_name agg.kernel agg.attr) agg.name) from to
 
 -- item = name [AS name] | agg
-abbrev pub ItemPart : picks.Picked → Tokens → Tokens → Type 0
+abbrev pub ItemPart : picks.Picked → Part
 ItemPart (picked.Column item) from to = (Name item.name ⨾ Header item.name item.header) from to
 ItemPart (picked.Kernel agg) from to = AggPart agg from to
 
 -- ---- cond = test | NOT test | NOT ( test )
 
 -- rel = = | < | > | <= | >=
-abbrev pub Rel : relations.Relation → Tokens → Tokens → Type 0
+abbrev pub Rel : relations.Relation → Part
 Rel relation from to = (s : signs.Sign) × (relation_of s ≡ Some relation) × The (sign s) from to
 
 -- test = name | name rel name
-abbrev pub TestPart : Bool → Cond → Tokens → Tokens → Type 0
+abbrev pub TestPart : Bool → Cond → Part
 TestPart negated cond from to =
     (Name cond.name from to × (cond ≡ record { not = negated; name = cond.name; test = test.Has }))
     ⊎ ((relation : relations.Relation) × (value : List ℕ)
     × (cond ≡ record { not = negated; name = cond.name; test = test_of relation value })
     × (Name cond.name ⨾ Rel relation ⨾ Name value) from to)
 
-abbrev pub CondPart : Cond → Tokens → Tokens → Type 0
+abbrev pub CondPart : Cond → Part
 CondPart cond from to =
     TestPart false cond from to
     ⊎ ((The (key keyword.Not) ⨾ TestPart true cond) from to
-    ⊎ (The (key keyword.Not) ⨾ The (sign signed.Open) ⨾ TestPart true cond ⨾ The (sign signed.Close)) from to)
+    ⊎ (The (key keyword.Not) ⨾ The (sign signed.Open) ⨾ TestPart true cond
+    ⨾ The (sign signed.Close)) from to)
 
 -- ---- key = name [ASC | DESC]
 
-abbrev pub Direction : Bool → Tokens → Tokens → Type 0
+abbrev pub Direction : Bool → Part
 Direction true from to = The (key keyword.Desc) from to
 Direction false from to = The (key keyword.Asc) from to ⊎ (from ≡ to)
 
-abbrev pub KeyPart : OrderKey → Tokens → Tokens → Type 0
+abbrev pub KeyPart : OrderKey → Part
 KeyPart k from to = (Name k.name ⨾ Direction k.down) from to
 
 -- ---- clauses
@@ -136,12 +144,16 @@ pub data Clause : Type 0 where
 
 -- LET let {, let} | SELECT * | SELECT item {, item} | AGGREGATE agg {, agg} | WHERE cond {, cond}
 -- | GROUP BY name {, name} | ORDER BY key {, key} | FORMAT name
-abbrev pub ClausePart : Clause → Tokens → Tokens → Type 0
-ClausePart (lets list) from to = (The (key keyword.Let) ⨾ Listed (λ number. LetPart) 0 list) from to
+abbrev pub ClausePart : Clause → Part
+ClausePart (lets list) from to =
+    (The (key keyword.Let) ⨾ Listed (λ number. LetPart) 0 list) from to
 ClausePart every from to = (The (key keyword.Select) ⨾ The (sign signed.Star)) from to
-ClausePart (select list) from to = (The (key keyword.Select) ⨾ Listed (λ number. ItemPart) 0 list) from to
-ClausePart (aggregate list) from to = (The (key keyword.Aggregate) ⨾ Listed (λ number. AggPart) 0 list) from to
-ClausePart (conds list) from to = (The (key keyword.Where) ⨾ Listed (λ number. CondPart) 0 list) from to
+ClausePart (select list) from to =
+    (The (key keyword.Select) ⨾ Listed (λ number. ItemPart) 0 list) from to
+ClausePart (aggregate list) from to =
+    (The (key keyword.Aggregate) ⨾ Listed (λ number. AggPart) 0 list) from to
+ClausePart (conds list) from to =
+    (The (key keyword.Where) ⨾ Listed (λ number. CondPart) 0 list) from to
 ClausePart (group list) from to =
     (The (key keyword.Group) ⨾ The (key keyword.By) ⨾ Listed (λ number. Name) 0 list) from to
 ClausePart (order list) from to =
@@ -149,24 +161,36 @@ ClausePart (order list) from to =
 ClausePart (format f) from to =
     (name : List ℕ) × (format_named name ≡ Some f) × (The (key keyword.Format) ⨾ Name name) from to
 
+-- clauses, unless one of this kind is among those before
+abbrev pub if_new : Bool → Clauses → Option Clauses
+if_new true clauses = None
+if_new false clauses = Some clauses
+
 -- clauses with one more, unless one of its kind is among them
 abbrev pub with_clause : Clause → Clauses → Option Clauses
-with_clause (lets list) before = if is_some before.lets then None else Some (record before { lets = Some list })
-with_clause every before = if is_some before.select then None else Some (record before { select = Some selected_all })
+with_clause (lets list) before = if_new (is_some before.lets) (record before { lets = Some list })
+with_clause every before =
+    if_new (is_some before.select) (record before { select = Some selected_all })
 with_clause (select list) before =
-    if is_some before.select then None else Some (record before { select = Some (selection_of list) })
-with_clause (aggregate list) before = if is_some before.aggs then None else Some (record before { aggs = Some list })
-with_clause (conds list) before = if is_some before.conds then None else Some (record before { conds = Some list })
-with_clause (group list) before = if is_some before.group then None else Some (record before { group = Some list })
-with_clause (order list) before = if is_some before.order then None else Some (record before { order = Some list })
-with_clause (format f) before = if is_some before.format then None else Some (record before { format = Some f })
+    if_new (is_some before.select) (record before { select = Some (selection_of list) })
+with_clause (aggregate list) before =
+    if_new (is_some before.aggs) (record before { aggs = Some list })
+with_clause (conds list) before =
+    if_new (is_some before.conds) (record before { conds = Some list })
+with_clause (group list) before =
+    if_new (is_some before.group) (record before { group = Some list })
+with_clause (order list) before =
+    if_new (is_some before.order) (record before { order = Some list })
+with_clause (format f) before =
+    if_new (is_some before.format) (record before { format = Some f })
 
 -- The rest of a text are these clauses, up to its end, and with those before they make all.
 abbrev pub AreClauses : List Clause → Clauses → Clauses → Tokens → Type 0
 AreClauses [] before all ts = (before ≡ all) × (is_end ts ≡ true)
 AreClauses (clause ∷ clauses) before all ts =
     (next : Clauses) × (rest : Tokens)
-    × (with_clause clause before ≡ Some next) × ClausePart clause ts rest × AreClauses clauses next all rest
+    × (with_clause clause before ≡ Some next) × ClausePart clause ts rest
+    × AreClauses clauses next all rest
 
 -- A text means a query: its clauses, each kind at most once, in any order, make it.
 pub record Means (text : List ℕ) (query : Query) : Type 0 where

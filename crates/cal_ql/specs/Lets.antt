@@ -95,7 +95,12 @@ arguments_at o ts = do
 abbrev pub let_of : List ℕ → ops.Op → List arguments.Argument → Option Let
 let_of name o found =
     if takes o (length (names_in found)) (number_of found)
-    then Some (record { name = name; op = o; args = names_in found; n = unwrap_or (number_of found) (pos 1) })
+    then Some (record {
+      name = name;
+      op = o;
+      args = names_in found;
+      n = unwrap_or (number_of found) (pos 1);
+    })
     else None
 
 -- let = name = op ( arg {, arg} )

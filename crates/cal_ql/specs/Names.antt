@@ -37,7 +37,8 @@ kernel_name kernel.Percent = codes "percent_total"
 
 abbrev pub every_kernel : List KernelName
 every_kernel =
-    kernel.Count ∷ kernel.Sum ∷ kernel.Min ∷ kernel.Max ∷ kernel.Avg ∷ kernel.Inclusive ∷ kernel.Percent ∷ []
+    kernel.Count ∷ kernel.Sum ∷ kernel.Min ∷ kernel.Max ∷ kernel.Avg ∷ kernel.Inclusive
+    ∷ kernel.Percent ∷ []
 
 abbrev pub kernel_named : List ℕ → Option KernelName
 kernel_named name = find (λ k. pointwise nat_eq name (kernel_name k)) every_kernel
@@ -76,4 +77,5 @@ every_keyword =
     ∷ keyword.By ∷ keyword.Format ∷ keyword.As ∷ keyword.Not ∷ keyword.Asc ∷ keyword.Desc ∷ []
 
 unfoldable pub keyword_of : List ℕ → Option Keyword
-keyword_of word = find (λ k. pointwise nat_eq (map to_ascii_lowercase word) (keyword_name k)) every_keyword
+keyword_of word =
+    find (λ k. pointwise nat_eq (map to_ascii_lowercase word) (keyword_name k)) every_keyword

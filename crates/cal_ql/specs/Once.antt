@@ -11,7 +11,9 @@ IsKept kept = kept.names.keys ≡ map (λ agg. agg.name) kept.aggs
 
 -- kernels with one more, unless one of them has its name
 abbrev pub with_new : List Agg → Agg → List Agg
-with_new aggs agg = if list_any (λ other. pointwise nat_eq agg.name other.name) aggs then aggs else aggs ++ agg ∷ []
+with_new aggs agg =
+    if list_any (λ other. pointwise nat_eq agg.name other.name) aggs then aggs
+    else aggs ++ agg ∷ []
 
 abbrev pub with_all_new : List Agg → List Agg → List Agg
 with_all_new aggs [] = aggs

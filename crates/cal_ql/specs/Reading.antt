@@ -1,5 +1,5 @@
--- Reading tokens from left to right, with the first fault that is met. A token is looked at only when the grammar
--- reaches it.
+-- Reading tokens from left to right, with the first fault that is met. A token is looked at only
+-- when the grammar reaches it.
 use Rattle.std.specs.Prelude.{ℕ, zero, suc, Bool, true, false, List, [], ◌∷◌, Option, Some, None, Result, Ok, Err, nat_eq, if◌then◌else◌}
 use Rattle.std.specs.Option.{option_map_or}
 use Rattle.std.specs.Cmp.Lexicographic.{pointwise}
@@ -33,8 +33,8 @@ count (end place) = 0
 count (broken fault) = 0
 count (token place t rest) = suc (count rest)
 
--- The fault at the first of these tokens, which can't be taken: at the end it is at the text's length, and what begins
--- no token is a fault of its own.
+-- The fault at the first of these tokens, which can't be taken: at the end it is at the text's
+-- length, and what begins no token is a fault of its own.
 unfoldable pub refused : QueryKind → Tokens → Fault
 refused kind (end place) = record { place = place; kind = kind }
 refused kind (broken fault) = fault
@@ -47,11 +47,13 @@ first_of (broken fault) = None
 first_of (token place t rest) = Some (t, rest)
 
 abbrev pub behind_this_sign : signs.Sign → Option (Token × Tokens) → Option Tokens
-behind_this_sign s (Some (sign t, rest)) = if pointwise nat_eq (sign_text t) (sign_text s) then Some rest else None
+behind_this_sign s (Some (sign t, rest)) =
+    if pointwise nat_eq (sign_text t) (sign_text s) then Some rest else None
 behind_this_sign s _ = None
 
 abbrev pub behind_this_key : keywords.Keyword → Option (Token × Tokens) → Option Tokens
-behind_this_key k (Some (key t, rest)) = if pointwise nat_eq (keyword_name t) (keyword_name k) then Some rest else None
+behind_this_key k (Some (key t, rest)) =
+    if pointwise nat_eq (keyword_name t) (keyword_name k) then Some rest else None
 behind_this_key k _ = None
 
 -- what stands behind a sign, where it comes first
@@ -84,7 +86,8 @@ abbrev pub further_within : {X : Type 0} → ℕ → (ℕ → Tokens → Read X)
 further_within zero item number ts = Ok ([], ts)
 further_within (suc most) item number ts =
     option_map_or
-    (λ rest. item number rest >>= λ one. further_within most item (suc number) one.1 >>= λ others. Ok (one.0 ∷ others.0, others.1))
+    (λ rest. item number rest >>= λ one. further_within most item (suc number) one.1
+    >>= λ others. Ok (one.0 ∷ others.0, others.1))
     (behind_sign signed.Comma ts)
     (Ok ([], ts))
 

@@ -18,8 +18,8 @@ sign_text sign.GreaterEqual = codes ">="
 -- the signs, the longest first
 abbrev pub every_sign : List Sign
 every_sign =
-    sign.LessEqual ∷ sign.GreaterEqual ∷ sign.Less ∷ sign.Greater ∷ sign.Comma ∷ sign.Open ∷ sign.Close
-    ∷ sign.Star ∷ sign.Equals ∷ []
+    sign.LessEqual ∷ sign.GreaterEqual ∷ sign.Less ∷ sign.Greater ∷ sign.Comma ∷ sign.Open
+    ∷ sign.Close ∷ sign.Star ∷ sign.Equals ∷ []
 
 -- the sign with which a text begins
 unfoldable pub sign_at : List ℕ → Option Sign

@@ -30,17 +30,20 @@ pub data Tokens : Type 0 where
 abbrev pub is_blank : ℕ → Bool
 is_blank byte = list_any (λ blank. blank == byte) (codes " \t\n")
 
--- a byte of a word: an ASCII letter or digit, one of some marks, or a part of a character past ASCII
+-- a byte of a word: an ASCII letter or digit, one of some marks, or a part of a character past
+-- ASCII
 abbrev pub is_word_byte : ℕ → Bool
 is_word_byte byte =
-    is_ascii_alphanumeric byte || list_any (λ mark. mark == byte) (codes "_.-:#/@") || nat_le 128 byte
+    is_ascii_alphanumeric byte || list_any (λ mark. mark == byte) (codes "_.-:#/@")
+    || nat_le 128 byte
 
 -- a word is a keyword or a name
 abbrev pub word_or_key : List ℕ → Option keywords.Keyword → Token
 word_or_key text (Some keyword) = key keyword
 word_or_key text None = word text
 
--- How many bytes stand before the quote that closes a quoted text. A backslash takes the next character with it.
+-- How many bytes stand before the quote that closes a quoted text. A backslash takes the next
+-- character with it.
 abbrev pub quoted_len : List ℕ → Option ℕ
 quoted_len [] = None
 quoted_len (byte ∷ []) = if byte == 34 then Some 0 else None
@@ -77,7 +80,8 @@ signed (Some s) = Ok (sign s, length (sign_text s))
 unfoldable pub token_at : List ℕ → Lexeme
 token_at text =
     if nat_lt 0 (prefix_len is_word_byte text) then word_at text
-    else (if starts_with nat_eq text (codes "\"") then quoted_at (drop 1 text) (quoted_len (drop 1 text))
+    else (if starts_with nat_eq text (codes "\"")
+    then quoted_at (drop 1 text) (quoted_len (drop 1 text))
     else signed (sign_at text))
 
 -- A token at its place, with the tokens behind so many bytes of it; or what begins none.
@@ -85,13 +89,15 @@ abbrev pub tokens_with : ℕ → Lexeme → (ℕ → Tokens) → Tokens
 tokens_with place (Err kind) behind = broken (record { place = place; kind = kind })
 tokens_with place (Ok found) behind = token place found.0 (behind (found.1 - 1))
 
--- The tokens of the last bytes of a text of this length, of which the first so many belong to the token before.
+-- The tokens of the last bytes of a text of this length, of which the first so many belong to the
+-- token before.
 unfoldable pub tokens_from : ℕ → List ℕ → ℕ → Tokens
 tokens_from whole [] inside = end whole
 tokens_from whole (byte ∷ bytes) (suc inside) = tokens_from whole bytes inside
 tokens_from whole (byte ∷ bytes) zero =
     if is_blank byte then tokens_from whole bytes 0
-    else tokens_with (whole - length (byte ∷ bytes)) (token_at (byte ∷ bytes)) (λ n. tokens_from whole bytes n)
+    else tokens_with (whole - length (byte ∷ bytes)) (token_at (byte ∷ bytes))
+    (λ n. tokens_from whole bytes n)
 
 -- the tokens of a text
 abbrev pub tokens_of : List ℕ → Tokens

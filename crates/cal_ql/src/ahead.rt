@@ -90,7 +90,8 @@ impl<'a> Ahead<'a> {
     /// What stands behind a sign, where it comes first.
     #[tactic(auto, unfolding(crate::specs::Reading::behind_sign))]
     pub(crate) fn behind_sign(self, sign: Sign) -> Option<Ahead<'a>>
-        ensures behind { option_map tokens_ahead result ≡ behind_sign sign (tokens_ahead self.entry) }
+        ensures behind { option_map tokens_ahead result
+            ≡ behind_sign sign (tokens_ahead self.entry) }
         ensures further { IfSome result (λ x. Advances self.entry x) }
     {
         match self.first() {

@@ -8,7 +8,8 @@ use thiserror::Error;
 /// Why there is no query.
 #[derive(Clone, Copy, Debug, PartialEq, Eq, Error)]
 pub enum QueryEnd {
-    /// The first token that can't be taken. The place is its first byte, or the text's length at the end.
+    /// The first token that can't be taken. The place is its first byte, or at the end the text's
+    /// length.
     #[error("byte {place}: {kind}")]
     BadQuery { place: u64, kind: QueryKind },
     #[error("out of memory")]

@@ -6,8 +6,9 @@ ghost use Rattle.cal_ql.specs.Grammar.{Means};
 ghost use Rattle.cal_ql.specs.Tokens.{Fault};
 ghost use Rattle.cal_ql.specs.Valid.{IsValidQuery};
 
-/// The law of meaning: the grammar and the reading from left to right agree, no text means two queries
-/// or has two faults, a text has a fault exactly where it means no query, and what it means is valid.
+/// The law of meaning: the grammar and the reading from left to right agree, no text means two
+/// queries or has two faults, a text has a fault exactly where it means no query, and what it means
+/// is valid.
 pub fn meaning_law()
     ensures read { (text : List ℕ) (query : Query)
         → (Means text query ↔ (reading text ≡ Ok query)) }

@@ -1,9 +1,9 @@
 //! CalQL: the query that a text means, or its first fault.
 //!
-//! `parse_query` answers the one query of a text, or refuses it for the first token that the grammar
-//! can't take, by its byte and what is wrong there. The layers above use that every query is valid: its
-//! operators have the arguments that they take, and no two kernels have one result name. Nothing is
-//! promised of when memory is there.
+//! `parse_query` answers the one query of a text, or refuses it for the first token that the
+//! grammar can't take, by its byte and what is wrong there. The layers above use that every query
+//! is valid: its operators have the arguments that they take, and no two kernels have one result
+//! name. Nothing is promised of when memory is there.
 #![tactic(auto)]
 
 mod ahead;

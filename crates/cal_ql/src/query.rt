@@ -47,7 +47,7 @@ pub struct Cond {
     pub test: Test,
 }
 
-/// What a condition asks of the entries of its name: that there is one, or how one's value compares.
+/// What a condition asks of the entries of its name: that there is one, or how a value compares.
 #[derive(Debug, PartialEq, Eq, Drop)]
 pub enum Test {
     Has,

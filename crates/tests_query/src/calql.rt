@@ -1,5 +1,6 @@
 use cal_ql::{
-    Agg, Cond, Format, Item, KernelName, Let, Op, OrderKey, Query, QueryEnd, Test, meaning_law, parse_query,
+    Agg, Cond, Format, Item, KernelName, Let, Op, OrderKey, Query, QueryEnd, Test, meaning_law,
+    parse_query,
 };
 use cal_value::TryCopy;
 use std::alloc::{AllocError, Global};
@@ -151,10 +152,16 @@ const QUERIES: [(&str, &str); 30] = [
     ("select a,b as c", "[a:a][b:c] expand"),
     ("select \"sum\" as \"x y\"", "[sum:x y] expand"),
     ("select count", "[count:count] expand"),
-    ("select count()", "[count:count] {count of  as count} expand"),
+    (
+        "select count()",
+        "[count:count] {count of  as count} expand",
+    ),
     ("select \"sum\"(a)as b", "[b:b] {sum of a as b} expand"),
     ("select \"a\\\"b\\\\c\\n\"", "[a\"b\\cn:a\"b\\cn] expand"),
-    ("select é,a.b-c:d#e/f@g_1", "[é:é][a.b-c:d#e/f@g_1:a.b-c:d#e/f@g_1] expand"),
+    (
+        "select é,a.b-c:d#e/f@g_1",
+        "[é:é][a.b-c:d#e/f@g_1:a.b-c:d#e/f@g_1] expand",
+    ),
     (
         "aggregate min(a),max(a) select avg(a),inclusive_sum(a)",
         "[avg#a:avg#a][inclusive#a:inclusive#a] {avg of a as avg#a}{inclusive of a as inclusive#a}{min of a as min#a}{max of a as max#a} expand",
@@ -163,11 +170,17 @@ const QUERIES: [(&str, &str); 30] = [
         "select sum(a) as x,count() as x aggregate percent_total(b)",
         "[x:x][x:x] {sum of a as x}{percent of b as percent_total#b} expand",
     ),
-    ("aggregate sum(a),sum(a) as b,sum(a)", "{sum of a as sum#a}{sum of a as b} expand"),
+    (
+        "aggregate sum(a),sum(a) as b,sum(a)",
+        "{sum of a as sum#a}{sum of a as b} expand",
+    ),
     ("where a", "(a) expand"),
     ("where not a", "(not a) expand"),
     ("where not(a=b)", "(not a=b) expand"),
-    ("where a<b,c>d,e<=f,g>=\"h\"", "(a<b)(c>d)(e<=f)(g>=h) expand"),
+    (
+        "where a<b,c>d,e<=f,g>=\"h\"",
+        "(a<b)(c>d)(e<=f)(g>=h) expand",
+    ),
     ("where not a>=b", "(not a>=b) expand"),
     ("where a=\"not\"", "(a=not) expand"),
     ("group by path,a", "by[path][a] expand"),
@@ -177,9 +190,18 @@ const QUERIES: [(&str, &str); 30] = [
     ("format json", "json"),
     ("let a=truncate(b)", "a=truncate(b)1; expand"),
     ("let a=truncate(b,007)", "a=truncate(b)7; expand"),
-    ("let a=scale(b,-2147483647),c=ratio(d,e)", "a=scale(b)-2147483647;c=ratio(d,e)1; expand"),
-    ("let a=\"ratio\"(b,c,-0) format expand", "a=ratio(b,c)0; expand"),
-    ("let a=first(b,c),d=sum(e)", "a=first(b,c)1;d=sum(e)1; expand"),
+    (
+        "let a=scale(b,-2147483647),c=ratio(d,e)",
+        "a=scale(b)-2147483647;c=ratio(d,e)1; expand",
+    ),
+    (
+        "let a=\"ratio\"(b,c,-0) format expand",
+        "a=ratio(b,c)0; expand",
+    ),
+    (
+        "let a=first(b,c),d=sum(e)",
+        "a=first(b,c)1;d=sum(e)1; expand",
+    ),
 ];
 
 fn let_text(alloc: Global, definition: &Let) -> Result<String, AllocError> {
@@ -213,7 +235,11 @@ fn agg_text(alloc: Global, agg: &Agg) -> Result<String, AllocError> {
         KernelName::Inclusive => "inclusive",
         KernelName::Percent => "percent",
     };
-    format!(in alloc; "{{{kernel} of {} as {}}}", agg.attr.as_str(), agg.name.as_str())
+    format!(in alloc;
+        "{{{kernel} of {} as {}}}",
+        agg.attr.as_str(),
+        agg.name.as_str()
+    )
 }
 
 fn cond_text(alloc: Global, cond: &Cond) -> Result<String, AllocError> {
@@ -342,7 +368,9 @@ fn many_names_take_little_time(rt: HostRuntime) -> Result<(), Fail> {
         let item = format!(in rt.alloc(); ",sum(a{number})")?;
         text.push_str(item.as_str())?;
     }
-    let query = parse_query(rt.alloc(), text.as_str()).ok().ok_or("a query")?;
+    let query = parse_query(rt.alloc(), text.as_str())
+        .ok()
+        .ok_or("a query")?;
     assert_eq!(rt; query.aggs.len(), 40_001);
     Ok(())
 }
