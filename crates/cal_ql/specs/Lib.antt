@@ -1,0 +1,15 @@
+pub mod Clauses
+pub mod Conds
+pub mod FirstFault
+pub mod Grammar
+pub mod Kernels
+pub mod Kinds
+pub mod Lets
+pub mod Names
+pub mod Once
+pub mod Reading
+pub mod Scanning
+pub mod Signs
+pub mod Steps
+pub mod Tokens
+pub mod Valid
