@@ -1,4 +1,3 @@
-//! Tests of the tables that running threads share, and of the words of their records.
 //! Tests of the layers that share memory between threads: the words of records, and the tables in
 //! which they stand.
 //!
