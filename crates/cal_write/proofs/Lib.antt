@@ -6,3 +6,5 @@ mod StreamLemmas
 mod BuiltInLemmas
 mod DescribeLemmas
 mod KeptLemmas
+mod RecordLemmas
+mod InterningLemmas
