@@ -15,10 +15,11 @@ use Rattle.cal_context.specs.Tree.{Tree, Grows, IsContext, attribute_at, path_at
 use Rattle.cal_context.specs.declared.numbers.AttributeNumber.{AttributeNumber}
 use Rattle.cal_context.specs.declared.numbers.NodeNumber.{NodeNumber}
 use Rattle.cal_context.specs.declared.snapshot.Immediate.{Immediate}
+use Rattle.cal_context.specs.declared.snapshot.Snapshot.{Snapshot}
 use Rattle.cal_context.proofs.CallerLemmas.{Grows-trans, path_at-Grows, attribute_at-Grows, within_paths, within_attributes}
 use Rattle.cal_context.proofs.ListLemmas.{map-alike}
 use Rattle.cal_write.specs.CanonicalText.{has_entry}
-use Rattle.cal_write.specs.Interning.{IsStep, IsReached, AreNodesOf, AddsPaths, AreImmediatesOf, AddsImmediates}
+use Rattle.cal_write.specs.Interning.{IsStep, IsReached, AreNodesOf, AddsPaths, AreImmediatesOf, AddsImmediates, Means}
 
 -- ---- while the context grows
 
@@ -117,9 +118,16 @@ entries-more old mid new entries i e a b c within is first next done h =
             ap (λ l. done ++ l) (take_more entries i e within ∙ ap (λ p. take i entries ++ p ∷ []) (sym is)) ∙ sym (append_assoc done (take i entries) (e ∷ [])) in
     subst (λ es. AreImmediatesOf new es c) (sym all) (next (done ++ take i entries) (first done h))
 
--- paths and immediates that were put into a context one after the other
-pub both : (old mid new : Tree) (paths : List (List Entry)) (entries : List Entry) (nodes : List NodeNumber) (imms : List Immediate) → AddsPaths old mid paths [] nodes → Grows mid new
-    → AddsImmediates mid new entries [] imms → AreNodesOf new paths nodes × AreImmediatesOf new entries imms
-both old mid new paths entries nodes imms first grows next =
-    (nodes-Grows mid new grows paths nodes (first [] (record { within = λ k d l. absurd (omega (arith, l)); are = refl })),
-        next [] (record { within = λ k d l. absurd (omega (arith, l)); are = refl }))
+-- a record in a context
+pub recorded : (old mid new : Tree) (snap : Snapshot) (r : Rec) (paths : List (List Entry)) (entries : List Entry) (a : List NodeNumber) (b : List Immediate)
+    → paths ≡ r.paths → entries ≡ r.imms → a ≡ [] → b ≡ [] → AddsPaths old mid paths a snap.nodes.items → Grows mid new → AddsImmediates mid new entries b snap.imms.items → Means new snap r
+recorded old mid new snap r paths entries a b is_paths is_entries no_nodes no_imms first grows next =
+    let nodes = nodes-Grows mid new grows paths snap.nodes.items
+            (first [] (subst (AreNodesOf old []) (sym no_nodes) (record { within = λ k d l. absurd (omega (arith, l)); are = refl }))) in
+    let imms = next [] (subst (AreImmediatesOf mid []) (sym no_imms) (record { within = λ k d l. absurd (omega (arith, l)); are = refl })) in
+    let paths_are = nodes.are ∙ ap (filter has_entry) is_paths in
+    let imms_are = imms.are ∙ is_entries in
+    record {
+      within = record { nodes = nodes.within; imms = imms.within };
+      means = λ j. record { paths = paths_are j; imms = imms_are j };
+    }

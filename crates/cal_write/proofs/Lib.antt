@@ -8,3 +8,4 @@ mod DescribeLemmas
 mod KeptLemmas
 mod RecordLemmas
 mod InterningLemmas
+mod WholeLemmas

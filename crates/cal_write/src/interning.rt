@@ -14,7 +14,7 @@ pub(crate) fn intern_record(
     snapshot: &mut Snapshot,
 ) -> Result<(), OutOfMemory>
     ensures means { OnOk result (Means context.new snapshot.new rec.now) }
-    ensures grows { Grows context.old context.new }
+    ensures grows { OnOk result (Grows context.old context.new) }
 {
     snapshot.clear();
     intern_paths(context, rec.paths.as_slice(), &mut snapshot.nodes)?;
@@ -28,7 +28,7 @@ fn intern_paths(
     nodes: &mut Vec<NodeNumber>,
 ) -> Result<(), OutOfMemory>
     ensures adds { OnOk result (AddsPaths context.old context.new paths.now nodes.old.items nodes.new.items) }
-    ensures grows { Grows context.old context.new }
+    ensures grows { OnOk result (Grows context.old context.new) }
 {
     for path in paths {
         intern_path(context, path.as_slice(), nodes)?;
@@ -42,7 +42,7 @@ fn intern_path(
     nodes: &mut Vec<NodeNumber>,
 ) -> Result<(), OutOfMemory>
     ensures adds { OnOk result (AddsPath context.old context.new path.now nodes.old.items nodes.new.items) }
-    ensures grows { Grows context.old context.new }
+    ensures grows { OnOk result (Grows context.old context.new) }
 {
     if path.is_empty() {
         return Ok(());
@@ -55,7 +55,7 @@ fn intern_path(
 /// The node that a path leads to.
 fn reach(context: &mut Context, path: &[Entry]) -> Result<NodeNumber, OutOfMemory>
     ensures reached { IfOk result (IsReached context.new path.now) }
-    ensures grows { Grows context.old context.new }
+    ensures grows { OnOk result (Grows context.old context.new) }
 {
     context.has_each_once();
     let mut node = NodeNumber::ROOT;
@@ -73,7 +73,7 @@ fn step(
 ) -> Result<NodeNumber, OutOfMemory>
     requires { parent.0 < length context.old.paths }
     ensures step { IfOk result (IsStep context.old context.new parent entry.now) }
-    ensures grows { Grows context.old context.new }
+    ensures grows { OnOk result (Grows context.old context.new) }
 {
     let attribute = context.attribute(&entry.attr)?;
     let node = context.child(parent, attribute, &entry.value)?;
@@ -87,7 +87,7 @@ fn intern_immediates(
     imms: &mut Vec<Immediate>,
 ) -> Result<(), OutOfMemory>
     ensures adds { OnOk result (AddsImmediates context.old context.new entries.now imms.old.items imms.new.items) }
-    ensures grows { Grows context.old context.new }
+    ensures grows { OnOk result (Grows context.old context.new) }
 {
     for entry in entries {
         intern_immediate(alloc, context, entry, imms)?;
@@ -102,7 +102,7 @@ fn intern_immediate(
     imms: &mut Vec<Immediate>,
 ) -> Result<(), OutOfMemory>
     ensures adds { OnOk result (AddsImmediate context.old context.new entry.now imms.old.items imms.new.items) }
-    ensures grows { Grows context.old context.new }
+    ensures grows { OnOk result (Grows context.old context.new) }
 {
     let attribute = context.attribute(&entry.attr)?;
     let value = entry.value.copy(alloc)?;
