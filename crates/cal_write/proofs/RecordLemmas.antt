@@ -65,9 +65,9 @@ no-nodes t w = record {
   at = λ s k. record { has = tt; are = refl };
 }
 
-pub nodes-more : (t : Tree) (old mid new : NodeWriter) (nodes : List NodeNumber) (ids : List ℕ) (i : ℕ) (n : NodeNumber) (id : Option ℕ) → i < length nodes → n ≡ get_or nodes i n
-    → NeedsNodes t old mid (take i nodes) ids → NeedsNode t mid new n id → NeedsNodes t old new (take (i + 1) nodes) (ids ++ option_to_list id)
-nodes-more t old mid new nodes ids i n id within is first next = record {
+pub nodes-more : (t : Tree) (old mid new : NodeWriter) (nodes : List NodeNumber) (ids : List ℕ) (i : ℕ) (d : NodeNumber) (id : Option ℕ) → i < length nodes
+    → NeedsNodes t old mid (take i nodes) ids → NeedsNode t mid new (get_or nodes i d) id → NeedsNodes t old new (take (i + 1) nodes) (ids ++ option_to_list id)
+nodes-more t old mid new nodes ids i d id within first next = record {
   kept = λ s k. subst (IsKept t new) (sym (steps s)) (next.kept (before s) (first.kept s k));
   at = λ s k. subst (λ (v : Written). AreAt v.nodes (filter has_entry (map (path_at t) (take (i + 1) nodes))) (ids ++ option_to_list id)) (sym (steps s))
       (subst (λ ps. AreAt (last s).nodes ps (ids ++ option_to_list id)) (sym filtered)
@@ -76,11 +76,14 @@ nodes-more t old mid new nodes ids i n id within is first next = record {
               (end-at (last s).nodes (path_at t n) id (next.at (before s) (first.kept s k)))));
 }
   where
+    n : NodeNumber
+    n = get_or nodes i d
+
     paths : List Node
     paths = map (path_at t) (take i nodes)
 
     more : map (path_at t) (take (i + 1) nodes) ≡ paths ++ path_at t n ∷ []
-    more = map_more (path_at t) nodes i n within ∙ ap (λ m. map (path_at t) (take i nodes) ++ path_at t m ∷ []) (sym is)
+    more = map_more (path_at t) nodes i d within
 
     filtered : filter has_entry (map (path_at t) (take (i + 1) nodes))
         ≡ filter has_entry paths ++ filter has_entry (path_at t n ∷ [])
@@ -236,5 +239,5 @@ globals-written t context old new snap in_it some writes rows had =
     let g = meaning t snap in
     let text = (writes (written rows) had.kept).stream.text in
     let none : ((length (ends g) == 0) && (length g.imms == 0)) ≡ false
-            = (λ j. ends-length t context snap.nodes.items in_it.nodes j && (length-map (entry_of t) snap.imms.items j == 0)) ∙ some in
+            = (λ j. ends-length t context snap.nodes.items in_it.nodes j && (length-map snap.imms.items (entry_of t) j == 0)) ∙ some in
     text ∙ ap (λ (b : Bool). rows_text built_in rows ++ (if b then [] else record_text (codes "globals") (nodes rows) g)) (sym none)

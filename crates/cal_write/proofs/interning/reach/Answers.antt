@@ -11,9 +11,9 @@ loop-entry-init c = record { grows = Grows-refl c.args.context.now; reached = re
 
 pub loop-entry-preserved : goal.loop-entry-preserved
 loop-entry-preserved c = record {
-  grows = Grows-trans c.args.context.now c.loop-entry.context c.step.new.context c.loop-entry.invariant.grows c.in_ok-step.ensures.grows;
-  reached = reached-more c.loop-entry.context c.step.new.context c.args.path.now c.loop-entry.entry-index c.entry-item.result c.loop-entry.node c.in_ok-step.field-0
-      c.loop-entry-test.true c.entry-item.is c.loop-entry.invariant.reached c.in_ok-step.ensures.step;
+  grows = Grows-trans c.args.context.now c.loop-entry.context c.step.new.context c.loop-entry.invariant.grows c.in_ok-node.ensures.grows;
+  reached = reached-more c.loop-entry.context c.step.new.context c.args.path.now c.loop-entry.entry-index c.entry-item.result c.loop-entry.node c.in_ok-node.node
+      c.loop-entry-test.true c.entry-item.is c.loop-entry.invariant.reached c.in_ok-node.ensures.step;
 }
 
 pub returns-clause-reached : goal.returns-clause-reached
