@@ -95,7 +95,7 @@ pub paths-more : (old mid new : Tree) (paths : List (List Entry)) (i : ℕ) (pat
     → AddsPaths old mid (take i paths) a b → AddsPaths mid new (path ∷ []) b c → AddsPaths old new (take (i + 1) paths) a c
 paths-more old mid new paths i path a b c within is first next done h =
     let all : done ++ take (i + 1) paths ≡ (done ++ take i paths) ++ path ∷ [] =
-            ap (λ l. done ++ l) (take_more paths i path within ∙ ap (λ p. take i paths ++ p ∷ []) (sym is)) ∙ sym (append_assoc done (take i paths) (path ∷ [])) in
+    ap (λ l. done ++ l) (take_more paths i path within ∙ ap (λ p. take i paths ++ p ∷ []) (sym is)) ∙ sym (append_assoc done (take i paths) (path ∷ [])) in
     subst (λ ps. AreNodesOf new ps c) (sym all) (next (done ++ take i paths) (first done h))
 
 pub no-entries : (old : Tree) (imms : List Immediate) → AddsImmediates old old [] imms imms
@@ -115,7 +115,7 @@ pub entries-more : (old mid new : Tree) (entries : List Entry) (i : ℕ) (e : En
     → AddsImmediates old mid (take i entries) a b → AddsImmediates mid new (e ∷ []) b c → AddsImmediates old new (take (i + 1) entries) a c
 entries-more old mid new entries i e a b c within is first next done h =
     let all : done ++ take (i + 1) entries ≡ (done ++ take i entries) ++ e ∷ [] =
-            ap (λ l. done ++ l) (take_more entries i e within ∙ ap (λ p. take i entries ++ p ∷ []) (sym is)) ∙ sym (append_assoc done (take i entries) (e ∷ [])) in
+    ap (λ l. done ++ l) (take_more entries i e within ∙ ap (λ p. take i entries ++ p ∷ []) (sym is)) ∙ sym (append_assoc done (take i entries) (e ∷ [])) in
     subst (λ es. AreImmediatesOf new es c) (sym all) (next (done ++ take i entries) (first done h))
 
 -- a record in a context
@@ -123,7 +123,7 @@ pub recorded : (old mid new : Tree) (snap : Snapshot) (r : Rec) (paths : List (L
     → paths ≡ r.paths → entries ≡ r.imms → a ≡ [] → b ≡ [] → AddsPaths old mid paths a snap.nodes.items → Grows mid new → AddsImmediates mid new entries b snap.imms.items → Means new snap r
 recorded old mid new snap r paths entries a b is_paths is_entries no_nodes no_imms first grows next =
     let nodes = nodes-Grows mid new grows paths snap.nodes.items
-            (first [] (subst (AreNodesOf old []) (sym no_nodes) (record { within = λ k d l. absurd (omega (arith, l)); are = refl }))) in
+    (first [] (subst (AreNodesOf old []) (sym no_nodes) (record { within = λ k d l. absurd (omega (arith, l)); are = refl }))) in
     let imms = next [] (subst (AreImmediatesOf mid []) (sym no_imms) (record { within = λ k d l. absurd (omega (arith, l)); are = refl })) in
     let paths_are = nodes.are ∙ ap (filter has_entry) is_paths in
     let imms_are = imms.are ∙ is_entries in

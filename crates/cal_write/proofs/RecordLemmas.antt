@@ -71,9 +71,9 @@ nodes-more t old mid new nodes ids i d id within first next = record {
   kept = λ s k. subst (IsKept t new) (sym (steps s)) (next.kept (before s) (first.kept s k));
   at = λ s k. subst (λ (v : Written). AreAt v.nodes (filter has_entry (map (path_at t) (take (i + 1) nodes))) (ids ++ option_to_list id)) (sym (steps s))
       (subst (λ ps. AreAt (last s).nodes ps (ids ++ option_to_list id)) (sym filtered)
-          (AreAt-append (last s).nodes (filter has_entry paths) (filter has_entry (path_at t n ∷ [])) ids (option_to_list id)
-              (AreAt-grown (before s).nodes (last s).nodes (fold-front (before s).nodes (needed_below [] (path_at t n))) (filter has_entry paths) ids (first.at s k))
-              (end-at (last s).nodes (path_at t n) id (next.at (before s) (first.kept s k)))));
+      (AreAt-append (last s).nodes (filter has_entry paths) (filter has_entry (path_at t n ∷ [])) ids (option_to_list id)
+      (AreAt-grown (before s).nodes (last s).nodes (fold-front (before s).nodes (needed_below [] (path_at t n))) (filter has_entry paths) ids (first.at s k))
+      (end-at (last s).nodes (path_at t n) id (next.at (before s) (first.kept s k)))));
 }
   where
     n : NodeNumber
@@ -110,9 +110,9 @@ immediates-more t old mid new imms ids i imm id within is first next = record {
   kept = λ s k. subst (IsKept t new) (sym (steps s)) (next.kept (before s) (first.kept s k));
   at = λ s k. subst (λ (v : Written). AreAt v.nodes (map (λ e. node_of_attribute e.attr) (map (entry_of t) (take (i + 1) imms))) (ids ++ id ∷ [])) (sym (steps s))
       (subst (λ ns. AreAt (last s).nodes ns (ids ++ id ∷ [])) (sym named)
-          (AreAt-append (last s).nodes (map (λ e. node_of_attribute e.attr) entries) (node_of_attribute (attribute_at t imm.attribute) ∷ []) ids (id ∷ [])
-              (AreAt-grown (before s).nodes (last s).nodes (fold-front (before s).nodes (needed_by_attribute (attribute_at t imm.attribute))) (map (λ e. node_of_attribute e.attr) entries) ids (first.at s k))
-              (one s (next.at (before s) (first.kept s k)))));
+      (AreAt-append (last s).nodes (map (λ e. node_of_attribute e.attr) entries) (node_of_attribute (attribute_at t imm.attribute) ∷ []) ids (id ∷ [])
+      (AreAt-grown (before s).nodes (last s).nodes (fold-front (before s).nodes (needed_by_attribute (attribute_at t imm.attribute))) (map (λ e. node_of_attribute e.attr) entries) ids (first.at s k))
+      (one s (next.at (before s) (first.kept s k)))));
 }
   where
     entries : List Entry
@@ -146,9 +146,15 @@ kept-line : (t : Tree) (w : NodeWriter) (s : Written) (line text : List ℕ) →
     → IsKept t (record w { stream = record w.stream { lines = record w.stream.lines { text = text } } }) (with_line s line)
 kept-line t w s line text is k = record {
   stream = record {
-    text = is ∙ ap (λ l. l ++ line) k.stream.text; next = k.stream.next; front = k.stream.front; closed = k.stream.closed; described = k.stream.described;
+    text = is ∙ ap (λ l. l ++ line) k.stream.text;
+    next = k.stream.next;
+    front = k.stream.front;
+    closed = k.stream.closed;
+    described = k.stream.described;
   };
-  nodes = k.nodes; all = k.all; attributes = k.attributes;
+  nodes = k.nodes;
+  all = k.all;
+  attributes = k.attributes;
 }
 
 written_one : (s t : Written) → s.nodes ≡ t.nodes → s.text ≡ t.text → s ≡ t
@@ -191,8 +197,8 @@ record-written t old mid w sort snap refs columns text nodes imms is s k =
     laid =
         written_one (with_line s2 line) (with_text_of sort s r) same
         (ap (λ v. v.text ++ line) (sym (after-append s (needed_by_paths r.paths) (needed_by_entries r.imms)))
-            ∙ append_assoc s.text (lines_of_new s.nodes (needed_by_record r)) line
-            ∙ ap (λ l. s.text ++ (lines_of_new s.nodes (needed_by_record r) ++ l)) lined)
+        ∙ append_assoc s.text (lines_of_new s.nodes (needed_by_record r)) line
+        ∙ ap (λ l. s.text ++ (lines_of_new s.nodes (needed_by_record r) ++ l)) lined)
 
 -- ---- rows, and globals
 
@@ -239,5 +245,5 @@ globals-written t context old new snap in_it some writes rows had =
     let g = meaning t snap in
     let text = (writes (written rows) had.kept).stream.text in
     let none : ((length (ends g) == 0) && (length g.imms == 0)) ≡ false
-            = (λ j. ends-length t context snap.nodes.items in_it.nodes j && (length-map snap.imms.items (entry_of t) j == 0)) ∙ some in
+    = (λ j. ends-length t context snap.nodes.items in_it.nodes j && (length-map snap.imms.items (entry_of t) j == 0)) ∙ some in
     text ∙ ap (λ (b : Bool). rows_text built_in rows ++ (if b then [] else record_text (codes "globals") (nodes rows) g)) (sym none)

@@ -61,7 +61,7 @@ pub rows-more : (t now : Tree) (old new : Writer) (rows : List Rec) (i : ℕ) (r
     → Means now snap r → TakesMore (HasTaken old now) (HasTaken new now) (meaning now snap ∷ []) → HasTaken new now (map without_empty (take (i + 1) rows))
 rows-more t now old new rows i r snap within is had grows means takes =
     let more : map without_empty (take (i + 1) rows) ≡ map without_empty (take i rows) ++ meaning now snap ∷ [] =
-            map_more without_empty rows i r within ∙ (λ j. map without_empty (take i rows) ++ without_empty (sym is j) ∷ []) ∙ (λ j. map without_empty (take i rows) ++ sym means.means j ∷ []) in
+    map_more without_empty rows i r within ∙ (λ j. map without_empty (take i rows) ++ without_empty (sym is j) ∷ []) ∙ (λ j. map without_empty (take i rows) ++ sym means.means j ∷ []) in
     subst (HasTaken new now) (sym more) (takes (map without_empty (take i rows)) (HasTaken-stays old t now (map without_empty (take i rows)) had grows))
 
 pub whole-text : (t now : Tree) (w : Writer) (rs : Records) (rows : List Rec) (snap : Snapshot) (text : List ℕ) → rows ≡ rs.rows → HasTaken w t (map without_empty rows) → Grows t now

@@ -68,6 +68,7 @@ abbrev pub globals_text : List Node → Rec → List ℕ
 globals_text ns g =
     if (length (ends g) == 0) && (length g.imms == 0) then []
     else record_text (codes "globals") ns g
+
 -- The canonical text of records (the `.cali` format, in the order and numbering of this project):
 -- the rows, and then the globals.
 abbrev pub canonical_text : Records → List ℕ

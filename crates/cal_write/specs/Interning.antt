@@ -31,9 +31,9 @@ pub record IsReached (t : Tree) (path : List Entry) (n : NodeNumber) : Type 0 wh
 
 -- nodes are those of these paths, but for paths without entries
 pub record AreNodesOf (t : Tree) (paths : List (List Entry)) (nodes : List NodeNumber) : Type 0
-    where
-  pub within : All (IsBelowRoot t) nodes
-  pub are : map (path_at t) nodes ≡ filter has_entry paths
+  where
+    pub within : All (IsBelowRoot t) nodes
+    pub are : map (path_at t) nodes ≡ filter has_entry paths
 
 -- the node of one more path is put behind, and the nodes of more paths
 abbrev pub AddsPaths : Tree → Tree → List (List Entry) → List NodeNumber → List NodeNumber → Type 0

@@ -26,7 +26,7 @@ pub record NeedsNodes (t : Tree) (old new : NodeWriter) (nodes : List NodeNumber
       → IsKept t new (after s (needed_by_paths (map (path_at t) nodes)))
   pub at : (s : Written) → IsKept t old s
       → AreAt (after s (needed_by_paths (map (path_at t) nodes))).nodes
-        (filter has_entry (map (path_at t) nodes)) ids
+      (filter has_entry (map (path_at t) nodes)) ids
 
 -- what immediates need is there, and their attributes' nodes have these ids
 pub record NeedsImmediates (t : Tree) (old new : NodeWriter) (imms : List Immediate) (ids : List ℕ)
@@ -35,4 +35,4 @@ pub record NeedsImmediates (t : Tree) (old new : NodeWriter) (imms : List Immedi
       → IsKept t new (after s (needed_by_entries (map (entry_of t) imms)))
   pub at : (s : Written) → IsKept t old s
       → AreAt (after s (needed_by_entries (map (entry_of t) imms))).nodes
-        (map (λ e. node_of_attribute e.attr) (map (entry_of t) imms)) ids
+      (map (λ e. node_of_attribute e.attr) (map (entry_of t) imms)) ids

@@ -66,11 +66,7 @@ fn reach(context: &mut Context, path: &[Entry]) -> Result<NodeNumber, OutOfMemor
 }
 
 /// The node of an entry below a node.
-fn step(
-    context: &mut Context,
-    parent: NodeNumber,
-    entry: &Entry,
-) -> Result<NodeNumber, OutOfMemory>
+fn step(context: &mut Context, parent: NodeNumber, entry: &Entry) -> Result<NodeNumber, OutOfMemory>
     requires { parent.0 < length context.old.paths }
     ensures step { IfOk result (IsStep context.old context.new parent entry.now) }
     ensures grows { OnOk result (Grows context.old context.new) }

@@ -13,7 +13,7 @@ pub loop-imm-preserved : goal.loop-imm-preserved
 loop-imm-preserved c =
     subst (λ (l : List ℕ). NeedsImmediates c.args.context.now c.args.writer.now c.need_attribute.new.self (take (c.loop-imm.imm-index + 1) c.args.imms.now) l) (sym c.in_ok-push.ensures.items)
     (immediates-more c.args.context.now c.args.writer.now c.loop-imm.writer c.need_attribute.new.self c.args.imms.now c.loop-imm.ids.items c.loop-imm.imm-index c.imm-item.result c.in_ok-id.id
-        c.loop-imm-test.true c.imm-item.is c.loop-imm.invariant c.in_ok-id.ensures.needs)
+    c.loop-imm-test.true c.imm-item.is c.loop-imm.invariant c.in_ok-id.ensures.needs)
 
 pub returns : goal.returns
 returns c =

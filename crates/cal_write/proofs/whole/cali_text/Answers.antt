@@ -20,6 +20,6 @@ finish-requires c = c.in_ok-intern_record-2.ensures.means.within
 pub returns : goal.returns
 returns c =
     let had = subst (λ (l : List Rec). HasTaken c.loop-rec.writer c.loop-rec.context (map without_empty l))
-            (take_all c.loop-rec.rec-index c.as_slice-rec-items.result.now c.loop-rec-test.false) c.loop-rec.invariant in
+    (take_all c.loop-rec.rec-index c.as_slice-rec-items.result.now c.loop-rec-test.false) c.loop-rec.invariant in
     whole-text c.loop-rec.context c.intern_record-2.new.context c.loop-rec.writer c.args.records.now c.as_slice-rec-items.result.now c.intern_record-2.new.snapshot c.in_ok-text.text
     c.as_slice-rec-items.ensures had c.in_ok-intern_record-2.ensures.grows c.in_ok-intern_record-2.ensures.means c.in_ok-text.ensures
