@@ -22,7 +22,7 @@ pub after-append : (s : Written) (xs ys : List Node) → after s (xs ++ ys) ≡ 
 after-append s xs ys =
     written_one (after s (xs ++ ys)) (after (after s xs) ys) (fold-append with_node s.nodes xs ys)
     (ap (λ l. s.text ++ l) (lines_of_new-append s.nodes xs ys)
-        ∙ sym (append_assoc s.text (lines_of_new s.nodes xs) (lines_of_new (fold with_node s.nodes xs) ys)))
+    ∙ sym (append_assoc s.text (lines_of_new s.nodes xs) (lines_of_new (fold with_node s.nodes xs) ys)))
 
 -- what is there already leaves a stream
 pub after-known : (s : Written) (needed : List Node) → HasAll s.nodes needed → after s needed ≡ s

@@ -72,8 +72,8 @@ pub built_in-closed : IsClosed built_in
 unfolding built_in
 built_in-closed =
     of-each (λ n. HasAll built_in (needed_below [] n)) (each (λ i. HasAll built_in (needed_below [] (get_or built_in i [])))
-        (refl, (refl, tt)) (refl, (refl, tt)) (refl, (refl, tt)) (refl, (refl, tt)) (refl, (refl, tt)) (refl, (refl, tt)) (refl, (refl, tt)) (refl, (refl, tt))
-        (refl, (refl, (refl, (refl, tt)))) (refl, (refl, (refl, (refl, tt)))) (refl, (refl, (refl, (refl, tt)))) (refl, (refl, tt)))
+    (refl, (refl, tt)) (refl, (refl, tt)) (refl, (refl, tt)) (refl, (refl, tt)) (refl, (refl, tt)) (refl, (refl, tt)) (refl, (refl, tt)) (refl, (refl, tt))
+    (refl, (refl, (refl, (refl, tt)))) (refl, (refl, (refl, (refl, tt)))) (refl, (refl, (refl, (refl, tt)))) (refl, (refl, tt)))
 
 -- a node of the built-in ones is of a built-in attribute, and has its key
 Named : Node → Type 0
@@ -83,11 +83,12 @@ Named n = (up : Node) (e : Entry) → n ≡ up ++ e ∷ []
 named : (up : Node) (e : Entry) → IsOfBuiltIn built_in e → Contains built_in_keys (record { parent = parent_id built_in up; entry = e }) → Named (up ++ e ∷ [])
 unfolding Named
 named up e small has vp f same =
-    let one = same_from_push up vp e f same in
-    (subst (IsOfBuiltIn built_in) one.1 small,
-        let same_key : (record { parent = parent_id built_in up; entry = e }) ≡ (record { parent = parent_id built_in vp; entry = f })
-            = λ j. record { parent = parent_id built_in (one.0 j); entry = one.1 j } in
-        subst (Contains built_in_keys) same_key has)
+    let one = same_from_push up vp e f same in (
+      subst (IsOfBuiltIn built_in) one.1 small,
+      let same_key : (record { parent = parent_id built_in up; entry = e }) ≡ (record { parent = parent_id built_in vp; entry = f })
+          = λ j. record { parent = parent_id built_in (one.0 j); entry = one.1 j } in
+          subst (Contains built_in_keys) same_key has,
+    )
 
 kind-named : (k : kinds.Kind) (i : ℕ) → i < 12 → get_or built_in_keys i (key_of_kind k) ≡ key_of_kind k → Named (node_of_kind k)
 kind-named k i h is =
@@ -101,17 +102,17 @@ name-named : (b : BuiltIn) (i : ℕ) → i < 12 → get_or built_in_keys i (key_
 name-named b i h is laid at =
     let e : Entry = record { attr = name_attribute; value = value.Text (built_in_attribute b).name } in
     rw laid (named (node_of_kind (built_in_attribute b).kind) e (subst (λ n. n ≤ 10) ((knows-built_in OfNames).at.is) (lit≤ tt))
-        (subst (λ o. Contains built_in_keys (record { parent = o; entry = e })) (sym at) (subst (Contains built_in_keys) is (Contains-get_or built_in_keys i (key_of_built_in b) h))))
+    (subst (λ o. Contains built_in_keys (record { parent = o; entry = e })) (sym at) (subst (Contains built_in_keys) is (Contains-get_or built_in_keys i (key_of_built_in b) h))))
 
 pub built_in-named : (up : Node) (e : Entry) → Has built_in (up ++ e ∷ [])
     → (IsOfBuiltIn built_in e) × Contains built_in_keys (record { parent = parent_id built_in up; entry = e })
 unfolding built_in Named
 built_in-named up e h =
     of-each Named (each (λ i. Named (get_or built_in i []))
-        (kind-named kind.Usr 0 (lit< tt) refl) (kind-named kind.Int 1 (lit< tt) refl) (kind-named kind.Uint 2 (lit< tt) refl) (kind-named kind.Str 3 (lit< tt) refl)
-        (kind-named kind.Addr 4 (lit< tt) refl) (kind-named kind.Double 5 (lit< tt) refl) (kind-named kind.Bool 6 (lit< tt) refl) (kind-named kind.TypeName 7 (lit< tt) refl)
-        (name-named OfNames 8 (lit< tt) refl refl refl) (name-named OfKinds 9 (lit< tt) refl refl refl) (name-named OfProps 10 (lit< tt) refl refl refl)
-        (kind-named kind.Ptr 11 (lit< tt) refl)) (up ++ e ∷ []) h up e refl
+    (kind-named kind.Usr 0 (lit< tt) refl) (kind-named kind.Int 1 (lit< tt) refl) (kind-named kind.Uint 2 (lit< tt) refl) (kind-named kind.Str 3 (lit< tt) refl)
+    (kind-named kind.Addr 4 (lit< tt) refl) (kind-named kind.Double 5 (lit< tt) refl) (kind-named kind.Bool 6 (lit< tt) refl) (kind-named kind.TypeName 7 (lit< tt) refl)
+    (name-named OfNames 8 (lit< tt) refl refl refl) (name-named OfKinds 9 (lit< tt) refl refl refl) (name-named OfProps 10 (lit< tt) refl refl refl)
+    (kind-named kind.Ptr 11 (lit< tt) refl)) (up ++ e ∷ []) h up e refl
 
 kind-key : (k : kinds.Kind) → IsNodeOf built_in (key_of_kind k) (kind_node k)
 kind-key k = record { up = []; parent = record { there = tt; is = refl }; at = kind-at k }

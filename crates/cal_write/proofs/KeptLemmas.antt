@@ -7,12 +7,12 @@ use Rattle.cal_value.specs.declared.attribute.Attribute.{Attribute}
 use Rattle.cal_value.specs.declared.attribute.Entry.{Entry}
 use Rattle.cal_value.specs.declared.variant.Variant.TheVariants as value
 use Rattle.cal_context.specs.Lists.{IsFront}
-use Rattle.cal_context.specs.Tree.{Tree, IsContext, Grows, attribute_at, value_at, path_at}
+use Rattle.cal_context.specs.Tree.{Tree, IsContext, attribute_at, value_at, path_at}
 use Rattle.cal_context.specs.Children.{IsLinked}
 use Rattle.cal_context.specs.declared.numbers.AttributeNumber.{AttributeNumber}
 use Rattle.cal_context.specs.declared.numbers.Link.{Link}
 use Rattle.cal_context.specs.declared.numbers.NodeNumber.{NodeNumber}
-use Rattle.cal_context.proofs.CallerLemmas.{one_node, path_at-Grows, attribute_at-Grows, within_paths, within_attributes}
+use Rattle.cal_context.proofs.CallerLemmas.{one_node}
 use Rattle.cal_write.specs.BuiltIn.{built_in_attribute, built_in_id}
 use Rattle.cal_write.specs.Nodes.{Node, same_node, with_node, built_in, name_attribute, prop_attribute, node_of_kind, node_of_props, node_of_attribute, needed_by_props, needed_by_attribute, needed_below}
 use Rattle.cal_write.specs.CanonicalText.{id_in}
@@ -280,16 +280,3 @@ node-needed t old mid new l n parent id linked first adds = record {
         ap (λ p. after s (needed_below [] p)) linked.child.path ∙ ap (after s) (needed_below-push [] (path_at t l.parent) (entry))
         ∙ after-append s (needed_below [] (path_at t l.parent)) (needed_by_attribute (attribute_at t l.attribute) ++ (path_at t l.parent ++ entry ∷ []) ∷ [])
         ∙ ap (λ p. after (after s (needed_below [] (path_at t l.parent))) (needed_by_attribute (attribute_at t l.attribute) ++ p ∷ [])) (sym linked.child.path)
-
--- ---- while the context grows
-
-pub kept-Grows : (old new : Tree) (w : NodeWriter) (s : Written) → Grows old new → IsKept old w s → IsKept new w s
-kept-Grows old new w s grows k = record {
-  stream = k.stream;
-  nodes = λ n id h. let note = k.nodes n id h in
-      record { within = within_paths grows n.0 note.within; at = subst (λ p. IsParent s.nodes p (Some id)) (sym (path_at-Grows grows n note.within)) note.at };
-  all = λ up e h large. let note = k.all up e h large in
-      record { number = note.number; within = within_paths grows note.number.0 note.within; path = path_at-Grows grows note.number note.within ∙ note.path; noted = note.noted };
-  attributes = λ a id h. let known = k.attributes a id h in
-      record { within = within_attributes grows a.0 known.within; knows = subst (λ b. KnowsAttribute s.nodes b id) (sym (attribute_at-Grows grows a known.within)) known.knows };
-}

@@ -6,3 +6,6 @@ mod StreamLemmas
 mod BuiltInLemmas
 mod DescribeLemmas
 mod KeptLemmas
+mod RecordLemmas
+mod InterningLemmas
+mod WholeLemmas

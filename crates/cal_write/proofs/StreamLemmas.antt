@@ -35,7 +35,7 @@ pub needed_below-push : (v up : Node) (e : Entry)
 needed_below-push v [] e = ap (λ n. needed_by_attribute e.attr ++ (n ++ e ∷ []) ∷ []) (sym (append-nil v))
 needed_below-push v (d ∷ up) e =
     ap (λ l. needed_by_attribute d.attr ++ (v ++ d ∷ []) ∷ l) (needed_below-push (v ++ d ∷ []) up e
-        ∙ ap (λ n. needed_below (v ++ d ∷ []) up ++ (needed_by_attribute e.attr ++ (n ++ e ∷ []) ∷ [])) (append_assoc v (d ∷ []) up))
+    ∙ ap (λ n. needed_below (v ++ d ∷ []) up ++ (needed_by_attribute e.attr ++ (n ++ e ∷ []) ∷ [])) (append_assoc v (d ∷ []) up))
     ∙ sym (append_assoc (needed_by_attribute d.attr) ((v ++ d ∷ []) ∷ needed_below (v ++ d ∷ []) up) (needed_by_attribute e.attr ++ ((v ++ d ∷ up) ++ e ∷ []) ∷ []))
 
 -- with all that a path needs its node is there
@@ -61,10 +61,11 @@ module _ (ns : List Node) (closed : IsClosed ns) where
   -- what a node of the stream stands on
   closed-parts : (up : Node) (e : Entry) → Has ns (up ++ e ∷ []) → HasAll ns (needed_below [] up) × HasAll ns (needed_by_attribute e.attr)
   closed-parts up e h =
-      let all = subst (HasAll ns) (needed_below-push [] up e) (closed (up ++ e ∷ []) h) in
-      (HasAll-left ns (needed_below [] up) (needed_by_attribute e.attr ++ (up ++ e ∷ []) ∷ []) all,
-          HasAll-left ns (needed_by_attribute e.attr) ((up ++ e ∷ []) ∷ [])
-          (HasAll-right ns (needed_below [] up) (needed_by_attribute e.attr ++ (up ++ e ∷ []) ∷ []) all))
+      let all = subst (HasAll ns) (needed_below-push [] up e) (closed (up ++ e ∷ []) h) in (
+        HasAll-left ns (needed_below [] up) (needed_by_attribute e.attr ++ (up ++ e ∷ []) ∷ []) all,
+        HasAll-left ns (needed_by_attribute e.attr) ((up ++ e ∷ []) ∷ [])
+            (HasAll-right ns (needed_below [] up) (needed_by_attribute e.attr ++ (up ++ e ∷ []) ∷ []) all),
+      )
 
   pub closed-parent : (up : Node) (e : Entry) → Has ns (up ++ e ∷ []) → IsThere ns up
   closed-parent up e h = needed-there ns up (closed-parts up e h).0
@@ -132,10 +133,10 @@ module _ (ns : List Node) (up : Node) (e : Entry) (p : Option ℕ) (a : ℕ) (cl
       by (inr same) =
           subst (λ m. HasAll (ns ++ (up ++ e ∷ []) ∷ []) (needed_below [] m)) same
           (rw (needed_below-push [] up e)
-              (HasAll-append (ns ++ (up ++ e ∷ []) ∷ []) (needed_below [] up) (needed_by_attribute e.attr ++ (up ++ e ∷ []) ∷ [])
-                  (grown (needed_below [] up) (closed-there ns closed up parent.there))
-                  (HasAll-append (ns ++ (up ++ e ∷ []) ∷ []) (needed_by_attribute e.attr) ((up ++ e ∷ []) ∷ [])
-                      (grown (needed_by_attribute e.attr) knows.needed) (Has-last ns (up ++ e ∷ []), tt))))
+          (HasAll-append (ns ++ (up ++ e ∷ []) ∷ []) (needed_below [] up) (needed_by_attribute e.attr ++ (up ++ e ∷ []) ∷ [])
+          (grown (needed_below [] up) (closed-there ns closed up parent.there))
+          (HasAll-append (ns ++ (up ++ e ∷ []) ∷ []) (needed_by_attribute e.attr) ((up ++ e ∷ []) ∷ [])
+          (grown (needed_by_attribute e.attr) knows.needed) (Has-last ns (up ++ e ∷ []), tt))))
 
   module _ (keys : List DescribedNode) (ids : List ℕ) (described : IsDescribed keys ids ns) where
     -- nodes that were there keep their keys
@@ -210,7 +211,10 @@ known-step old keys s up e p n id is parent interns within same =
     let at = key-of s.nodes up e p (get_or old.ids.items n 0) parent of in
     rw (after-known s ((up ++ e ∷ []) ∷ []) (at.has, tt), same) (record {
       stream = record {
-        text = is.text; next = is.next; front = is.front; closed = is.closed;
+        text = is.text;
+        next = is.next;
+        front = is.front;
+        closed = is.closed;
         described = subst (λ l. IsDescribed l old.ids.items s.nodes) (sym kept.0) is.described;
       };
       at = at;

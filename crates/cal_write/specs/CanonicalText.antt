@@ -1,4 +1,4 @@
-use Rattle.std.specs.Prelude.{ℕ, Bool, ◌==◌, ◌-◌, ◌&&◌, not, List, [], ◌∷◌, ◌++◌, Option, Some, None, codes, map, filter, fold, take, length, slice_get, if◌then◌else◌}
+use Rattle.std.specs.Prelude.{ℕ, Bool, ◌==◌, ◌-◌, ◌&&◌, true, false, List, [], ◌∷◌, ◌++◌, Option, Some, None, codes, map, filter, fold, take, length, slice_get, if◌then◌else◌}
 use Rattle.std.specs.List.{list_any, position_or_len}
 use Rattle.cal_value.specs.declared.attribute.Entry.{Entry}
 use Rattle.cal_value.specs.declared.record.Rec.{Rec}
@@ -38,9 +38,14 @@ lines_of_new ns (n ∷ needed) =
     (if list_any (same_node n) ns then [] else line_of_node (ns ++ n ∷ []) n)
     ++ lines_of_new (with_node ns n) needed
 
+-- whether a path has an entry
+abbrev pub has_entry : Node → Bool
+has_entry [] = false
+has_entry (e ∷ path) = true
+
 -- the nodes that a record's paths lead to; a path without entries leads to none
 abbrev pub ends : Rec → List Node
-ends r = filter (λ path. not (length path == 0)) r.paths
+ends r = filter has_entry r.paths
 
 -- the line of a record
 abbrev pub line_of_record : List ℕ → List Node → Rec → List ℕ
@@ -63,6 +68,7 @@ abbrev pub globals_text : List Node → Rec → List ℕ
 globals_text ns g =
     if (length (ends g) == 0) && (length g.imms == 0) then []
     else record_text (codes "globals") ns g
+
 -- The canonical text of records (the `.cali` format, in the order and numbering of this project):
 -- the rows, and then the globals.
 abbrev pub canonical_text : Records → List ℕ

@@ -20,5 +20,5 @@ pub described_tells : (x y : DescribedNode)
     → IsTrue (option_eq nat_eq x.parent y.parent && eq_by_cmp entry_cmp x.entry y.entry) → x ≡ y
 described_tells x y t =
     let both = (Decides-and (option_eq nat_eq x.parent y.parent) (eq_by_cmp entry_cmp x.entry y.entry)
-        (option_decides x.parent y.parent) (exact_decides entry_exact x.entry y.entry)).0 t in
+    (option_decides x.parent y.parent) (exact_decides entry_exact x.entry y.entry)).0 t in
     λ j. record { parent = both.0 j; entry = both.1 j }

@@ -1,7 +1,5 @@
-use Rattle.std.specs.Prelude.{◌≡◌, ◌==◌, ℕ, ◌<◌, not, List, [], ◌∷◌, ◌++◌, Option, Some, IsSome, map, filter, length}
-use Rattle.std.specs.List.{flat_map}
+use Rattle.std.specs.Prelude.{◌≡◌, ℕ, ◌<◌, List, [], ◌∷◌, ◌++◌, Option, Some, IsSome, map, length}
 use Rattle.cal_value.specs.declared.attribute.Entry.{Entry}
-use Rattle.cal_value.specs.declared.record.Rec.{Rec}
 use Rattle.cal_context.specs.Tree.{Tree, attribute_at, path_at}
 use Rattle.cal_context.specs.declared.numbers.AttributeNumber.{AttributeNumber}
 use Rattle.cal_context.specs.declared.numbers.Link.{Link}
@@ -48,14 +46,14 @@ pub record NeedsAttribute (t : Tree) (old new : NodeWriter) (a : AttributeNumber
       → IsKept t new (after s (needed_by_attribute (attribute_at t a)))
   pub at : (s : Written) → IsKept t old s
       → IsAt (after s (needed_by_attribute (attribute_at t a))).nodes
-        (node_of_attribute (attribute_at t a)) id
+      (node_of_attribute (attribute_at t a)) id
 
 -- what a node needs is there, and it has this id; the root needs nothing, and has none
 pub record NeedsNode (t : Tree) (old new : NodeWriter) (n : NodeNumber) (id : Option ℕ) : Type 0
-    where
-  pub kept : (s : Written) → IsKept t old s → IsKept t new (after s (needed_below [] (path_at t n)))
-  pub at : (s : Written) → IsKept t old s
-      → IsParent (after s (needed_below [] (path_at t n))).nodes (path_at t n) id
+  where
+    pub kept : (s : Written) → IsKept t old s → IsKept t new (after s (needed_below [] (path_at t n)))
+    pub at : (s : Written) → IsKept t old s
+        → IsParent (after s (needed_below [] (path_at t n))).nodes (path_at t n) id
 
 -- below a parent with this id a node has this id, once it and its attribute were needed
 pub record AddsNode (t : Tree) (old new : NodeWriter) (l : Link) (n : NodeNumber)
@@ -64,7 +62,7 @@ pub record AddsNode (t : Tree) (old new : NodeWriter) (l : Link) (n : NodeNumber
       → IsKept t new (after s (needed_by_attribute (attribute_at t l.attribute) ++ path_at t n ∷ []))
   pub at : (s : Written) → IsKept t old s → IsParent s.nodes (path_at t l.parent) parent
       → IsAt (after s (needed_by_attribute (attribute_at t l.attribute) ++ path_at t n ∷ [])).nodes
-        (path_at t n) id
+      (path_at t n) id
 
 -- these nodes are there, with these ids
 pub record AreAt (ns nodes : List Node) (ids : List ℕ) : Type 0 where

@@ -11,3 +11,4 @@ pub mod Kept
 pub mod SnapshotNeeds
 pub mod Writer
 pub mod WriterGrows
+pub mod Interning

@@ -1,4 +1,4 @@
-use Rattle.std.specs.Prelude.{ℕ, ◌==◌, not, List, [], map, filter, length}
+use Rattle.std.specs.Prelude.{ℕ, List, [], map, filter}
 use Rattle.std.specs.List.{flat_map}
 use Rattle.cal_context.specs.Snapshots.{entry_of}
 use Rattle.cal_context.specs.Tree.{Tree, path_at}
@@ -6,6 +6,7 @@ use Rattle.cal_context.specs.declared.numbers.NodeNumber.{NodeNumber}
 use Rattle.cal_context.specs.declared.snapshot.Immediate.{Immediate}
 use Rattle.cal_value.specs.declared.attribute.Entry.{Entry}
 use Rattle.cal_write.specs.Nodes.{Node, node_of_attribute, needed_by_attribute, needed_below}
+use Rattle.cal_write.specs.CanonicalText.{has_entry}
 use Rattle.cal_write.specs.Kept.{AreAt, IsKept}
 use Rattle.cal_write.specs.Written.{Written, after}
 use Rattle.cal_write.specs.declared.node_writer.NodeWriter.{NodeWriter}
@@ -25,7 +26,7 @@ pub record NeedsNodes (t : Tree) (old new : NodeWriter) (nodes : List NodeNumber
       → IsKept t new (after s (needed_by_paths (map (path_at t) nodes)))
   pub at : (s : Written) → IsKept t old s
       → AreAt (after s (needed_by_paths (map (path_at t) nodes))).nodes
-        (filter (λ path. not (length path == 0)) (map (path_at t) nodes)) ids
+      (filter has_entry (map (path_at t) nodes)) ids
 
 -- what immediates need is there, and their attributes' nodes have these ids
 pub record NeedsImmediates (t : Tree) (old new : NodeWriter) (imms : List Immediate) (ids : List ℕ)
@@ -34,4 +35,4 @@ pub record NeedsImmediates (t : Tree) (old new : NodeWriter) (imms : List Immedi
       → IsKept t new (after s (needed_by_entries (map (entry_of t) imms)))
   pub at : (s : Written) → IsKept t old s
       → AreAt (after s (needed_by_entries (map (entry_of t) imms))).nodes
-        (map (λ e. node_of_attribute e.attr) (map (entry_of t) imms)) ids
+      (map (λ e. node_of_attribute e.attr) (map (entry_of t) imms)) ids

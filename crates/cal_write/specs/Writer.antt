@@ -11,8 +11,9 @@ use Rattle.cal_write.specs.declared.writer.Writer.{Writer}
 -- a stream with one record more
 abbrev pub with_text_of : List ℕ → Written → Rec → Written
 with_text_of sort s r = record {
-    nodes = with_record s.nodes r;
-    text = s.text ++ record_text sort s.nodes r }
+  nodes = with_record s.nodes r;
+  text = s.text ++ record_text sort s.nodes r;
+}
 
 -- a record was written, whatever was written before
 abbrev pub WritesRecord : Tree → NodeWriter → NodeWriter → List ℕ → Rec → Type 0

@@ -15,8 +15,9 @@ written rows = record { nodes = nodes rows; text = rows_text built_in rows }
 -- a stream once these nodes were needed
 abbrev pub after : Written → List Node → Written
 after s needed = record {
-    nodes = fold with_node s.nodes needed;
-    text = s.text ++ lines_of_new s.nodes needed }
+  nodes = fold with_node s.nodes needed;
+  text = s.text ++ lines_of_new s.nodes needed;
+}
 
 -- a stream with a line more
 abbrev pub with_line : Written → List ℕ → Written

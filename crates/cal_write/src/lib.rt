@@ -7,11 +7,14 @@
 
 mod built_in;
 mod described;
+mod interning;
 mod lines;
 mod memo;
 mod node_writer;
 mod snapshot_needs;
 mod stream;
+mod whole;
 mod writer;
 
+pub use whole::{WriteEnd, cali_text, write_records};
 pub use writer::Writer;

@@ -1,10 +1,10 @@
-ghost use Rattle.std.specs.Prelude.{◌<◌, length, OnOk};
+ghost use Rattle.std.specs.Prelude.{◌≡◌, ◌==◌, ◌<◌, ◌++◌, ◌&&◌, length, option_to_list, OnOk};
 ghost use Rattle.std.specs.List.{All};
 ghost use Rattle.cal_context.specs.Snapshots.{IsBelowRoot};
 ghost use Rattle.cal_write.specs.SnapshotNeeds.{NeedsImmediates, NeedsNodes};
 
 use crate::node_writer::NodeWriter;
-use cal_context::{Context, Immediate, NodeNumber};
+use cal_context::{Context, Immediate, NodeNumber, Snapshot};
 use cal_value::OutOfMemory;
 
 /// Writes what a record's nodes need, and puts their ids into `ids`.
@@ -19,9 +19,8 @@ pub(crate) fn need_nodes(
 {
     ids.clear();
     for node in nodes {
-        if let Some(id) = writer.need_node(context, *node)? {
-            ids.push(id)?;
-        }
+        let id = writer.need_node(context, *node)?;
+        push_some(ids, id)?;
     }
     Ok(())
 }
@@ -38,7 +37,25 @@ pub(crate) fn need_immediates(
 {
     ids.clear();
     for imm in imms {
-        ids.push(writer.need_attribute(context, imm.attribute)?)?;
+        let id = writer.need_attribute(context, imm.attribute)?;
+        ids.push(id)?;
     }
     Ok(())
+}
+
+fn push_some(ids: &mut Vec<u32>, id: Option<u32>) -> Result<(), OutOfMemory>
+    ensures { OnOk result (ids.new.items ≡ ids.old.items ++ option_to_list id) }
+{
+    if let Some(id) = id {
+        ids.push(id)?;
+    }
+    Ok(())
+}
+
+/// Whether a snapshot is of neither a node nor an immediate.
+pub(crate) fn has_no_entry(snapshot: &Snapshot) -> bool
+    ensures { result ≡ ((length snapshot.now.nodes.items == 0)
+        && (length snapshot.now.imms.items == 0)) }
+{
+    snapshot.nodes.is_empty() && snapshot.imms.is_empty()
 }

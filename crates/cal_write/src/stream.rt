@@ -126,11 +126,7 @@ impl Stream {
     }
 
     /// Writes the node of an attribute's properties, and gives its id, or that of the kind's node.
-    fn describe_props(
-        &mut self,
-        alloc: Global,
-        attribute: &Attribute,
-    ) -> Result<u32, OutOfMemory>
+    fn describe_props(&mut self, alloc: Global, attribute: &Attribute) -> Result<u32, OutOfMemory>
         ensures { IfOk result (Describes self.old self.new
             (needed_by_props attribute.now) (node_of_props attribute.now.props attribute.now.kind)) }
     {

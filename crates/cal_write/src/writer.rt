@@ -5,7 +5,7 @@ ghost use Rattle.cal_context.specs.Tree.{Tree};
 
 use crate::lines::write_record;
 use crate::node_writer::NodeWriter;
-use crate::snapshot_needs::{need_immediates, need_nodes};
+use crate::snapshot_needs::{has_no_entry, need_immediates, need_nodes};
 use cal_context::{Context, Snapshot, Taker};
 use cal_value::{OutOfMemory, Text};
 use std::alloc::Global;
@@ -44,13 +44,25 @@ impl Writer {
             (EndsWith (HasTaken self context.now) (meaning context.now globals.now)) }
     {
         let mut writer = self;
-        if writer.refused {
+        writer.write_globals(context, globals)?;
+        Ok(writer.nodes.stream.lines.text)
+    }
+
+    /// Writes globals behind the rows, if they have an entry.
+    fn write_globals(&mut self, context: &Context, globals: &Snapshot) -> Result<(), OutOfMemory>
+        requires { IsIn context.now globals.now }
+        ensures { OnOk result (EndsWith (HasTaken self.old context.now)
+            (meaning context.now globals.now) self.new.nodes.stream.lines.text) }
+    {
+        context.has_each_once();
+        if self.refused {
             return Err(OutOfMemory);
         }
-        if !globals.nodes.is_empty() || !globals.imms.is_empty() {
-            writer.write(context, "globals", globals)?;
+        if has_no_entry(globals) {
+            return Ok(());
         }
-        Ok(writer.nodes.stream.lines.text)
+        self.write(context, "globals", globals)?;
+        Ok(())
     }
 
     /// Writes what a snapshot's record needs, and its line.
@@ -61,8 +73,9 @@ impl Writer {
         snapshot: &Snapshot,
     ) -> Result<(), OutOfMemory>
         requires { IsIn context.now snapshot.now }
-        ensures { OnOk result (WritesRecord context.now self.old.nodes self.new.nodes
+        ensures written { OnOk result (WritesRecord context.now self.old.nodes self.new.nodes
             sort.now (meaning context.now snapshot.now)) }
+        ensures same { self.new.refused ≡ self.old.refused }
     {
         need_nodes(&mut self.nodes, context, &snapshot.nodes, &mut self.refs)?;
         need_immediates(&mut self.nodes, context, &snapshot.imms, &mut self.columns)?;
@@ -72,7 +85,8 @@ impl Writer {
             &self.refs,
             &self.columns,
             &snapshot.imms,
-        )
+        )?;
+        Ok(())
     }
 }
 
@@ -95,9 +109,13 @@ impl Taker for Writer {
         if self.refused {
             return Err(OutOfMemory);
         }
-        let written = self.write(context, "ctx", snapshot);
-        self.refused = written.is_err();
-        written
+        match self.write(context, "ctx", snapshot) {
+            Ok(()) => Ok(()),
+            Err(error) => {
+                self.refused = true;
+                Err(error)
+            }
+        }
     }
 
     ghost stays = { HasTaken-stays };

@@ -8,4 +8,4 @@ use Rattle.cal_write.proofs.lines.write_values.Given as goal
 abbrev pub invariant-loop-imm : goal.invariant-loop-imm
 invariant-loop-imm l =
     l.out ≡ l.fn.out ++ (codes ",data"
-        ++ flat_map (λ w. codes "=" ++ w) (map (λ i. written_value i.value) (take l.imm-index l.imms)))
+    ++ flat_map (λ w. codes "=" ++ w) (map (λ i. written_value i.value) (take l.imm-index l.imms)))

@@ -24,7 +24,7 @@ adds c =
     let node = c.index-as_slice-number.result in
     let key : DescribedNode = record { parent = c.args.parent; entry = c.args.entry } in
     let same : node ≡ key = c.index-as_slice-number.is ∙ ap (λ (l : List DescribedNode). get_or l c.in_ok-number.number node) c.as_slice.ensures.items
-        ∙ get_or_from_slice_get c.intern.new.self c.in_ok-number.number key node c.in_ok-number.ensures.interned.number in
+    ∙ get_or_from_slice_get c.intern.new.self c.in_ok-number.number key node c.in_ok-number.ensures.interned.number in
     subst (λ (k : DescribedNode). AddsLine c.args.self.now.lines c.add.new.self c.args.parent c.args.attribute k.entry.value c.in_ok-id.id) same c.in_ok-id.ensures
 
 pub returns : goal.returns
