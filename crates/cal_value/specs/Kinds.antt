@@ -1,9 +1,10 @@
 use Rattle.std.specs.Prelude.{ℕ, List, [], ◌∷◌, Option, codes, find, nat_eq}
 use Rattle.std.specs.Cmp.Lexicographic.{pointwise}
 use Rattle.cal_value.specs.declared.kind.Kind.{Kind}
-use Rattle.cal_value.specs.declared.kind.Kind.TheVariants.{Usr, Int, Uint, Str, Addr, Double, Bool, TypeName, Ptr}
+use Rattle.cal_value.specs.declared.kind.Kind.TheVariants.{Usr, Int, Uint, Str, Addr, Double, Bool}
+use Rattle.cal_value.specs.declared.kind.Kind.TheVariants.{TypeName, Ptr}
 
--- the node that stands for a kind in every stream (this project's profile)
+-- the node that stands for a kind in every stream (Giltmoth's rule)
 abbrev pub kind_node : Kind → ℕ
 kind_node Usr = 0
 kind_node Int = 1

@@ -13,7 +13,7 @@ whole_number (variant.Int n) = Some n
 whole_number (variant.Uint n) = Some (pos n)
 whole_number _ = None
 
--- The measure of a number: the nano-units of a whole number, and those of a Fixed (Giltmoth's rule).
+-- The measure of a number: its value in nano-units, which a Fixed is by itself (Giltmoth's rule).
 abbrev pub measure : variants.Variant → Option ℤ
 measure (variant.Int n) = Some (nanos n)
 measure (variant.Uint n) = Some (nanos (pos n))

@@ -20,7 +20,7 @@ kind_cmp = on kind_node nat_cmp
 abbrev pub props_cmp : Props → Props → Ordering
 props_cmp = on (λ p. p.0) nat_cmp
 
--- the class of a value: numbers come first, then truths, addresses, kinds, and four classes of texts
+-- the class of a value: numbers come first, then truths, addresses, kinds, and texts of four kinds
 abbrev pub value_class : variants.Variant → ℕ
 value_class (variant.Int n) = 0
 value_class (variant.Uint n) = 0
@@ -59,12 +59,14 @@ value_bytes _ = []
 abbrev pub value_cmp : variants.Variant → variants.Variant → Ordering
 value_cmp =
     then_cmp (on value_class nat_cmp)
-    (then_cmp (on value_number int_cmp) (then_cmp (on value_rank nat_cmp) (on value_bytes text_cmp)))
+    (then_cmp (on value_number int_cmp)
+    (then_cmp (on value_rank nat_cmp) (on value_bytes text_cmp)))
 
 -- attributes are ordered by name, then by kind, then by properties
 abbrev pub attribute_cmp : Attribute → Attribute → Ordering
 attribute_cmp =
-    then_cmp (on (λ a. a.name) text_cmp) (then_cmp (on (λ a. a.kind) kind_cmp) (on (λ a. a.props) props_cmp))
+    then_cmp (on (λ a. a.name) text_cmp)
+    (then_cmp (on (λ a. a.kind) kind_cmp) (on (λ a. a.props) props_cmp))
 
 -- entries are ordered by attribute, then by value
 abbrev pub entry_cmp : Entry → Entry → Ordering

@@ -7,8 +7,11 @@ use Rattle.std.proofs.lemmas.Int.{ints}
 use Rattle.cal_value.specs.Kinds.{kind_node}
 use Rattle.cal_value.specs.Measures.{nanos}
 use Rattle.cal_value.specs.Texts.{text_cmp}
-use Rattle.cal_value.specs.Order.{kind_cmp, props_cmp, value_class, value_number, value_rank, value_bytes, value_cmp, attribute_cmp, entry_cmp, path_cmp, group_cmp}
-use Rattle.cal_value.specs.ExactOrder.{IsExactOrder, exact_first, nat_exact, int_exact, lists_exact, text_exact}
+use Rattle.cal_value.specs.Order.{kind_cmp, props_cmp, value_class, value_number, value_rank}
+use Rattle.cal_value.specs.Order.{value_bytes, value_cmp, attribute_cmp, entry_cmp, path_cmp}
+use Rattle.cal_value.specs.Order.{group_cmp}
+use Rattle.cal_value.specs.ExactOrder.{IsExactOrder, exact_first, nat_exact, int_exact, lists_exact}
+use Rattle.cal_value.specs.ExactOrder.{text_exact}
 use Rattle.cal_value.specs.declared.kind.Kind as kinds
 use Rattle.cal_value.specs.declared.kind.Kind.TheVariants as kind
 use Rattle.cal_value.specs.declared.props.Props.{Props}
@@ -31,9 +34,13 @@ kind_node-one kind.TypeName kind.TypeName e = refl
 kind_node-one kind.Ptr kind.Ptr e = refl
 kind_node-one _ _ e = absurd (omega arith)
 
--- each order of this crate tells any two values apart: kinds, properties, values and what they make up
+-- each order of this crate tells any two values apart: kinds, properties, values and what is made
+-- of them
 pub kind_exact : IsExactOrder kind_cmp
-kind_exact = record { total = on_total kind_node nat_exact.total; exact = λ j k e. kind_node-one j k (nat_exact.exact _ _ e) }
+kind_exact = record {
+  total = on_total kind_node nat_exact.total;
+  exact = λ j k e. kind_node-one j k (nat_exact.exact _ _ e);
+}
 
 pub props_exact : IsExactOrder props_cmp
 props_exact = record {
@@ -58,13 +65,17 @@ nanos_one (negsuc a) (pos b) e = omega (arith, ints)
 nanos_one (negsuc a) (negsuc b) e = omega (arith, ints)
 
 -- a value is known by its class, its number, its rank and its bytes
-known : (x y : variants.Variant) → value_class x ≡ value_class y → value_number x ≡ value_number y → value_rank x ≡ value_rank y → value_bytes x ≡ value_bytes y → x ≡ y
+known :
+    (x y : variants.Variant) → value_class x ≡ value_class y → value_number x ≡ value_number y
+    → value_rank x ≡ value_rank y → value_bytes x ≡ value_bytes y → x ≡ y
 known (variant.Int a) (variant.Int b) c n s t = ap variant.Int (nanos_one a b n)
-known (variant.Uint a) (variant.Uint b) c n s t = ap variant.Uint (pos_one a b (nanos_one (pos a) (pos b) n))
+known (variant.Uint a) (variant.Uint b) c n s t =
+    ap variant.Uint (pos_one a b (nanos_one (pos a) (pos b) n))
 known (variant.Fixed a) (variant.Fixed b) c n s t = ap variant.Fixed n
 known (variant.Bool a) (variant.Bool b) c n s t = ap variant.Bool (truth_number a b n)
 known (variant.Addr a) (variant.Addr b) c n s t = ap variant.Addr (pos_one a b n)
-known (variant.Kind a) (variant.Kind b) c n s t = ap variant.Kind (kind_node-one a b (pos_one (kind_node a) (kind_node b) n))
+known (variant.Kind a) (variant.Kind b) c n s t =
+    ap variant.Kind (kind_node-one a b (pos_one (kind_node a) (kind_node b) n))
 known (variant.Text a) (variant.Text b) c n s t = ap variant.Text t
 known (variant.Real a) (variant.Real b) c n s t = ap variant.Real t
 known (variant.Usr a) (variant.Usr b) c n s t = ap variant.Usr t
@@ -90,14 +101,16 @@ value_tied x y e =
 pub value_exact : IsExactOrder value_cmp
 value_exact = record {
   total = then_total (on_total value_class nat_exact.total)
-      (then_total (on_total value_number int_exact.total) (then_total (on_total value_rank nat_exact.total) (on_total value_bytes text_exact.total)));
+      (then_total (on_total value_number int_exact.total)
+      (then_total (on_total value_rank nat_exact.total) (on_total value_bytes text_exact.total)));
   exact = value_tied;
 }
 
 attribute_tied : (x y : Attribute) → attribute_cmp x y ≡ Equal → x ≡ y
 attribute_tied x y e =
     let props = props_cmp x.props y.props in
-    let name = exact_first text_exact x.name y.name (ordering_then (kind_cmp x.kind y.kind) props) e in
+    let more = ordering_then (kind_cmp x.kind y.kind) props in
+    let name = exact_first text_exact x.name y.name more e in
     let kind = exact_first kind_exact x.kind y.kind props name.1 in
     let same = props_exact.exact x.props y.props kind.1 in
     λ i. record { name = name.0 i; kind = kind.0 i; props = same i }
@@ -105,7 +118,8 @@ attribute_tied x y e =
 pub attribute_exact : IsExactOrder attribute_cmp
 attribute_exact = record {
   total = then_total (on_total (λ (a : Attribute). a.name) text_exact.total)
-      (then_total (on_total (λ (a : Attribute). a.kind) kind_exact.total) (on_total (λ (a : Attribute). a.props) props_exact.total));
+      (then_total (on_total (λ (a : Attribute). a.kind) kind_exact.total)
+      (on_total (λ (a : Attribute). a.props) props_exact.total));
   exact = attribute_tied;
 }
 
@@ -117,7 +131,8 @@ entry_tied x y e =
 
 pub entry_exact : IsExactOrder entry_cmp
 entry_exact = record {
-  total = then_total (on_total (λ (e : Entry). e.attr) attribute_exact.total) (on_total (λ (e : Entry). e.value) value_exact.total);
+  total = then_total (on_total (λ (e : Entry). e.attr) attribute_exact.total)
+      (on_total (λ (e : Entry). e.value) value_exact.total);
   exact = entry_tied;
 }
 
@@ -132,9 +147,19 @@ group_tied x y e =
 
 pub group_exact : IsExactOrder group_cmp
 group_exact = record {
-  total = then_total (on_total (λ (r : Rec). r.paths) (lists_exact path_exact).total) (on_total (λ (r : Rec). r.imms) path_exact.total);
+  total = then_total (on_total (λ (r : Rec). r.paths) (lists_exact path_exact).total)
+      (on_total (λ (r : Rec). r.imms) path_exact.total);
   exact = group_tied;
 }
 
 -- the orders of this crate, for a proof that needs any of them
-pub ruleset exact_orders = (text_exact, kind_exact, props_exact, value_exact, attribute_exact, entry_exact, path_exact, group_exact)
+pub ruleset exact_orders = (
+  text_exact,
+  kind_exact,
+  props_exact,
+  value_exact,
+  attribute_exact,
+  entry_exact,
+  path_exact,
+  group_exact,
+)

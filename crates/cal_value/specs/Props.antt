@@ -2,12 +2,12 @@ use Rattle.std.specs.Prelude.{ℕ, Bool, List, [], ◌∷◌, codes, ◌==◌, �
 use Rattle.std.specs.Int.RustNames.{bit_and}
 use Rattle.cal_value.specs.declared.props.Props.{Props}
 
--- the named bits and groups of bits (Caliper's data model, with this project's numbers)
+-- the named bits and groups of bits (Caliper's data model, with Giltmoth's numbers)
 abbrev pub named_props : List (List ℕ × ℕ)
 named_props =
-    (codes "AS_VALUE", 1) ∷ (codes "NOMERGE", 2) ∷ (codes "SCOPE_PROCESS", 12) ∷ (codes "SCOPE_THREAD", 20)
-    ∷ (codes "SCOPE_TASK", 24) ∷ (codes "SKIP_EVENTS", 64) ∷ (codes "HIDDEN", 128) ∷ (codes "NESTED", 256)
-    ∷ (codes "GLOBAL", 512) ∷ []
+    (codes "AS_VALUE", 1) ∷ (codes "NOMERGE", 2) ∷ (codes "SCOPE_PROCESS", 12)
+    ∷ (codes "SCOPE_THREAD", 20) ∷ (codes "SCOPE_TASK", 24) ∷ (codes "SKIP_EVENTS", 64)
+    ∷ (codes "HIDDEN", 128) ∷ (codes "NESTED", 256) ∷ (codes "GLOBAL", 512) ∷ []
 
 -- values stand in snapshots themselves, and not by a node
 abbrev pub is_as_value : Props → Bool

@@ -1,5 +1,7 @@
 use Rattle.std.specs.Prelude as std
-use Rattle.std.specs.Prelude.{◌≡◌, ℕ, ℤ, Bool, ⊤, ◌<◌, ◌≤◌, unsigned_abs, ◌^◌, List, Option, Some, None, length, drop, codes, nat_eq, nat_le, unwrap_or, ◌||◌, if◌then◌else◌}
+use Rattle.std.specs.Prelude.{◌≡◌, ℕ, ℤ, Bool, ⊤, ◌<◌, ◌≤◌, unsigned_abs, ◌^◌, List, Option, Some}
+use Rattle.std.specs.Prelude.{None, length, drop, codes, nat_eq, nat_le, unwrap_or, ◌||◌}
+use Rattle.std.specs.Prelude.{if◌then◌else◌}
 use Rattle.std.specs.Cmp.Lexicographic.{pointwise}
 use Rattle.std.specs.List.{starts_with}
 use Rattle.std.specs.Option.{option_map}
@@ -27,7 +29,7 @@ hexadecimal_of t = if nat_le (length t) 16 then number_of 16 t else None
 abbrev pub address_of : List ℕ → Option ℕ
 address_of t = hexadecimal_of (if starts_with nat_eq t (codes "0x") then drop 2 t else t)
 
--- a decimal of at most nine digits behind the point is a number, and any other text is kept as it is
+-- a decimal of at most nine digits behind the point is a number; any other text is kept as it is
 abbrev pub double_of : List ℕ → variants.Variant
 double_of t = unwrap_or (option_map variant.Fixed (fixed_of t)) (variant.Real t)
 
@@ -35,7 +37,8 @@ double_of t = unwrap_or (option_map variant.Fixed (fixed_of t)) (variant.Real t)
 abbrev pub truth_of : List ℕ → Option Bool
 truth_of t =
     if pointwise nat_eq t (codes "true") || pointwise nat_eq t (codes "1") then Some std.true
-    else if pointwise nat_eq t (codes "false") || pointwise nat_eq t (codes "0") then Some std.false else None
+    else if pointwise nat_eq t (codes "false") || pointwise nat_eq t (codes "0") then Some std.false
+    else None
 
 -- the value of a kind that a text writes, if it writes one (the `.cali` format)
 abbrev pub value_of : kinds.Kind → List ℕ → Option variants.Variant

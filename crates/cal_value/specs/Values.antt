@@ -25,8 +25,8 @@ kind_of (variant.Ptr t) = kind.Ptr
 abbrev pub address_text : ℕ → List ℕ
 address_text a = codes "0x" ++ digits 16 std.false a
 
--- The text of a value (the `.cali` format; of an address, a kind and a decimal Giltmoth's rule):
--- a number in digits without leading zeros, a decimal without zeros at its end, and a text as it is.
+-- The text of a value (the `.cali` format; of an address, a kind and a decimal Giltmoth's rule): a
+-- number in digits without leading zeros, a decimal without zeros at its end, and a text as it is.
 abbrev pub value_text : variants.Variant → List ℕ
 value_text (variant.Int n) = signed_decimal n
 value_text (variant.Uint n) = decimal n

@@ -17,7 +17,7 @@ pub struct Attribute {
     pub props: Props,
 }
 
-/// An attribute with a value, which is of the attribute's kind.
+/// An attribute with a value, which is of the attribute's kind; `IsEntry` says so.
 #[derive(Debug, Drop, Hash)]
 pub struct Entry {
     pub attr: Attribute,

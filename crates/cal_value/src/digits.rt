@@ -4,7 +4,8 @@ ghost use Rattle.cal_value.specs.Numerals.{at_most, number_of};
 /// The greatest magnitude that a number is read with, 2^86.
 pub(crate) const MOST: u128 = 77371252455336267181195264;
 
-/// The number that digits of a base write, where it is at most `most`. It reads no further than that.
+/// The number that digits of a base write, where it is at most `most`. It reads no further than
+/// that.
 pub(crate) fn read_number(digits: &[u8], base: u32, most: u128) -> Option<u128>
     requires base_low { 2 ≤ base }
     requires base_high { base ≤ 16 }

@@ -1,6 +1,7 @@
 ghost use Rattle.std.specs.Prelude.{◌≡◌, ◌↔◌, IsTrue};
 ghost use Rattle.cal_value.specs.ExactOrder.{exact_tells, lists_tell, text_exact};
-ghost use Rattle.cal_value.specs.OrderLaws.{attribute_exact, entry_exact, group_exact, kind_exact, props_exact, value_exact};
+ghost use Rattle.cal_value.specs.OrderLaws.{attribute_exact, entry_exact, group_exact, kind_exact};
+ghost use Rattle.cal_value.specs.OrderLaws.{props_exact, value_exact};
 
 use crate::{Attribute, Entry, Kind, Props, Rec, Seq, Text, Variant};
 

@@ -1,6 +1,7 @@
 ghost use Rattle.std.specs.Prelude.{◌≡◌, ◌≤◌, ◌^◌, IfSome, length, unsigned_abs};
 ghost use Rattle.std.specs.List.{position, position_or_len};
-ghost use Rattle.cal_value.specs.Decimals.{decimal_nanos, digits_nanos, fixed_of, is_point, parts_nanos, rest_nanos};
+ghost use Rattle.cal_value.specs.Decimals.{decimal_nanos, digits_nanos, fixed_of, is_point};
+ghost use Rattle.cal_value.specs.Decimals.{parts_nanos, rest_nanos};
 ghost use Rattle.cal_value.specs.Numerals.{at_most};
 
 use crate::digits::{MOST, read_number};

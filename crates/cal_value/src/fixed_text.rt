@@ -42,11 +42,11 @@ fn push_rest(rest: u32, out: &mut Text) -> Result<(), OutOfMemory>
     ensures ok { OnOk result (out.new ≡ out.old ++ rest_text rest) }
     ensures err { take (length out.old) out.new ≡ out.old }
 {
-    if rest == 0 {
-        return Ok(());
+    if rest > 0 {
+        out.push_str(".")?;
+        push_digits(rest, out)?;
     }
-    out.push_str(".")?;
-    push_digits(rest, out)
+    Ok(())
 }
 
 fn push_digits(mut rest: u32, out: &mut Text) -> Result<(), OutOfMemory>

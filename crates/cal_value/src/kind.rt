@@ -11,7 +11,8 @@ use crate::{OutOfMemory, TryCopy};
 use std::alloc::Global;
 use std::cmp::Ordering;
 
-/// What the values of an attribute are (Caliper's data model; the numbers of the nodes are this project's).
+/// What the values of an attribute are (Caliper's data model; the numbers of the nodes are
+/// Giltmoth's).
 #[derive(Clone, Copy, Debug, Hash)]
 pub enum Kind {
     Usr,

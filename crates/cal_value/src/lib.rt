@@ -1,9 +1,10 @@
 //! Values, attributes, entries and records: the data that every layer of Giltmoth speaks of.
 //!
-//! A contract sees a `Seq` as a list and a `Text` as the list of its bytes, so a record is plain data: its
-//! paths, and its immediates. The layers above use that a copy is the value itself, that a text has the one
-//! value of a kind that the table gives and a printed value reads back, and that `==`, the order and hashing
-//! agree, with `==` the sameness of values. Nothing is promised of where a list lies in memory.
+//! A contract sees a `Seq` as a list and a `Text` as the list of its bytes, so a record is plain
+//! data: its paths, and its immediates. The layers above use that a copy is the value itself, that a
+//! text has the one value of a kind that the table gives, that a printed value reads back, and that
+//! `==`, the order and hashing agree, with `==` the sameness of values. Nothing is promised of where
+//! a list lies in memory.
 #![tactic(auto)]
 
 mod attribute;

@@ -1,5 +1,7 @@
-ghost use Rattle.std.specs.Prelude.{◌≡◌, ◌↔◌, ◌≤◌, ◌^◌, IfOk, IfSome, IsErrOf, IsSomeAnd, IsTrue, None, Some, unsigned_abs};
-ghost use Rattle.cal_value.specs.Reading.{IsProper, IsSmall, address_of, hexadecimal_of, int_of, is_textual, truth_of, uint_of, value_of};
+ghost use Rattle.std.specs.Prelude.{◌≡◌, ◌↔◌, ◌≤◌, ◌^◌, IfOk, IfSome, IsErrOf, IsSomeAnd, IsTrue};
+ghost use Rattle.std.specs.Prelude.{None, Some, unsigned_abs};
+ghost use Rattle.cal_value.specs.Reading.{IsProper, IsSmall, address_of, hexadecimal_of, int_of};
+ghost use Rattle.cal_value.specs.Reading.{is_textual, truth_of, uint_of, value_of};
 ghost use Rattle.cal_value.specs.Values.{kind_of};
 ghost use Rattle.cal_value.specs.declared.parse.ValueFault.TheVariants as fault;
 
@@ -33,7 +35,8 @@ pub fn parse_value(alloc: Global, kind: Kind, text: &str) -> Result<Variant, Val
     ensures small { IfOk result IsSmall }
     ensures proper { IfOk result IsProper }
     ensures bad { IsErrOf result ValueFault.BadValue ↔ (value_of kind text.now ≡ None) }
-    ensures memory { IsErrOf result ValueFault.OutOfMemory → IsSomeAnd (value_of kind text.now) (λ value. IsTrue (is_textual value)) }
+    ensures memory { IsErrOf result ValueFault.OutOfMemory
+        → IsSomeAnd (value_of kind text.now) (λ value. IsTrue (is_textual value)) }
 {
     let bytes = text.as_bytes();
     let value = match kind {

@@ -3,7 +3,8 @@ ghost use Rattle.std.specs.Cmp.{partial_order_from_total};
 ghost use Rattle.std.specs.Ordering.{as_partial_cmp, eq_by_cmp};
 ghost use Rattle.cal_value.specs.Order.{props_cmp};
 ghost use Rattle.cal_value.specs.OrderLaws.{props_exact};
-ghost use Rattle.cal_value.specs.Props.{has_process_scope, is_as_value, is_global, is_nested, is_reference, named_props, skips_events};
+ghost use Rattle.cal_value.specs.Props.{has_process_scope, is_as_value, is_global, is_nested};
+ghost use Rattle.cal_value.specs.Props.{is_reference, named_props, skips_events};
 ghost use Rattle.cal_value.specs.ExactOrder.{exact_equiv, exact_per};
 
 use bitflags::{Flag, Flags};
@@ -16,7 +17,7 @@ pub struct Props(pub u32);
 // the bits that name a scope
 const SCOPE: u32 = 60;
 
-// the names of Caliper's library, with this project's numbers
+// the names of Caliper's library, with Giltmoth's numbers
 const NAMED: [Flag<Props>; 9] = [
     Flag {
         name: "AS_VALUE",

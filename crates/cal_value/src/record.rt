@@ -17,8 +17,8 @@ pub struct Rec {
     pub imms: Seq<Entry>,
 }
 
-/// The records of a stream: its rows in order, and its globals, which describe the whole run. A stream
-/// without globals has those of the record without paths and immediates.
+/// The records of a stream: its rows in order, and its globals, which describe the whole run. Of a
+/// stream without globals they have no path and no immediate.
 #[derive(Debug, Drop)]
 pub struct Records {
     pub rows: Seq<Rec>,

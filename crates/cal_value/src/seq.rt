@@ -1,6 +1,9 @@
-ghost use Rattle.std.specs.Prelude.{◌≡◌, ◌==◌, ◌<◌, [], ◌∷◌, ◌++◌, length, IfOk, IfSome, IfNone, OnOk, OnErr, slice_get};
+ghost use Rattle.std.specs.Prelude.{◌≡◌, ◌==◌, ◌<◌, [], ◌∷◌, ◌++◌, length, IfOk, IfSome, IfNone};
+ghost use Rattle.std.specs.Prelude.{OnOk, OnErr, slice_get};
 ghost use Rattle.std.specs.Option.{option_copied};
-ghost use Rattle.std.specs.Cmp.Lexicographic.{pointwise, lists_agrees, lists_equiv, lists_per, lists_po, lists_ties, lists_total, slice_cmp, slice_partial_cmp};
+ghost use Rattle.std.specs.Cmp.Lexicographic.{pointwise, lists_agrees, lists_equiv, lists_per};
+ghost use Rattle.std.specs.Cmp.Lexicographic.{lists_po, lists_ties, lists_total, slice_cmp};
+ghost use Rattle.std.specs.Cmp.Lexicographic.{slice_partial_cmp};
 ghost use Rattle.std.specs.Hash as fed;
 ghost use Rattle.std.specs.Hash.{items_Alike};
 

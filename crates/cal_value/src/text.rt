@@ -1,4 +1,5 @@
-ghost use Rattle.std.specs.Prelude.{◌≡◌, ◌==◌, ◌↔◌, [], ◌++◌, length, take, IfOk, IsTrue, IsUtf8, OnOk, OnErr, string_bytes, encode_utf8, refl};
+ghost use Rattle.std.specs.Prelude.{◌≡◌, ◌==◌, ◌↔◌, [], ◌++◌, length, take, IfOk, IsTrue, IsUtf8};
+ghost use Rattle.std.specs.Prelude.{OnOk, OnErr, string_bytes, encode_utf8, refl};
 ghost use Rattle.std.specs.Hash as fed;
 ghost use Rattle.std.specs.Cmp.{partial_order_from_total};
 ghost use Rattle.std.specs.Ordering.{as_partial_cmp, eq_by_cmp};

@@ -2,7 +2,8 @@ ghost use Rattle.std.specs.Prelude.{◌≡◌, ◌↔◌, IsTrue, refl};
 ghost use Rattle.std.specs.Cmp.{partial_order_from_total};
 ghost use Rattle.std.specs.Ordering.{as_partial_cmp, eq_by_cmp, int_cmp};
 ghost use Rattle.cal_value.specs.Measures.{nanos as of_whole, value_whole};
-ghost use Rattle.cal_value.specs.Order.{value_bytes, value_class, value_cmp, value_number, value_rank};
+ghost use Rattle.cal_value.specs.Order.{value_bytes, value_class, value_cmp, value_number};
+ghost use Rattle.cal_value.specs.Order.{value_rank};
 ghost use Rattle.cal_value.specs.OrderLaws.{value_exact};
 ghost use Rattle.cal_value.specs.ExactOrder.{exact_equiv, exact_per};
 

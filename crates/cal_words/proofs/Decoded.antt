@@ -1,5 +1,8 @@
-use Rattle.std.proofs.Common.{◌≡◌, ℕ, zero, suc, ◌+◌, ◌*◌, ◌/◌, ◌%◌, ◌^◌, ◌<◌, true, false, cond, eqb, List, [], ◌∷◌, length, get_or, take, drop, map, sym, refl, ap, ◌∙◌, lit<, arith, get_or-drop, get_or-take}
-use Rattle.std.specs.Int.{cast_signed, cast_unsigned, w128}
+use Rattle.std.proofs.Common.{◌≡◌, ℕ, ℤ, zero, suc, ◌+◌, ◌*◌, ◌/◌, ◌%◌, ◌^◌, ◌<◌, true, false, cond}
+use Rattle.std.proofs.Common.{eqb, List, [], ◌∷◌, length, get_or, map, sym, refl, ap, ◌∙◌, lit<}
+use Rattle.std.proofs.Common.{arith}
+use Rattle.std.specs.Int.{cast_signed, cast_unsigned, to_le_bytes, w64, w128}
+use Rattle.std.specs.Prelude.{FitsSigned}
 use Rattle.std.specs.List.{range_with_len}
 use Rattle.std.proofs.lemmas.Int.{to_z-of_z}
 use Rattle.std.proofs.lemmas.List.FromFn.{fill_by_all}
@@ -10,19 +13,15 @@ use Rattle.cal_value.specs.declared.kind.Kind.TheVariants as kind
 use Rattle.cal_value.specs.declared.variant.Variant as variants
 use Rattle.cal_value.specs.declared.variant.Variant.TheVariants as variant
 use Rattle.cal_words.specs.Records.{IsValue}
-use Rattle.cal_words.specs.Words.{byte_number, text_words, value_words, text_length}
-use Rattle.cal_words.proofs.Bytes.{AreBytes, AreBytes-take, AreBytes-drop, get_or-text_words}
-
--- byte j of a word
-abbrev byte_of : ℕ → ℕ → ℕ
-byte_of word zero = word % 256
-byte_of word (suc j) = byte_of (word / 256) j
+use Rattle.cal_words.specs.Words.{number_words, text_words, value_words, text_length}
+use Rattle.cal_words.proofs.Bytes.{AreBytes, get_or-text_word, get_or-text_words}
 
 -- the kind of a node
 abbrev kind_from : ℕ → kinds.Kind
 kind_from n =
-    cond (eqb n 1) kind.Int (cond (eqb n 2) kind.Uint (cond (eqb n 3) kind.Str (cond (eqb n 4) kind.Addr
-    (cond (eqb n 5) kind.Double (cond (eqb n 6) kind.Bool (cond (eqb n 7) kind.TypeName (cond (eqb n 11) kind.Ptr kind.Usr)))))))
+    cond (eqb n 1) kind.Int (cond (eqb n 2) kind.Uint (cond (eqb n 3) kind.Str
+    (cond (eqb n 4) kind.Addr (cond (eqb n 5) kind.Double (cond (eqb n 6) kind.Bool
+    (cond (eqb n 7) kind.TypeName (cond (eqb n 11) kind.Ptr kind.Usr)))))))
 
 kind_from-kind_node : (k : kinds.Kind) → kind_from (kind_node k) ≡ k
 kind_from-kind_node kind.Usr = refl
@@ -35,56 +34,72 @@ kind_from-kind_node kind.Bool = refl
 kind_from-kind_node kind.TypeName = refl
 kind_from-kind_node kind.Ptr = refl
 
--- the text of so many bytes that these words hold
+-- the text of so many bytes that these words hold: byte k is byte k % 8 of word k / 8
+abbrev byte_of : List ℕ → ℕ → ℕ
+byte_of words k = get_or (to_le_bytes w64 (get_or words (k / 8) 0)) (k % 8) 0
+
 abbrev pub text_of : ℕ → List ℕ → List ℕ
-text_of count words = map (λ k. byte_of (get_or words (k / 8) 0) (k % 8)) (range_with_len 0 count)
+text_of count words = map (byte_of words) (range_with_len 0 count)
 
-byte_of-byte_number : (bs : List ℕ) (j : ℕ) → AreBytes bs → byte_of (byte_number bs) j ≡ get_or bs j 0
-byte_of-byte_number [] zero each = refl
-byte_of-byte_number [] (suc j) each = byte_of-byte_number [] j each
-byte_of-byte_number (b ∷ bs) zero each = let first : b < 256 = each 0 in omega arith
-byte_of-byte_number (b ∷ bs) (suc j) each =
-    let first : b < 256 = each 0 in
-    let rest : (b + 256 * byte_number bs) / 256 ≡ byte_number bs = omega arith in
-    ap (λ (w : ℕ). byte_of w j) rest ∙ byte_of-byte_number bs j (λ i. each (suc i))
-
--- byte k of a text is byte k % 8 of word k / 8
-byte_of-text_words : (text : List ℕ) (k : ℕ) → AreBytes text → k < length text → byte_of (get_or (text_words text) (k / 8) 0) (k % 8) ≡ get_or text k 0
+byte_of-text_words :
+    (text : List ℕ) (k : ℕ) → AreBytes text → k < length text
+    → byte_of (text_words text) k ≡ get_or text k 0
 byte_of-text_words text k each h =
-    let part : List ℕ = take 8 (drop (8 * (k / 8)) text) in
-    let is_bytes : AreBytes part = AreBytes-take (drop (8 * (k / 8)) text) 8 (AreBytes-drop text (8 * (k / 8)) each) in
-    let inside : k / 8 < (length text + 7) / 8 = omega arith in
-    let short : k % 8 < 8 = omega arith in
     let place : 8 * (k / 8) + k % 8 ≡ k = omega arith in
-    ap (λ (w : ℕ). byte_of w (k % 8)) (get_or-text_words text (k / 8) inside) ∙ byte_of-byte_number part (k % 8) is_bytes ∙ rw (get_or-take, get_or-drop) (ap (λ (j : ℕ). get_or text j 0) place)
+    (λ i. get_or (to_le_bytes w64 (get_or-text_words text (k / 8) (omega arith) i)) (k % 8) 0)
+    ∙ get_or-text_word text (k / 8) (k % 8) each (omega arith) ∙ (λ i. get_or text (place i) 0)
 
-pub text_of-text_words : (text : List ℕ) → AreBytes text → text_of (length text) (text_words text) ≡ text
-text_of-text_words text each = sym (fill_by_all (λ k. byte_of (get_or (text_words text) (k / 8) 0) (k % 8)) text (length text) 0 refl (λ k h. sym (byte_of-text_words text k each h)))
+pub text_of-text_words :
+    (text : List ℕ) → AreBytes text → text_of (length text) (text_words text) ≡ text
+text_of-text_words text each =
+    sym (fill_by_all (byte_of (text_words text)) text (length text) 0 refl
+    (λ k h. sym (byte_of-text_words text k each h)))
+
+-- the number of these halves
+abbrev number_of : List ℕ → ℤ
+number_of words = cast_signed w128 (get_or words 1 0 * 2 ^ 64 + get_or words 0 0)
+
+number_of-number_words : (n : ℤ) → FitsSigned w128 n → number_of (number_words n) ≡ n
+number_of-number_words n fits =
+    let bits : ℕ = cast_unsigned w128 n in
+    let whole : bits / 2 ^ 64 * 2 ^ 64 + bits % 2 ^ 64 ≡ bits = omega arith in
+    ap (λ (b : ℕ). cast_signed w128 b) whole ∙ to_z-of_z w128 n fits
+
+-- of the kind `double` a text has a length or no word, and a decimal no length and two words
+abbrev double_of : ℕ → List ℕ → variants.Variant
+double_of zero [] = variant.Real []
+double_of zero (word ∷ words) = variant.Fixed (number_of (word ∷ words))
+double_of (suc count) words = variant.Real (text_of (suc count) words)
+
+double_of-text : (t : List ℕ) → AreBytes t → double_of (length t) (text_words t) ≡ variant.Real t
+double_of-text [] each = refl
+double_of-text (c ∷ cs) each = ap variant.Real (text_of-text_words (c ∷ cs) each)
 
 -- the value of this kind, text length and words
 abbrev value_of : ℕ → ℕ → List ℕ → variants.Variant
 value_of kind count words =
-    cond (eqb kind 1) (variant.Int (cast_signed w128 (get_or words 1 0 * 2 ^ 64 + get_or words 0 0)))
+    cond (eqb kind 1) (variant.Int (number_of words))
     (cond (eqb kind 2) (variant.Uint (get_or words 0 0))
     (cond (eqb kind 3) (variant.Text (text_of count words))
     (cond (eqb kind 4) (variant.Addr (get_or words 0 0))
-    (cond (eqb kind 5) (variant.Real (text_of count words))
+    (cond (eqb kind 5) (double_of count words)
     (cond (eqb kind 6) (variant.Bool (eqb (get_or words 0 0) 1))
     (cond (eqb kind 7) (variant.Kind (kind_from (get_or words 0 0)))
-    (cond (eqb kind 11) (variant.Ptr (text_of count words)) (variant.Usr (text_of count words)))))))))
+    (cond (eqb kind 11) (variant.Ptr (text_of count words))
+    (variant.Usr (text_of count words)))))))))
 
-value_of-value_words : (v : variants.Variant) → IsValue v → value_of (kind_node (kind_of v)) (text_length v) (value_words v) ≡ v
-value_of-value_words (variant.Int n) is =
-    let bits : ℕ = cast_unsigned w128 n in
-    let whole : bits / 2 ^ 64 * 2 ^ 64 + bits % 2 ^ 64 ≡ bits = omega arith in
-    ap variant.Int (ap (λ (b : ℕ). cast_signed w128 b) whole ∙ to_z-of_z w128 n is)
+value_of-value_words :
+    (v : variants.Variant) → IsValue v
+    → value_of (kind_node (kind_of v)) (text_length v) (value_words v) ≡ v
+value_of-value_words (variant.Int n) is = ap variant.Int (number_of-number_words n is)
+value_of-value_words (variant.Fixed n) is = ap variant.Fixed (number_of-number_words n is)
 value_of-value_words (variant.Uint n) is = refl
 value_of-value_words (variant.Text t) is = ap variant.Text (text_of-text_words t is.each_byte)
 value_of-value_words (variant.Bool true) is = refl
 value_of-value_words (variant.Bool false) is = refl
 value_of-value_words (variant.Addr a) is = refl
 value_of-value_words (variant.Kind k) is = ap variant.Kind (kind_from-kind_node k)
-value_of-value_words (variant.Real t) is = ap variant.Real (text_of-text_words t is.each_byte)
+value_of-value_words (variant.Real t) is = double_of-text t is.each_byte
 value_of-value_words (variant.Usr t) is = ap variant.Usr (text_of-text_words t is.each_byte)
 value_of-value_words (variant.Ptr t) is = ap variant.Ptr (text_of-text_words t is.each_byte)
 
@@ -94,16 +109,22 @@ text_length_below (variant.Real t) is = is.short
 text_length_below (variant.Usr t) is = is.short
 text_length_below (variant.Ptr t) is = is.short
 text_length_below (variant.Int n) is = lit< tt
+text_length_below (variant.Fixed n) is = lit< tt
 text_length_below (variant.Uint n) is = lit< tt
 text_length_below (variant.Bool b) is = lit< tt
 text_length_below (variant.Addr a) is = lit< tt
 text_length_below (variant.Kind k) is = lit< tt
 
 -- valid values with equal kinds, lengths and words are equal
-pub equal_values : (v w : variants.Variant) → IsValue v → IsValue w → kind_node (kind_of v) * 2 ^ 32 + text_length v ≡ kind_node (kind_of w) * 2 ^ 32 + text_length w → value_words v ≡ value_words w → v ≡ w
+pub equal_values :
+    (v w : variants.Variant) → IsValue v → IsValue w
+    → kind_node (kind_of v) * 2 ^ 32 + text_length v
+    ≡ kind_node (kind_of w) * 2 ^ 32 + text_length w
+    → value_words v ≡ value_words w → v ≡ w
 equal_values v w is_v is_w shape words =
     let a = text_length_below v is_v in
     let b = text_length_below w is_w in
     let kinds : kind_node (kind_of v) ≡ kind_node (kind_of w) = omega arith in
     let lengths : text_length v ≡ text_length w = omega arith in
-    sym (value_of-value_words v is_v) ∙ (λ i. value_of (kinds i) (lengths i) (words i)) ∙ value_of-value_words w is_w
+    sym (value_of-value_words v is_v) ∙ (λ i. value_of (kinds i) (lengths i) (words i))
+    ∙ value_of-value_words w is_w

@@ -1,7 +1,7 @@
 use Rattle.std.specs.Prelude.{ℕ, ◌*◌, ◌%◌, ◌^◌, List, bit_xor}
 use Rattle.std.specs.List.{fold}
 
--- one word more goes into a hash (ours, after the hash of Fowler, Noll and Vo)
+-- one word more goes into a hash (Giltmoth's rule, after the hash of Fowler, Noll and Vo)
 abbrev pub mixed : ℕ → ℕ → ℕ
 mixed hash word = (bit_xor hash word * 1099511628211) % 2 ^ 64
 
@@ -9,6 +9,6 @@ mixed hash word = (bit_xor hash word * 1099511628211) % 2 ^ 64
 abbrev pub words_hash : List ℕ → ℕ
 words_hash words = fold mixed 14695981039346656037 words
 
--- the slot at which the search for a node's record begins (ours)
+-- the slot at which the search for a node's record begins (Giltmoth's rule)
 abbrev pub node_home : ℕ → List ℕ → ℕ
 node_home homes words = words_hash words % homes

@@ -17,6 +17,7 @@ pub record IsText (bytes : List ℕ) : Type 0 where
 -- a value whose numbers and text are in the ranges of their types
 abbrev pub IsValue : variants.Variant → Type 0
 IsValue (variant.Int n) = FitsSigned w128 n
+IsValue (variant.Fixed n) = FitsSigned w128 n
 IsValue (variant.Uint n) = n < 2 ^ 64
 IsValue (variant.Text t) = IsText t
 IsValue (variant.Bool b) = Unit {0}
@@ -42,7 +43,7 @@ pub record IsOp (ops : List OpRec) (words : List ℕ) : Type 0 where
   pub among : Contains ops op
   pub spelled : words ≡ op_words op
 
--- a seat publishes the operations of the thread below its own number (ours)
+-- a seat publishes the operations of the thread below its own number (Giltmoth's rule)
 abbrev pub OwnsOp : ℕ → List ℕ → Type 0
 OwnsOp number words = number ≡ slice_index words 2 + 1
 

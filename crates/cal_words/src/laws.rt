@@ -6,7 +6,8 @@ ghost use Rattle.cal_words.specs.Records.{IsValue};
 
 /// Nodes whose words are equal are equal.
 pub fn equal_nodes()
-    ensures { (p q d e a b : ℕ) (v w : Variant) → IsValue v → IsValue w → node_words p d a v ≡ node_words q e b w → (p ≡ q) × (d ≡ e) × (a ≡ b) × (v ≡ w) }
+    ensures { (p q d e a b : ℕ) (v w : Variant) → IsValue v → IsValue w
+        → node_words p d a v ≡ node_words q e b w → (p ≡ q) × (d ≡ e) × (a ≡ b) × (v ≡ w) }
 {}
 
 /// Operations whose words are equal are equal.

@@ -1,9 +1,9 @@
-//! Records as lists of words, as a write-once table holds them: nodes of the context tree, and operations of
-//! the process history.
+//! Records as lists of words, as a write-once table holds them: nodes of the context tree, and
+//! operations of the process history.
 //!
-//! The layers above use that a record's `word`, `matches` and `home` speak of one list of words, and that
-//! records with equal words are equal. Nothing is copied to be packed, and no call takes memory. That a hash
-//! spreads well isn't promised.
+//! The layers above use that a record's `word`, `matches` and `home` speak of one list of words,
+//! and that records with equal words are equal. Nothing is copied to be packed, and no call takes
+//! memory. That a hash spreads well isn't promised.
 #![tactic(auto)]
 
 mod laws;
@@ -11,8 +11,6 @@ mod node;
 mod op;
 mod packed;
 mod sort;
-#[cfg(test)]
-mod tests;
 mod value;
 
 pub use laws::{equal_nodes, equal_ops};

@@ -61,7 +61,8 @@ fn hash(node: &NodeRec<'_>) -> u64
     hash
 }
 
-/// The words of a node are a record of `NodeSort`, where its text has fewer than 2^32 bytes. It costs nothing.
+/// The words of a node are a record of `NodeSort`, where its text has fewer than 2^32 bytes. It
+/// costs nothing.
 pub fn know_node(node: &NodeRec<'_>)
     requires { text_length node.now.value.now < 2 ^ 32 }
     ensures { IsNode (words_of node.now) }

@@ -11,7 +11,8 @@ pub enum OpCode {
     Set,
 }
 
-/// An operation of a script's process line. `value` is a place in the script's list of values, and 0 for an end.
+/// An operation of a script's process line. `value` is a place in the script's list of values, and
+/// 0 for an end.
 #[derive(Clone, Copy, Debug, PartialEq, Eq)]
 pub struct OpRec {
     pub thread: u32,

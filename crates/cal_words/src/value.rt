@@ -1,11 +1,11 @@
-ghost use Rattle.std.specs.Prelude.{◌≡◌, ℕ, ◌+◌, ◌*◌, ◌^◌, ◌<◌, length, slice_index};
+ghost use Rattle.std.specs.Prelude.{◌≡◌, ℕ, ◌+◌, ◌*◌, ◌^◌, ◌<◌, drop, length, slice_index};
+ghost use Rattle.std.specs.Int.{from_le_bytes, w64};
 ghost use Rattle.cal_value.specs.Kinds.{kind_node};
 ghost use Rattle.cal_value.specs.Values.{kind_of};
-ghost use Rattle.cal_value.specs.declared.variant.Variant.TheVariants as variant;
 ghost use Rattle.cal_words.specs.Records.{IsText, IsValue};
-ghost use Rattle.cal_words.specs.Words.{text_length, text_words, value_words};
+ghost use Rattle.cal_words.specs.Words.{number_words, text_length, text_words, value_words};
 
-use cal_value::{Kind, Text, Variant};
+use cal_value::{Text, Variant};
 
 // Its length in bytes.
 fn byte_len(text: &Text) -> u64
@@ -22,20 +22,37 @@ fn text_len(text: &Text) -> u64
     (byte_len(text) + 7) / 8
 }
 
-// Word i of a text: its bytes from 8 * i on, the first lowest.
+// Word i of a text: eight bytes from 8 * i on, the first lowest.
 fn text_part(text: &Text, i: u64) -> u64
     requires { i < length (text_words text.now) }
     ensures { result ≡ slice_index (text_words text.now) i }
 {
-    let bytes = text.as_str().as_bytes();
-    let start = 8 * i as usize;
-    let mut at = bytes.len().min(start + 8);
-    let mut word = 0;
-    while at > start {
-        at -= 1;
-        word = word * 256 + u64::from(bytes[at]);
-    }
-    word
+    word_at(text.as_str().as_bytes(), 8 * i as usize)
+}
+
+// The number of eight bytes from a place on.
+fn word_at(bytes: &[u8], start: usize) -> u64
+    requires { start < length bytes.now }
+    ensures { result ≡ from_le_bytes w64 (drop start bytes.now) }
+{
+    let bytes = &bytes[start..];
+    u64::from_le_bytes([
+        byte_at(bytes, 0),
+        byte_at(bytes, 1),
+        byte_at(bytes, 2),
+        byte_at(bytes, 3),
+        byte_at(bytes, 4),
+        byte_at(bytes, 5),
+        byte_at(bytes, 6),
+        byte_at(bytes, 7),
+    ])
+}
+
+// The byte at a place, and 0 where none is left.
+fn byte_at(bytes: &[u8], place: usize) -> u8
+    ensures { result ≡ slice_index bytes.now place }
+{
+    bytes.get(place).copied().unwrap_or(0)
 }
 
 /// How many words a value has.
@@ -45,6 +62,7 @@ pub fn value_len(value: &Variant) -> u64
 {
     match value {
         Variant::Int(_) => 2,
+        Variant::Fixed(_) => 2,
         Variant::Text(text) => text_len(text),
         Variant::Real(text) => text_len(text),
         Variant::Usr(text) => text_len(text),
@@ -59,12 +77,13 @@ pub fn value_word(value: &Variant, i: u64) -> u64
     ensures { result ≡ slice_index (value_words value.now) i }
 {
     match value {
-        Variant::Int(number) => int_word(*number, i),
+        Variant::Int(number) => half(*number, i),
+        Variant::Fixed(nanos) => half(*nanos, i),
         Variant::Uint(number) => *number,
         Variant::Text(text) => text_part(text, i),
         Variant::Bool(truth) => u64::from(*truth),
         Variant::Addr(address) => *address,
-        Variant::Kind(kind) => node_of(*kind),
+        Variant::Kind(kind) => kind.node(),
         Variant::Real(text) => text_part(text, i),
         Variant::Usr(text) => text_part(text, i),
         Variant::Ptr(text) => text_part(text, i),
@@ -83,37 +102,22 @@ pub fn kind_word(value: &Variant) -> u64
         Variant::Addr(_) => 4 << 32,
         Variant::Kind(_) => 7 << 32,
         Variant::Real(text) => (5 << 32) + byte_len(text),
+        Variant::Fixed(_) => 5 << 32,
         Variant::Usr(text) => byte_len(text),
         Variant::Ptr(text) => (11 << 32) + byte_len(text),
     }
 }
 
 // The low or the high 64 bits of the two's complement.
-fn int_word(number: i128, i: u64) -> u64
+fn half(number: i128, i: u64) -> u64
     requires { i < 2 }
-    ensures { result ≡ slice_index (value_words (variant.Int number)) i }
+    ensures { result ≡ slice_index (number_words number) i }
 {
     let bits = number.cast_unsigned();
     if i == 0 {
         (bits % (1 << 64)) as u64
     } else {
         (bits / (1 << 64)) as u64
-    }
-}
-
-fn node_of(kind: Kind) -> u64
-    ensures { result ≡ kind_node kind }
-{
-    match kind {
-        Kind::Usr => 0,
-        Kind::Int => 1,
-        Kind::Uint => 2,
-        Kind::Str => 3,
-        Kind::Addr => 4,
-        Kind::Double => 5,
-        Kind::Bool => 6,
-        Kind::TypeName => 7,
-        Kind::Ptr => 11,
     }
 }
 
@@ -125,6 +129,9 @@ pub fn know_value(value: &Variant)
     match value {
         Variant::Int(number) => {
             let _number = *number;
+        }
+        Variant::Fixed(nanos) => {
+            let _nanos = *nanos;
         }
         Variant::Uint(number) => {
             let _number = *number;

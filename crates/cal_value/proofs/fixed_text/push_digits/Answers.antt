@@ -1,4 +1,4 @@
-use Rattle.std.proofs.Common.{◌≡◌, ◌<◌, ◌+◌, ◌-◌, ◌/◌, ◌^◌, ◌++◌, ◌∷◌, [], sym, ◌∙◌, suc, arith}
+use Rattle.std.proofs.Common.{◌≡◌, ◌≢◌, ◌<◌, ◌+◌, ◌-◌, ◌/◌, ◌^◌, ◌++◌, ◌∷◌, [], sym, ◌∙◌, suc, arith}
 use Rattle.std.proofs.lemmas.Grind.{common_steps}
 use Rattle.std.proofs.Math.Nat.{pow-suc}
 use Rattle.cal_value.specs.Decimals.{digits_behind}
@@ -14,10 +14,14 @@ loop-place-preserved c =
     let low : 0 < 10 ^ places = grind (arith, common_steps) in
     let digit = (48 + c.loop-place.rest / (c.loop-place.worth / 10)) ∷ [] in
     let pushed : c.push.new.self ≡ c.loop-place.out ++ digit = grind (arith, common_steps) in
-    let text = (λ i. c.loop-place.out ++ digits_behind (sym more i) c.loop-place.rest) ∙ c.loop-place.invariant.text in
+    let text =
+    (λ i. c.loop-place.out ++ digits_behind (sym more i) c.loop-place.rest)
+    ∙ c.loop-place.invariant.text in
+    let out = c.loop-place.out in
+    let some : c.loop-place.rest ≢ 0 = omega arith in
     record {
       worth = worth;
       below = omega arith;
-      text = rw pushed (digits_behind-next c.loop-place.out _ places _ c.loop-place.rest worth c.if-rest-eq0.false text);
-      front = rw pushed (take_before c.args.out.now c.loop-place.out digit c.loop-place.invariant.front);
+      text = rw pushed (digits_behind-next out _ places _ c.loop-place.rest worth some text);
+      front = rw pushed (take_before c.args.out.now out digit c.loop-place.invariant.front);
     }

@@ -8,6 +8,8 @@ invariant-loop-place l =
     record {
       worth : l.worth ≡ 10 ^ (9 - l._place);
       below : l.rest < l.worth;
-      text : l.out ++ digits_behind (9 - l._place) l.rest ≡ l.initial.out ++ digits_behind 9 l.fn.rest;
+      text :
+          l.out ++ digits_behind (9 - l._place) l.rest
+          ≡ l.initial.out ++ digits_behind 9 l.fn.rest;
       front : take (length l.initial.out) l.out ≡ l.initial.out;
     }

@@ -5,5 +5,6 @@ use Rattle.cal_value.proofs.parse.read_hexadecimal.Goals as goal
 
 pub returns : goal.returns
 returns c =
-    let fits = at_most-short 16 18446744073709551615 16 c.args.digits.now (lit≤ tt) (omega arith) (lit≤ tt) in
+    let ds = c.args.digits.now in
+    let fits = at_most-short 16 18446744073709551615 16 ds (lit≤ tt) (omega arith) (lit≤ tt) in
     search (rules, common_steps)

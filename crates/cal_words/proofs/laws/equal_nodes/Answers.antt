@@ -10,6 +10,8 @@ returns c p q d e a b v w is_v is_w same =
     let parents : p ≡ q = cc in
     let depths : d ≡ e = cc in
     let attrs : a ≡ b = cc in
-    let shapes : kind_node (kind_of v) * 2 ^ 32 + text_length v ≡ kind_node (kind_of w) * 2 ^ 32 + text_length w = cc in
+    let shapes :
+    kind_node (kind_of v) * 2 ^ 32 + text_length v
+    ≡ kind_node (kind_of w) * 2 ^ 32 + text_length w = cc in
     let words : value_words v ≡ value_words w = cc in
     (parents, depths, attrs, equal_values v w is_v is_w shapes words)

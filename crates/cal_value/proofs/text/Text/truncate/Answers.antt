@@ -9,5 +9,6 @@ truncate-requires c = λ within.
     let bytes = string_bytes c.self.inside.string in
     let place : c.args.place ≤ length bytes = omega arith in
     let kept : IsUtf8 (take c.args.place bytes) = rw c.self.view_is c.requires in
-    let boundary = IsCharBoundary-from_take bytes c.args.place (IsUtf8-string_bytes c.self.inside.string) place kept in
+    let all = IsUtf8-string_bytes c.self.inside.string in
+    let boundary = IsCharBoundary-from_take bytes c.args.place all place kept in
     (place, λ _. boundary.1)
