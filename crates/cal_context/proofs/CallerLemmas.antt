@@ -1,14 +1,14 @@
 -- What a caller cites: growth is an order, numbers keep their meanings, and equal paths are one node.
-use Rattle.std.proofs.Common.{◌≡◌, ℕ, ◌+◌, ◌<◌, ◌≤◌, List, [], ◌∷◌, ◌++◌, length, get_or, map, refl, sym, ap, ◌∙◌, subst, arith, append_assoc}
+use Rattle.std.proofs.Common.{◌≡◌, ℕ, ◌<◌, List, [], ◌∷◌, ◌++◌, length, get_or, map, sym, ◌∙◌, subst, arith, append_assoc, inl, inr}
 use Rattle.std.specs.List.{All}
-use Rattle.std.proofs.lemmas.Grind.{common_steps}
-use Rattle.cal_value.specs.declared.attribute.Attribute.{Attribute}
+use Rattle.std.proofs.lemmas.List.Elements.{All-push}
+use Rattle.std.proofs.lemmas.Option.{get_or_from_slice_get, slice_get_within}
 use Rattle.cal_value.specs.declared.record.Rec.{Rec}
 use Rattle.cal_value.specs.declared.variant.Variant.{Variant}
-use Rattle.cal_context.specs.Lists.{IsFront}
+use Rattle.cal_context.specs.Lists.{Adds}
 use Rattle.cal_context.specs.Tree.{Tree, Grows, IsContext, no_attribute, no_value, attribute_at, value_at, path_at}
 use Rattle.cal_context.specs.Children.{IsChild, IsLinked}
-use Rattle.cal_context.specs.Snapshots.{IsIn, IsBelowRoot, KeepsMeanings, entry_of, meaning}
+use Rattle.cal_context.specs.Snapshots.{IsIn, KeepsMeanings, entry_of, meaning}
 use Rattle.cal_context.specs.Taking.{TakesMore}
 use Rattle.cal_context.specs.declared.numbers.AttributeNumber.{AttributeNumber}
 use Rattle.cal_context.specs.declared.numbers.Link.{Link}
@@ -19,15 +19,17 @@ use Rattle.cal_context.proofs.ListLemmas.{IsFront-refl, IsFront-trans, get_or-Is
 
 pub Grows-refl : (t : Tree) → Grows t t
 Grows-refl t = record {
-    attributes = IsFront-refl t.attributes;
-    values = IsFront-refl t.values;
-    paths = IsFront-refl t.paths }
+  attributes = IsFront-refl t.attributes;
+  values = IsFront-refl t.values;
+  paths = IsFront-refl t.paths;
+}
 
 pub Grows-trans : (a b c : Tree) → Grows a b → Grows b c → Grows a c
 Grows-trans a b c h g = record {
-    attributes = IsFront-trans a.attributes b.attributes c.attributes h.attributes g.attributes;
-    values = IsFront-trans a.values b.values c.values h.values g.values;
-    paths = IsFront-trans a.paths b.paths c.paths h.paths g.paths }
+  attributes = IsFront-trans a.attributes b.attributes c.attributes h.attributes g.attributes;
+  values = IsFront-trans a.values b.values c.values h.values g.values;
+  paths = IsFront-trans a.paths b.paths c.paths h.paths g.paths;
+}
 
 module _ {old new : Tree} (grows : Grows old new) where
   pub attribute_at-Grows : (n : AttributeNumber) → n.0 < length old.attributes → attribute_at new n ≡ attribute_at old n
@@ -52,21 +54,24 @@ module _ {old new : Tree} (grows : Grows old new) where
   pub IsChild-Grows : (parent : NodeNumber) (attribute : AttributeNumber) (value : Variant) (node : NodeNumber)
       → IsChild old parent attribute value node → IsChild new parent attribute value node
   IsChild-Grows parent attribute value node h = record {
-      later = h.later;
-      within = within_paths node.0 h.within;
-      known = within_attributes attribute.0 h.known;
-      path = path_at-Grows node h.within ∙ h.path
-          ∙ sym (λ j. path_at-Grows parent (omega (arith, h.later, h.within)) j ++ record { attr = attribute_at-Grows attribute h.known j; value = value } ∷ []) }
+    later = h.later;
+    within = within_paths node.0 h.within;
+    known = within_attributes attribute.0 h.known;
+    path = path_at-Grows node h.within ∙ h.path
+        ∙ sym (λ j. path_at-Grows parent (omega (arith, h.later, h.within)) j ++ record { attr = attribute_at-Grows attribute h.known j; value = value } ∷ []);
+  }
 
   pub IsLinked-Grows : (l : Link) (node : NodeNumber) → IsLinked old l node → IsLinked new l node
   IsLinked-Grows l node h = record {
-      child = subst (λ v. IsChild new l.parent l.attribute v node) (sym (value_at-Grows l.value h.value)) (IsChild-Grows l.parent l.attribute (value_at old l.value) node h.child);
-      value = within_values l.value.0 h.value }
+    child = subst (λ v. IsChild new l.parent l.attribute v node) (sym (value_at-Grows l.value h.value)) (IsChild-Grows l.parent l.attribute (value_at old l.value) node h.child);
+    value = within_values l.value.0 h.value;
+  }
 
   pub IsIn-Grows : (s : Snapshot) → IsIn old s → IsIn new s
   IsIn-Grows s h = record {
-      nodes = λ k d l. record { below = (h.nodes k d l).below; within = within_paths _ (h.nodes k d l).within };
-      imms = λ k d l. within_attributes _ (h.imms k d l) }
+    nodes = λ k d l. record { below = (h.nodes k d l).below; within = within_paths _ (h.nodes k d l).within };
+    imms = λ k d l. within_attributes _ (h.imms k d l);
+  }
 
   -- a snapshot means the same record
   pub meaning-Grows : (s : Snapshot) → IsIn old s → meaning new s ≡ meaning old s
@@ -81,14 +86,21 @@ module _ {old new : Tree} (grows : Grows old new) where
 
   pub keeps_meanings : KeepsMeanings old new
   keeps_meanings = record {
-      attributes = attribute_at-Grows;
-      values = value_at-Grows;
-      paths = path_at-Grows;
-      children = IsChild-Grows;
-      snapshots = IsIn-Grows;
-      meanings = meaning-Grows }
+    attributes = attribute_at-Grows;
+    values = value_at-Grows;
+    paths = path_at-Grows;
+    children = IsChild-Grows;
+    snapshots = IsIn-Grows;
+    meanings = meaning-Grows;
+  }
 
 module _ {t : Tree} (is : IsContext t) where
+  pub root_within : 0 < length t.paths
+  root_within = slice_get_within t.paths 0 [] is.root
+
+  pub root_path : path_at t (record { 0 = 0 }) ≡ []
+  root_path = get_or_from_slice_get t.paths 0 [] [] is.root
+
   -- equal paths are one node
   pub one_node : (n m : NodeNumber) → n.0 < length t.paths → m.0 < length t.paths → path_at t n ≡ path_at t m → n ≡ m
   one_node n m l k e = let same : n.0 ≡ m.0 = is.paths n.0 m.0 [] l k e in λ j. record { 0 = same j }
@@ -96,3 +108,8 @@ module _ {t : Tree} (is : IsContext t) where
 -- what is taken in two steps
 pub TakesMore-trans : (had then has : List Rec → Type 0) (xs ys : List Rec) → TakesMore had then xs → TakesMore then has ys → TakesMore had has (xs ++ ys)
 TakesMore-trans had then has xs ys h g rs is = subst has (append_assoc rs xs ys) (g (rs ++ xs) (h rs is))
+
+-- what holds of each item of a list holds still, where it holds of one more
+pub All-Adds : {A : Type 0} (P : A → Type 0) (xs : List A) (x : A) (ys : List A) → All P xs → P x → Adds xs x ys → All P ys
+All-Adds P xs x ys all is (inl h) = subst (All P) (sym h.1) all
+All-Adds P xs x ys all is (inr h) = subst (All P) (sym h.1) (All-push P xs x all is)

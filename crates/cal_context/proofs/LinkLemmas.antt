@@ -1,6 +1,5 @@
-use Rattle.std.proofs.Common.{◌≡◌, ℕ, zero, suc, ◌+◌, ◌<◌, ◌≤◌, List, [], ◌∷◌, ◌++◌, ◌⊎◌, inl, inr, length, get_or, slice_get, fold, Some, Contains, refl, sym, ap, ◌∙◌, subst, arith, length-append}
+use Rattle.std.proofs.Common.{◌≡◌, ℕ, zero, suc, ◌<◌, ◌≤◌, List, [], ◌∷◌, ◌++◌, ◌⊎◌, inl, inr, length, get_or, slice_get, Some, Contains, refl, sym, ap, ◌∙◌, subst, arith, length-append}
 use Rattle.std.proofs.lemmas.Bool.{cases_lt}
-use Rattle.std.proofs.lemmas.Grind.{common_steps}
 use Rattle.std.proofs.lemmas.List.{get_or_append_left, get_or_default, get_or_push, same_from_push}
 use Rattle.std.proofs.lemmas.List.Sums.{fold-append}
 use Rattle.std.proofs.lemmas.Option.{slice_get-get_or, slice_get_within, get_or_from_slice_get}
@@ -51,9 +50,10 @@ module _ {t : Tree} {ls : List Link} (w : IsWhole t ls) where
 
   can_link : (l : Link) (n : NodeNumber) → IsLinked t l n → CanLink t l
   can_link l n is = record {
-      parent = omega (arith, is.child.later, is.child.within);
-      attribute = is.child.known;
-      value = is.value }
+    parent = omega (arith, is.child.later, is.child.within);
+    attribute = is.child.known;
+    value = is.value;
+  }
 
   no_end : (xs : List Entry) (x : Entry) → xs ++ x ∷ [] ≡ [] → ⊥
   no_end xs x e = let h : length (xs ++ x ∷ []) ≡ 0 = ap length e in omega (arith, h, length-append xs (x ∷ []))
@@ -70,7 +70,7 @@ module _ {t : Tree} {ls : List Link} (w : IsWhole t ls) where
       let l = get_or ls i no_link in
       let m = get_or ls j no_link in
       let up = same_below bound l.parent.0 m.parent.0
-          (omega (arith, b, one.child.later)) (omega (arith, hi, one.child.later)) (omega (arith, hj, other.child.later)) in
+      (omega (arith, b, one.child.later)) (omega (arith, hi, one.child.later)) (omega (arith, hj, other.child.later)) in
       let same = same_link m l (record { 0 = suc i }) (can_link m (record { 0 = suc j }) other) one (e ∙ other.child.path) up in
       ap suc (w.links_apart i j no_link (omega (arith, hi, w.counted)) (omega (arith, hj, w.counted)) same)
 
@@ -88,7 +88,7 @@ module _ {t : Tree} {ls : List Link} (w : IsWhole t ls) where
       let is = link_at k h in
       let m = get_or ls k no_link in
       let same = same_link l m (record { 0 = suc k }) can is e
-          (paths_apart m.parent.0 l.parent.0 [] (omega (arith, h, is.child.later)) can.parent) in
+      (paths_apart m.parent.0 l.parent.0 [] (omega (arith, h, is.child.later)) can.parent) in
       let within : k < length ls = omega (arith, h, w.counted) in
       (k, within, get_or_default ls k l no_link within ∙ same)
 
@@ -112,12 +112,13 @@ module _ {ats : List Attribute} {vs : List Variant} {ls : List Link} (w : IsWhol
 
     pub whole_by_lists : AreApart ats' → AreApart vs' → IsWhole (tree_of ats' vs' ls) ls
     whole_by_lists apart apart' = record {
-        counted = ap length linked_paths-grown ∙ w.counted;
-        root = ap (λ ps. slice_get ps 0) linked_paths-grown ∙ w.root;
-        linked = λ k l e. IsLinked-Grows grows_by_lists l (record { 0 = suc k }) (w.linked k l e);
-        attributes = apart;
-        values = apart';
-        links_apart = w.links_apart }
+      counted = ap length linked_paths-grown ∙ w.counted;
+      root = ap (λ ps. slice_get ps 0) linked_paths-grown ∙ w.root;
+      linked = λ k l e. IsLinked-Grows grows_by_lists l (record { 0 = suc k }) (w.linked k l e);
+      attributes = apart;
+      values = apart';
+      links_apart = w.links_apart;
+    }
 
   module _ {a : Attribute} {ats' : List Attribute} {n : ℕ} (added : Interns ats a ats' n) where
     pub grows_by_attribute : Grows (tree_of ats vs ls) (tree_of ats' vs ls)
@@ -157,23 +158,26 @@ module _ {ats : List Attribute} {vs : List Variant} {ls : List Link} (w : IsWhol
 
   pushed_link : IsLinked (tree_of ats vs (ls ++ l ∷ [])) l (record { 0 = suc (length ls) })
   pushed_link = record {
-      child = record {
-          later = omega (arith, can.parent, w.counted);
-          within = omega (arith, w.counted, ap length linked_paths-push, length-append (linked_paths ats vs ls) (new_path ∷ []));
-          known = can.attribute;
-          path = ap (λ ps. get_or ps (suc (length ls)) []) linked_paths-push
-              ∙ get_or_push (linked_paths ats vs ls) new_path [] (suc (length ls)) w.counted
-              ∙ sym (ap (λ p. p ++ link_entry (tree_of ats vs ls) l ∷ []) (path_at-Grows grows_by_push l.parent can.parent)) };
-      value = can.value }
+    child = record {
+      later = omega (arith, can.parent, w.counted);
+      within = omega (arith, w.counted, ap length linked_paths-push, length-append (linked_paths ats vs ls) (new_path ∷ []));
+      known = can.attribute;
+      path = ap (λ ps. get_or ps (suc (length ls)) []) linked_paths-push
+          ∙ get_or_push (linked_paths ats vs ls) new_path [] (suc (length ls)) w.counted
+          ∙ sym (ap (λ p. p ++ link_entry (tree_of ats vs ls) l ∷ []) (path_at-Grows grows_by_push l.parent can.parent));
+    };
+    value = can.value;
+  }
 
   whole_by_push : ¬ Contains ls l → IsWhole (tree_of ats vs (ls ++ l ∷ [])) (ls ++ l ∷ [])
   whole_by_push new = record {
-      counted = omega (arith, w.counted, ap length linked_paths-push, length-append (linked_paths ats vs ls) (new_path ∷ []), length-append ls (l ∷ []));
-      root = slice_get-IsFront (linked_paths ats vs ls) _ 0 [] grows_by_push.paths w.root;
-      linked = λ k m e. linked k m e (cases_lt k (length ls));
-      attributes = w.attributes;
-      values = w.values;
-      links_apart = AreApart-push ls l w.links_apart new }
+    counted = omega (arith, w.counted, ap length linked_paths-push, length-append (linked_paths ats vs ls) (new_path ∷ []), length-append ls (l ∷ []));
+    root = slice_get-IsFront (linked_paths ats vs ls) _ 0 [] grows_by_push.paths w.root;
+    linked = λ k m e. linked k m e (cases_lt k (length ls));
+    attributes = w.attributes;
+    values = w.values;
+    links_apart = AreApart-push ls l w.links_apart new;
+  }
     where
       linked : (k : ℕ) (m : Link) → slice_get (ls ++ l ∷ []) k ≡ Some m → ((k < length ls) ⊎ (length ls ≤ k)) → IsLinked (tree_of ats vs (ls ++ l ∷ [])) m (record { 0 = suc k })
       linked k m e (inl h) =
@@ -212,8 +216,10 @@ module _ {ats : List Attribute} {vs : List Variant} {ls : List Link} (w : IsWhol
         let is = w.linked there.0 l (slice_get-get_or ls there.0 l there.1 ∙ ap Some there.2) in
         inl ((suc there.0, is.child.within, get_or_default (linked_paths ats vs ls) (suc there.0) new_path [] is.child.within ∙ is.child.path), ap (linked_paths ats vs) h.1)
     paths_by_cases (inr h) =
-        inr (λ there. h.0 (Contains-link w l can there.0 there.1 (get_or_default (linked_paths ats vs ls) there.0 [] new_path there.1 ∙ there.2)),
-            ap (linked_paths ats vs) h.1 ∙ linked_paths-push)
+        inr (
+          λ there. h.0 (Contains-link w l can there.0 there.1 (get_or_default (linked_paths ats vs ls) there.0 [] new_path there.1 ∙ there.2)),
+          ap (linked_paths ats vs) h.1 ∙ linked_paths-push,
+        )
 
     pub paths_by_link : Adds (linked_paths ats vs ls) (path_at (tree_of ats vs ls') (record { 0 = suc n })) (linked_paths ats vs ls')
     paths_by_link = subst (λ p. Adds (linked_paths ats vs ls) p (linked_paths ats vs ls')) (sym linked_path_is) (paths_by_cases added.adds)
@@ -246,9 +252,10 @@ module _ {ats : List Attribute} {vs vs' : List Variant} {ls ls' : List Link} (w 
 
   can : CanLink (tree_of ats vs' ls) the_link
   can = record {
-      parent = omega (arith, hp, ap length (paths_by_value w v));
-      attribute = ha;
-      value = slice_get_within vs' n.0 value v.number }
+    parent = omega (arith, hp, ap length (paths_by_value w v));
+    attribute = ha;
+    value = slice_get_within vs' n.0 value v.number;
+  }
 
   value_is : value_at (tree_of ats vs' ls) n ≡ value
   value_is = get_or_from_slice_get vs' n.0 value no_value v.number
@@ -265,7 +272,7 @@ module _ {ats : List Attribute} {vs vs' : List Variant} {ls ls' : List Link} (w 
       let m = get_or ls k no_link in
       let is = link_at w k h.within in
       let both = same_from_push (path_at (tree_of ats vs ls) m.parent) (path_at (tree_of ats vs ls) parent)
-          (link_entry (tree_of ats vs ls) m) (record { attr = attribute_at (tree_of ats vs ls) attribute; value = value }) (sym is.child.path ∙ h.path) in
+      (link_entry (tree_of ats vs ls) m) (record { attr = attribute_at (tree_of ats vs ls) attribute; value = value }) (sym is.child.path ∙ h.path) in
       (m.value.0, is.value, get_or_default vs m.value.0 value no_value is.value ∙ ap (λ e. e.value) both.1)
 
   -- and so is its link
@@ -276,13 +283,14 @@ module _ {ats : List Attribute} {vs vs' : List Variant} {ls ls' : List Link} (w 
 
   pub adds_child : AddsChild (tree_of ats vs ls) parent attribute value (tree_of ats vs' ls') the_node
   adds_child = record {
-      child = subst (λ x. IsChild (tree_of ats vs' ls') parent attribute x the_node) value_is (is_linked with_value the_link can i).child;
-      paths = subst (λ ps. Adds ps (path_at (tree_of ats vs' ls') the_node) (linked_paths ats vs' ls')) (paths_by_value w v) (paths_by_link with_value the_link can i);
-      values = v.adds;
-      attributes = refl;
-      again = λ h. let one = Adds-same vs value vs' v.adds (value_there h) in
-          let two = Adds-same ls the_link ls' i.adds (link_there h) in
-          λ j. tree_of ats (one j) (two j) }
+    child = subst (λ x. IsChild (tree_of ats vs' ls') parent attribute x the_node) value_is (is_linked with_value the_link can i).child;
+    paths = subst (λ ps. Adds ps (path_at (tree_of ats vs' ls') the_node) (linked_paths ats vs' ls')) (paths_by_value w v) (paths_by_link with_value the_link can i);
+    values = v.adds;
+    attributes = refl;
+    again = λ h. let one = Adds-same vs value vs' v.adds (value_there h) in
+        let two = Adds-same ls the_link ls' i.adds (link_there h) in
+        λ j. tree_of ats (one j) (two j);
+  }
 
 -- the same by a link, whose value is there
 pub adds_linked : {ats : List Attribute} {vs : List Variant} {ls ls' : List Link} (w : IsWhole (tree_of ats vs ls) ls) (l : Link)

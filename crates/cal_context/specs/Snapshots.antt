@@ -1,4 +1,4 @@
-use Rattle.std.specs.Prelude.{◌≡◌, ℕ, ◌<◌, List, length, map}
+use Rattle.std.specs.Prelude.{◌≡◌, ◌<◌, length, map}
 use Rattle.std.specs.List.{All}
 use Rattle.cal_value.specs.declared.attribute.Entry.{Entry}
 use Rattle.cal_value.specs.declared.record.Rec.{Rec}
@@ -18,8 +18,9 @@ entry_of t i = record { attr = attribute_at t i.attribute; value = i.value }
 -- the record that a snapshot means: the paths of its nodes, and its immediates
 abbrev pub meaning : Tree → Snapshot → Rec
 meaning t s = record {
-    paths = map (path_at t) s.nodes.items;
-    imms = map (entry_of t) s.imms.items }
+  paths = map (path_at t) s.nodes.items;
+  imms = map (entry_of t) s.imms.items;
+}
 
 -- a node of the context below the root
 pub record IsBelowRoot (t : Tree) (n : NodeNumber) : Type 0 where

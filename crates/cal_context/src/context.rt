@@ -1,6 +1,7 @@
 ghost use Rattle.std.specs.Prelude.{◌≡◌, ◌<◌, [], ◌∷◌, length, IfOk, IfSome, IfNone, OnErr};
 ghost use Rattle.cal_context.specs.Tree.{attribute_at, path_at, value_at, Grows, IsContext};
-ghost use Rattle.cal_context.specs.Children.{AddsAttribute, AddsChild, AddsLinked, AddsValue, CanLink, IsLinked};
+ghost use Rattle.cal_context.specs.Children.{AddsAttribute, AddsChild, AddsLinked, AddsValue};
+ghost use Rattle.cal_context.specs.Children.{CanLink, IsLinked};
 
 use crate::{AttributeNumber, Interner, Link, NodeNumber, ValueNumber};
 use cal_value::{Attribute, OutOfMemory, Variant};

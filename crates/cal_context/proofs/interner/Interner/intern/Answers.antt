@@ -9,4 +9,5 @@ returns-clause-interned g c =
     let same = g.met.T.Exact.tells in
     record {
       number = number_of_equal laws same c.insert_full.new.self.keys c.in_ok-number.number c.args.item added.stored.0 added.stored.1 added.stored.2;
-      adds = rw (sym c.self.view_is) (Adds-insert_key laws same _ c.args.item _ added.keys) }
+      adds = rw (sym c.self.view_is) (Adds-insert_key laws same _ c.args.item _ added.keys);
+    }
