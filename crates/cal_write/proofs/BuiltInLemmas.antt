@@ -1,6 +1,6 @@
-use Rattle.std.proofs.Common.{◌≡◌, ℕ, zero, suc, ◌+◌, ◌<◌, ◌≤◌, Bool, true, false, List, [], ◌∷◌, ◌++◌, length, get_or, map, take, Some, None, refl, sym, ap, ◌∙◌, subst, arith, true≢false, eqb, nat_eq, lit<, lit≤, ◌⊎◌, inl, inr, unwrap_or}
+use Rattle.std.proofs.Common.{◌≡◌, ℕ, zero, suc, ◌+◌, ◌<◌, ◌≤◌, true, false, List, [], ◌∷◌, ◌++◌, get_or, map, take, Some, refl, sym, ap, ◌∙◌, subst, arith, true≢false, nat_eq, lit<, lit≤, ◌⊎◌, inl, inr, unwrap_or}
 use Rattle.std.specs.List.{Contains, list_any}
-use Rattle.std.proofs.lemmas.List.{length_push, same_from_push}
+use Rattle.std.proofs.lemmas.List.{same_from_push}
 use Rattle.std.proofs.lemmas.Bool.Decides.{Decides-eqb}
 use Rattle.std.proofs.lemmas.List.Folds.{list_any_at}
 use Rattle.std.proofs.lemmas.List.Elements.{Contains-get_or}
@@ -14,7 +14,7 @@ use Rattle.cal_value.specs.declared.variant.Variant.TheVariants as value
 use Rattle.cal_write.specs.BuiltIn.{built_in_attribute, built_in_id, built_in_keys, key_of_kind, key_of_built_in}
 use Rattle.cal_write.specs.CanonicalText.{id_in, parent_id}
 use Rattle.cal_write.specs.Nodes.{Node, node_of_kind, node_of_attribute, needed_below, first_kinds, name_attribute, type_attribute, built_in}
-use Rattle.cal_write.specs.Places.{Has, HasAll, IsAt, IsParent, KnowsAttribute, IsClosed}
+use Rattle.cal_write.specs.Places.{Has, HasAll, IsAt, KnowsAttribute, IsClosed}
 use Rattle.cal_write.specs.Stream.{IsBegun, IsNodeOf, IsDescribed, IsOfBuiltIn}
 use Rattle.cal_write.specs.declared.stream.Stream.{Stream}
 use Rattle.cal_write.specs.declared.built_in.BuiltIn.{BuiltIn}

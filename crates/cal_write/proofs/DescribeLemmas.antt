@@ -1,4 +1,4 @@
-use Rattle.std.proofs.Common.{◌≡◌, ℕ, ◌≤◌, Bool, true, false, List, [], ◌∷◌, ◌++◌, pos, Some, refl, sym, ap, ◌∙◌, subst, arith, eqb, lit≤, if◌then◌else◌}
+use Rattle.std.proofs.Common.{◌≡◌, ℕ, Bool, true, false, [], ◌∷◌, ◌++◌, pos, Some, ap, ◌∙◌, subst, arith, eqb, lit≤, if◌then◌else◌}
 use Rattle.std.proofs.lemmas.Bool.Decides.{nat_tests}
 use Rattle.cal_value.specs.Kinds.{kind_node}
 use Rattle.cal_value.specs.declared.attribute.Attribute.{Attribute}
@@ -7,12 +7,12 @@ use Rattle.cal_value.specs.declared.kind.Kind as kinds
 use Rattle.cal_value.specs.declared.props.Props.{Props}
 use Rattle.cal_value.specs.declared.variant.Variant.TheVariants as value
 use Rattle.cal_write.specs.BuiltIn.{built_in_attribute, built_in_id}
-use Rattle.cal_write.specs.Nodes.{Node, built_in, name_attribute, prop_attribute, node_of_kind, node_of_props, node_of_attribute, needed_by_props, needed_by_attribute}
+use Rattle.cal_write.specs.Nodes.{built_in, name_attribute, prop_attribute, node_of_kind, node_of_props, node_of_attribute, needed_by_props, needed_by_attribute}
 use Rattle.cal_write.specs.Places.{IsAt, IsParent, KnowsAttribute}
-use Rattle.cal_write.specs.Stream.{IsStream, WritesTo, AddsDescribed, Describes}
+use Rattle.cal_write.specs.Stream.{IsStream, AddsDescribed, Describes}
 use Rattle.cal_write.specs.Written.{Written, after}
 use Rattle.cal_write.specs.declared.built_in.BuiltIn.{BuiltIn}
-use Rattle.cal_write.specs.declared.built_in.BuiltIn.TheVariants.{OfNames, OfKinds, OfProps}
+use Rattle.cal_write.specs.declared.built_in.BuiltIn.TheVariants.{OfNames, OfProps}
 use Rattle.cal_write.specs.declared.stream.Stream.{Stream}
 use Rattle.cal_write.proofs.AfterLemmas.{after-append, after-known}
 use Rattle.cal_write.proofs.BuiltInLemmas.{knows-built_in, kind-at}

@@ -1,8 +1,8 @@
-use Rattle.std.proofs.Common.{◌≡◌, ℕ, ◌<◌, ◌≤◌, Bool, true, false, ◌⊎◌, inl, inr, List, [], ◌∷◌, ◌++◌, length, get_or, pos, Option, Some, None, refl, sym, ap, ◌∙◌, subst, true≢false, arith, lit≤, eqb, nat_eq, fold, if◌then◌else◌}
+use Rattle.std.proofs.Common.{◌≡◌, ℕ, ◌<◌, ◌≤◌, Bool, true, false, ◌⊎◌, inl, inr, List, [], ◌∷◌, ◌++◌, length, pos, Option, Some, None, refl, sym, ap, ◌∙◌, subst, true≢false, arith, lit≤, eqb, nat_eq, if◌then◌else◌}
 use Rattle.std.specs.Prelude.{IsSome}
 use Rattle.std.specs.List.{list_any}
 use Rattle.std.proofs.lemmas.Bool.Decides.{Decides-eqb}
-use Rattle.std.proofs.lemmas.List.{append_assoc, append-nil, get_or_past, same_from_push}
+use Rattle.std.proofs.lemmas.List.{get_or_past, same_from_push}
 use Rattle.cal_value.specs.declared.attribute.Attribute.{Attribute}
 use Rattle.cal_value.specs.declared.attribute.Entry.{Entry}
 use Rattle.cal_value.specs.declared.variant.Variant.TheVariants as value
@@ -13,11 +13,10 @@ use Rattle.cal_context.specs.declared.numbers.AttributeNumber.{AttributeNumber}
 use Rattle.cal_context.specs.declared.numbers.Link.{Link}
 use Rattle.cal_context.specs.declared.numbers.NodeNumber.{NodeNumber}
 use Rattle.cal_context.proofs.CallerLemmas.{one_node}
-use Rattle.cal_write.specs.BuiltIn.{built_in_attribute, built_in_id}
-use Rattle.cal_write.specs.Nodes.{Node, same_node, with_node, built_in, name_attribute, prop_attribute, node_of_kind, node_of_props, node_of_attribute, needed_by_props, needed_by_attribute, needed_below}
+use Rattle.cal_write.specs.Nodes.{Node, same_node, name_attribute, prop_attribute, node_of_kind, node_of_props, node_of_attribute, needed_by_props, needed_by_attribute, needed_below}
 use Rattle.cal_write.specs.CanonicalText.{id_in}
 use Rattle.cal_write.specs.Memo.{memo_at}
-use Rattle.cal_write.specs.Places.{Has, HasAll, IsAt, IsParent, KnowsAttribute}
+use Rattle.cal_write.specs.Places.{Has, IsAt, IsParent}
 use Rattle.cal_write.specs.Stream.{IsStream, IsBegun, WritesTo, Describes, AddsEntry}
 use Rattle.cal_write.specs.Kept.{IsNoted, IsKnown, HasNote, IsKept, NeedsAttribute, NeedsNode, AddsNode}
 use Rattle.cal_write.specs.Written.{Written, after, written}
@@ -26,7 +25,7 @@ use Rattle.cal_write.specs.declared.node_writer.NodeWriter.{NodeWriter}
 use Rattle.cal_write.proofs.AfterLemmas.{after-append, after-known}
 use Rattle.cal_write.proofs.BuiltInLemmas.{built_in-named}
 use Rattle.cal_write.proofs.DescribeLemmas.{knows}
-use Rattle.cal_write.proofs.PlaceLemmas.{at-parent, push-some, fold-front, Has-push_cases, Has-fold_cases, HasAll-fold, IsAt-grown, IsParent-grown, KnowsAttribute-grown, id_in-grown, Has-grown}
+use Rattle.cal_write.proofs.PlaceLemmas.{at-parent, push-some, fold-front, Has-push_cases, Has-fold_cases, HasAll-fold, IsParent-grown, KnowsAttribute-grown, id_in-grown}
 use Rattle.cal_write.proofs.StreamLemmas.{closed-there, closed-attribute, needed_below-push}
 
 -- ---- notes, as more is written

@@ -1,4 +1,4 @@
-use Rattle.std.proofs.Common.{◌≡◌, ◌==◌, ℕ, ◌+◌, ◌<◌, Bool, true, false, ◌&&◌, not, List, [], ◌∷◌, ◌++◌, length, get_or, take, map, filter, option_to_list, Option, Some, None, refl, sym, ap, ◌∙◌, subst, true≢false, arith, fold, if◌then◌else◌}
+use Rattle.std.proofs.Common.{◌≡◌, ◌==◌, ℕ, ◌+◌, ◌<◌, Bool, true, false, ◌&&◌, List, [], ◌∷◌, ◌++◌, length, get_or, take, map, filter, option_to_list, Option, refl, sym, ap, ◌∙◌, subst, arith, fold, if◌then◌else◌}
 use Rattle.std.specs.Prelude.{codes}
 use Rattle.std.specs.List.{All, flat_map}
 use Rattle.std.proofs.lemmas.Simd.{map-map}
@@ -11,7 +11,6 @@ use Rattle.cal_context.proofs.CallerLemmas.{one_node}
 use Rattle.std.proofs.lemmas.List.Sums.{fold-append}
 use Rattle.cal_value.specs.declared.attribute.Entry.{Entry}
 use Rattle.cal_value.specs.declared.record.Rec.{Rec}
-use Rattle.cal_value.specs.declared.variant.Variant.{Variant}
 use Rattle.cal_context.specs.Lists.{IsFront}
 use Rattle.cal_context.specs.Snapshots.{IsBelowRoot, IsIn, entry_of, meaning}
 use Rattle.cal_context.specs.Tree.{Tree, IsContext, attribute_at, path_at}
@@ -20,9 +19,9 @@ use Rattle.cal_context.specs.declared.snapshot.Immediate.{Immediate}
 use Rattle.cal_context.specs.declared.snapshot.Snapshot.{Snapshot}
 use Rattle.cal_write.specs.Nodes.{Node, with_node, with_record, node_of_attribute, needed_by_attribute, needed_below, needed_by_record, built_in, nodes}
 use Rattle.cal_write.specs.Lines.{record_line}
-use Rattle.cal_write.specs.CanonicalText.{id_in, parent_id, has_entry, ends, lines_of_new, line_of_record, record_text, rows_text, globals_text, canonical_text}
+use Rattle.cal_write.specs.CanonicalText.{id_in, has_entry, ends, lines_of_new, line_of_record, record_text, rows_text}
 use Rattle.cal_write.specs.Kept.{AreAt, IsKept, NeedsAttribute, NeedsNode}
-use Rattle.cal_write.specs.Places.{Has, HasAll, IsAt, IsParent}
+use Rattle.cal_write.specs.Places.{HasAll, IsAt, IsParent}
 use Rattle.cal_write.specs.SnapshotNeeds.{NeedsNodes, NeedsImmediates, needed_by_paths, needed_by_entries}
 use Rattle.cal_write.specs.Writer.{WritesRecord, with_text_of, HasTaken, EndsWith}
 use Rattle.cal_write.specs.Written.{Written, after, with_line, written}

@@ -1,23 +1,23 @@
-use Rattle.std.proofs.Common.{◌≡◌, ℕ, ◌+◌, ◌-◌, ◌<◌, ◌≤◌, Bool, true, false, ◌⊎◌, inl, inr, List, [], ◌∷◌, ◌++◌, length, get_or, take, Option, Some, None, refl, sym, ap, ◌∙◌, subst, true≢false, arith, add-one, fold, if◌then◌else◌}
+use Rattle.std.proofs.Common.{◌≡◌, ℕ, ◌+◌, ◌-◌, ◌<◌, ◌≤◌, Bool, true, false, ◌⊎◌, inl, inr, List, [], ◌∷◌, ◌++◌, length, get_or, Option, Some, refl, sym, ap, ◌∙◌, subst, arith}
 use Rattle.std.specs.Prelude.{slice_get}
 use Rattle.std.specs.List.{Contains, list_any}
 use Rattle.std.proofs.lemmas.Bool.{cases_lt}
 use Rattle.std.proofs.Math.Seq.{take-append_seam}
-use Rattle.std.proofs.lemmas.List.{append_assoc, append-nil, length-append, get_or_append_left, get_or_push, length_push, same_from_push}
+use Rattle.std.proofs.lemmas.List.{append_assoc, append-nil, get_or_append_left, get_or_push, length_push, same_from_push}
 use Rattle.std.proofs.lemmas.List.Elements.{Contains-get_or, Contains-append_left, Contains-push}
 use Rattle.std.proofs.lemmas.Option.{slice_get_within, get_or_from_slice_get, slice_get-get_or}
 use Rattle.cal_value.specs.declared.attribute.Entry.{Entry}
 use Rattle.cal_context.specs.Lists.{IsFront, Interns}
-use Rattle.cal_write.specs.Nodes.{Node, same_node, built_in, with_node, node_of_attribute, needed_by_attribute, needed_by_props, needed_below}
+use Rattle.cal_write.specs.Nodes.{Node, same_node, built_in, node_of_attribute, needed_by_attribute, needed_by_props, needed_below}
 use Rattle.cal_write.specs.Lines.{node_line}
-use Rattle.cal_write.specs.CanonicalText.{id_in, parent_id, parent_of, line_of_node, line_of_entry}
+use Rattle.cal_write.specs.CanonicalText.{id_in, parent_id, parent_of, line_of_node}
 use Rattle.cal_write.specs.Places.{Has, HasAll, IsThere, IsAt, IsParent, KnowsAttribute, IsClosed}
 use Rattle.cal_write.specs.Written.{Written, after}
 use Rattle.cal_write.specs.Stream.{AddsLine, IsNodeOf, IsDescribed, IsOfBuiltIn, IsStream, WritesTo}
 use Rattle.cal_write.specs.declared.described.DescribedNode.{DescribedNode}
 use Rattle.cal_write.specs.declared.stream.Lines.{Lines}
 use Rattle.cal_write.specs.declared.stream.Stream.{Stream}
-use Rattle.cal_write.proofs.PlaceLemmas.{Has-grown, HasAll-grown, IsThere-grown, parent_id-grown, id_in-grown, IsAt-grown, IsParent-grown, KnowsAttribute-grown, parent_one, Has-last, id_in-last, Has-push_cases, HasAll-append, HasAll-left, HasAll-right}
+use Rattle.cal_write.proofs.PlaceLemmas.{HasAll-grown, parent_id-grown, id_in-grown, IsAt-grown, IsParent-grown, parent_one, Has-last, id_in-last, Has-push_cases, HasAll-append, HasAll-left, HasAll-right}
 use Rattle.cal_write.proofs.AfterLemmas.{after-known, after-new}
 
 -- ---- a path and its last entry

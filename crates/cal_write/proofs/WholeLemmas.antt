@@ -14,7 +14,7 @@ use Rattle.cal_write.specs.WriterGrows.{HasTaken-stays}
 use Rattle.cal_write.specs.declared.writer.Writer.{Writer}
 use Rattle.cal_write.specs.Nodes.{Node, built_in, node_of_attribute, needed_below, needed_by_attribute, needed_by_record, nodes, with_node, with_record}
 use Rattle.cal_write.specs.Lines.{record_line}
-use Rattle.cal_write.specs.CanonicalText.{id_in, has_entry, ends, lines_of_new, record_text, rows_text, globals_text, canonical_text}
+use Rattle.cal_write.specs.CanonicalText.{id_in, has_entry, lines_of_new, record_text, rows_text, globals_text, canonical_text}
 use Rattle.cal_write.specs.Interning.{Means, without_empty}
 
 -- ---- paths without entries say nothing

@@ -1,9 +1,12 @@
-use Rattle.std.specs.Prelude.{ℕ, Bool, ◌==◌, ◌-◌, ◌&&◌, true, false, List, [], ◌∷◌, ◌++◌, Option, Some, None, codes, map, filter, fold, take, length, slice_get, if◌then◌else◌}
+use Rattle.std.specs.Prelude.{ℕ, Bool, ◌==◌, ◌-◌, ◌&&◌, true, false, List, [], ◌∷◌, ◌++◌}
+use Rattle.std.specs.Prelude.{Option, Some, None, codes, map}
+use Rattle.std.specs.Prelude.{filter, take, length, slice_get, if◌then◌else◌}
 use Rattle.std.specs.List.{list_any, position_or_len}
 use Rattle.cal_value.specs.declared.attribute.Entry.{Entry}
 use Rattle.cal_value.specs.declared.record.Rec.{Rec}
 use Rattle.cal_value.specs.declared.record.Records.{Records}
-use Rattle.cal_write.specs.Nodes.{Node, same_node, node_of_attribute, built_in, needed_by_record, with_node, with_record, nodes}
+use Rattle.cal_write.specs.Nodes.{Node, same_node, node_of_attribute, built_in}
+use Rattle.cal_write.specs.Nodes.{needed_by_record, with_node, with_record, nodes}
 use Rattle.cal_write.specs.Lines.{node_line, record_line}
 
 -- A node's id is its place among the nodes: the built-in ones have 0 to 11, and each new one the

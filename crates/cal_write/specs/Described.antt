@@ -1,4 +1,4 @@
-use Rattle.std.specs.Prelude.{◌≡◌, Bool, true, false, ◌&&◌, ℕ, nat_eq, Option, Some, None, IsTrue}
+use Rattle.std.specs.Prelude.{◌≡◌, true, ◌&&◌, ℕ, nat_eq, Option, Some, None, IsTrue}
 use Rattle.std.specs.Option.{option_eq}
 use Rattle.std.specs.Ordering.{eq_by_cmp}
 use Rattle.std.proofs.Common.{ap}
@@ -19,6 +19,7 @@ option_decides (Some x) (Some y) = Decides-like (nat_eq x y) (ap Some) (λ e. cc
 pub described_tells : (x y : DescribedNode)
     → IsTrue (option_eq nat_eq x.parent y.parent && eq_by_cmp entry_cmp x.entry y.entry) → x ≡ y
 described_tells x y t =
-    let both = (Decides-and (option_eq nat_eq x.parent y.parent) (eq_by_cmp entry_cmp x.entry y.entry)
+    let both = (Decides-and (option_eq nat_eq x.parent y.parent)
+    (eq_by_cmp entry_cmp x.entry y.entry)
     (option_decides x.parent y.parent) (exact_decides entry_exact x.entry y.entry)).0 t in
     λ j. record { parent = both.0 j; entry = both.1 j }

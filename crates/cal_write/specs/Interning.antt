@@ -1,4 +1,4 @@
-use Rattle.std.specs.Prelude.{◌≡◌, ℕ, ◌<◌, List, [], ◌∷◌, ◌++◌, filter, length, map}
+use Rattle.std.specs.Prelude.{◌≡◌, ◌<◌, List, [], ◌∷◌, ◌++◌, filter, length, map}
 use Rattle.std.specs.List.{All}
 use Rattle.cal_context.specs.Snapshots.{IsBelowRoot, IsIn, entry_of, meaning}
 use Rattle.cal_context.specs.Tree.{Tree, path_at}
@@ -51,7 +51,8 @@ pub record AreImmediatesOf (t : Tree) (entries : List Entry) (imms : List Immedi
 -- the immediate of one more entry is put behind, and the immediates of more entries
 abbrev pub AddsImmediates : Tree → Tree → List Entry → List Immediate → List Immediate → Type 0
 AddsImmediates old new entries before now =
-    (done : List Entry) → AreImmediatesOf old done before → AreImmediatesOf new (done ++ entries) now
+    (done : List Entry) → AreImmediatesOf old done before
+    → AreImmediatesOf new (done ++ entries) now
 
 abbrev pub AddsImmediate : Tree → Tree → Entry → List Immediate → List Immediate → Type 0
 AddsImmediate old new e before now = AddsImmediates old new (e ∷ []) before now

@@ -51,7 +51,8 @@ pub record NeedsAttribute (t : Tree) (old new : NodeWriter) (a : AttributeNumber
 -- what a node needs is there, and it has this id; the root needs nothing, and has none
 pub record NeedsNode (t : Tree) (old new : NodeWriter) (n : NodeNumber) (id : Option ℕ) : Type 0
   where
-    pub kept : (s : Written) → IsKept t old s → IsKept t new (after s (needed_below [] (path_at t n)))
+    pub kept : (s : Written) → IsKept t old s
+        → IsKept t new (after s (needed_below [] (path_at t n)))
     pub at : (s : Written) → IsKept t old s
         → IsParent (after s (needed_below [] (path_at t n))).nodes (path_at t n) id
 
@@ -59,7 +60,8 @@ pub record NeedsNode (t : Tree) (old new : NodeWriter) (n : NodeNumber) (id : Op
 pub record AddsNode (t : Tree) (old new : NodeWriter) (l : Link) (n : NodeNumber)
     (parent : Option ℕ) (id : ℕ) : Type 0 where
   pub kept : (s : Written) → IsKept t old s → IsParent s.nodes (path_at t l.parent) parent
-      → IsKept t new (after s (needed_by_attribute (attribute_at t l.attribute) ++ path_at t n ∷ []))
+      → IsKept t new
+      (after s (needed_by_attribute (attribute_at t l.attribute) ++ path_at t n ∷ []))
   pub at : (s : Written) → IsKept t old s → IsParent s.nodes (path_at t l.parent) parent
       → IsAt (after s (needed_by_attribute (attribute_at t l.attribute) ++ path_at t n ∷ [])).nodes
       (path_at t n) id

@@ -1,7 +1,8 @@
-use Rattle.std.specs.Prelude.{◌≡◌, ℕ, true, List, [], ◌∷◌, ◌++◌, Option}
+use Rattle.std.specs.Prelude.{◌≡◌, ℕ, true, List, [], ◌∷◌, Option}
 use Rattle.std.specs.List.{list_any}
 use Rattle.cal_value.specs.declared.attribute.Attribute.{Attribute}
-use Rattle.cal_write.specs.Nodes.{Node, same_node, node_of_attribute, needed_by_attribute, needed_below}
+use Rattle.cal_write.specs.Nodes.{Node, same_node}
+use Rattle.cal_write.specs.Nodes.{node_of_attribute, needed_by_attribute, needed_below}
 use Rattle.cal_write.specs.CanonicalText.{id_in, parent_id}
 
 -- a node is there

@@ -1,5 +1,6 @@
 ghost use Rattle.std.specs.Prelude.{◌≡◌, ◌∷◌, ◌++◌, [], IfOk, OnOk, map};
-ghost use Rattle.cal_write.specs.BuiltIn.{built_in_attribute, built_in_id, built_in_keys, key_of_built_in, key_of_kind};
+ghost use Rattle.cal_write.specs.BuiltIn.{built_in_attribute, built_in_id};
+ghost use Rattle.cal_write.specs.BuiltIn.{built_in_keys, key_of_built_in, key_of_kind};
 ghost use Rattle.cal_write.specs.Nodes.{first_kinds};
 
 use crate::described::DescribedNode;

@@ -1,12 +1,13 @@
 ghost use Rattle.std.specs.Prelude.{◌<◌, length, IfOk, OnOk};
 ghost use Rattle.cal_context.specs.Tree.{Grows};
-ghost use Rattle.cal_write.specs.Interning.{AddsImmediate, AddsImmediates, AddsPath, AddsPaths, IsReached, IsStep, Means};
+ghost use Rattle.cal_write.specs.Interning.{AddsImmediate, AddsImmediates, AddsPath};
+ghost use Rattle.cal_write.specs.Interning.{AddsPaths, IsReached, IsStep, Means};
 
 use cal_context::{Context, Immediate, NodeNumber, Snapshot};
 use cal_value::{Entry, OutOfMemory, Rec, Seq, TryCopy};
 use std::alloc::Global;
 
-/// Puts a record into a context, and makes the snapshot mean it. A path without entries is left out.
+/// Puts a record into a context, and makes the snapshot mean it, but for paths without entries.
 pub(crate) fn intern_record(
     alloc: Global,
     context: &mut Context,
@@ -27,7 +28,8 @@ fn intern_paths(
     paths: &[Seq<Entry>],
     nodes: &mut Vec<NodeNumber>,
 ) -> Result<(), OutOfMemory>
-    ensures adds { OnOk result (AddsPaths context.old context.new paths.now nodes.old.items nodes.new.items) }
+    ensures adds { OnOk result
+        (AddsPaths context.old context.new paths.now nodes.old.items nodes.new.items) }
     ensures grows { OnOk result (Grows context.old context.new) }
 {
     for path in paths {
@@ -41,7 +43,8 @@ fn intern_path(
     path: &[Entry],
     nodes: &mut Vec<NodeNumber>,
 ) -> Result<(), OutOfMemory>
-    ensures adds { OnOk result (AddsPath context.old context.new path.now nodes.old.items nodes.new.items) }
+    ensures adds { OnOk result
+        (AddsPath context.old context.new path.now nodes.old.items nodes.new.items) }
     ensures grows { OnOk result (Grows context.old context.new) }
 {
     if path.is_empty() {
@@ -82,7 +85,8 @@ fn intern_immediates(
     entries: &[Entry],
     imms: &mut Vec<Immediate>,
 ) -> Result<(), OutOfMemory>
-    ensures adds { OnOk result (AddsImmediates context.old context.new entries.now imms.old.items imms.new.items) }
+    ensures adds { OnOk result
+        (AddsImmediates context.old context.new entries.now imms.old.items imms.new.items) }
     ensures grows { OnOk result (Grows context.old context.new) }
 {
     for entry in entries {
@@ -97,7 +101,8 @@ fn intern_immediate(
     entry: &Entry,
     imms: &mut Vec<Immediate>,
 ) -> Result<(), OutOfMemory>
-    ensures adds { OnOk result (AddsImmediate context.old context.new entry.now imms.old.items imms.new.items) }
+    ensures adds { OnOk result
+        (AddsImmediate context.old context.new entry.now imms.old.items imms.new.items) }
     ensures grows { OnOk result (Grows context.old context.new) }
 {
     let attribute = context.attribute(&entry.attr)?;

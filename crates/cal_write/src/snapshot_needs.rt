@@ -33,7 +33,8 @@ pub(crate) fn need_immediates(
     ids: &mut Vec<u32>,
 ) -> Result<(), OutOfMemory>
     requires { All (λ i. i.attribute.0 < length context.now.attributes) imms.now }
-    ensures { OnOk result (NeedsImmediates context.now writer.old writer.new imms.now ids.new.items) }
+    ensures { OnOk result
+        (NeedsImmediates context.now writer.old writer.new imms.now ids.new.items) }
 {
     ids.clear();
     for imm in imms {

@@ -1,5 +1,6 @@
 ghost use Rattle.std.specs.Prelude.{IfOk};
-ghost use Rattle.cal_write.specs.Nodes.{node_of_props, node_of_attribute, needed_by_props, needed_by_attribute};
+ghost use Rattle.cal_write.specs.Nodes.{node_of_props, node_of_attribute};
+ghost use Rattle.cal_write.specs.Nodes.{needed_by_props, needed_by_attribute};
 ghost use Rattle.cal_write.specs.Stream.{AddsDescribed, AddsEntry, AddsLine, Describes, IsBegun};
 
 use crate::built_in::{BuiltIn, built_in_nodes};
@@ -65,8 +66,8 @@ impl Stream {
         })
     }
 
-    /// Gives the id of a node, and writes its line where it is new. A node of another than a built-in
-    /// attribute is new, as the caller knows.
+    /// Gives the id of a node, and writes its line where it is new. A node of another than a
+    /// built-in attribute is new, as the caller knows.
     pub(crate) fn add(
         &mut self,
         alloc: Global,
@@ -128,7 +129,8 @@ impl Stream {
     /// Writes the node of an attribute's properties, and gives its id, or that of the kind's node.
     fn describe_props(&mut self, alloc: Global, attribute: &Attribute) -> Result<u32, OutOfMemory>
         ensures { IfOk result (Describes self.old self.new
-            (needed_by_props attribute.now) (node_of_props attribute.now.props attribute.now.kind)) }
+            (needed_by_props attribute.now)
+            (node_of_props attribute.now.props attribute.now.kind)) }
     {
         let kind = attribute.kind.node() as u32;
         let props = attribute.props.0;

@@ -58,7 +58,8 @@ pub fn cali_text(alloc: Global, records: &Records) -> Result<Text, OutOfMemory>
     Ok(text)
 }
 
-/// Writes the canonical text of all records. The whole text is made before its first byte is written.
+/// Writes the canonical text of all records. The whole text is made before its first byte is
+/// written.
 pub fn write_records<W: Sink>(
     alloc: Global,
     output: &mut W,

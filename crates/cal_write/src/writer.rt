@@ -37,7 +37,7 @@ impl Writer {
         })
     }
 
-    /// The text of what was taken and of the globals, which are written last, if they have an entry.
+    /// The text of what was taken, and of the globals behind it, if they have an entry.
     pub fn finish(self, context: &Context, globals: &Snapshot) -> Result<Text, OutOfMemory>
         requires { IsIn context.now globals.now }
         ensures { IfOk result

@@ -165,7 +165,8 @@ fn kinds(alloc: Global) -> Result<Records, OutOfMemory> {
     without_globals(alloc, rows)
 }
 
-/// An attribute without properties, one of the same name with some, a path twice, an escape, and nothing.
+/// An attribute without properties, one of the same name with some, a path twice, an escape, and
+/// nothing.
 fn mixed(alloc: Global) -> Result<Records, OutOfMemory> {
     let plain = Said("x", Kind::Str, 0, Shown::Text("a,b=c\\d\ne"));
     let imms = [

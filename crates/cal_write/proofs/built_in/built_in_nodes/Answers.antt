@@ -1,4 +1,4 @@
-use Rattle.std.proofs.Common.{◌<◌, subst, arith}
+use Rattle.std.proofs.Common.{subst, arith}
 use Rattle.cal_context.specs.Lists.{Interns}
 use Rattle.cal_write.proofs.BuiltInLemmas.{names-step}
 use Rattle.cal_write.proofs.built_in.built_in_nodes.Goals as goal

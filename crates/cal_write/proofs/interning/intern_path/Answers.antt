@@ -1,8 +1,8 @@
-use Rattle.std.proofs.Common.{◌≡◌, ◌<◌, ℕ, List, length, sym, subst, arith}
+use Rattle.std.proofs.Common.{◌<◌, List, length, sym, subst, arith}
 use Rattle.std.proofs.lemmas.Bool.Decides.{nat_tests}
 use Rattle.cal_context.specs.declared.numbers.NodeNumber.{NodeNumber}
 use Rattle.cal_write.specs.Interning.{AddsPath}
-use Rattle.cal_write.proofs.InterningLemmas.{path-left-out, path-put}
+use Rattle.cal_write.proofs.InterningLemmas.{path-put}
 use Rattle.cal_write.proofs.interning.intern_path.Goals as goal
 
 pub returns-clause-adds : goal.returns-clause-adds

@@ -1,4 +1,4 @@
-use Rattle.std.proofs.Common.{ℕ, ◌+◌, List, sym, subst, take, option_to_list}
+use Rattle.std.proofs.Common.{ℕ, ◌+◌, List, sym, subst, take}
 use Rattle.std.proofs.lemmas.List.{take_all}
 use Rattle.cal_context.specs.declared.numbers.NodeNumber.{NodeNumber}
 use Rattle.cal_write.specs.SnapshotNeeds.{NeedsNodes}

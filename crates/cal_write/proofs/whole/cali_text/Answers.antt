@@ -1,4 +1,4 @@
-use Rattle.std.proofs.Common.{List, map, refl, sym, subst, ◌∙◌}
+use Rattle.std.proofs.Common.{List, map, subst}
 use Rattle.std.proofs.lemmas.List.{take_all}
 use Rattle.cal_value.specs.declared.record.Rec.{Rec}
 use Rattle.cal_write.specs.Interning.{without_empty}

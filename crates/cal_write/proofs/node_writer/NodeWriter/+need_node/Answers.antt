@@ -1,5 +1,5 @@
 use Rattle.std.proofs.Common.{sym}
-use Rattle.cal_write.proofs.KeptLemmas.{node-known, node-root, node-needed}
+use Rattle.cal_write.proofs.KeptLemmas.{node-known, node-needed}
 use Rattle.cal_write.proofs.node_writer.NodeWriter.+need_node.Goals as goal
 
 pub returns-in-Some-clause-needs : goal.returns-in-Some-clause-needs

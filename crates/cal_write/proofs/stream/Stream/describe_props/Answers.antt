@@ -1,5 +1,4 @@
 use Rattle.std.proofs.Common.{◌≡◌, pos, rules}
-use Rattle.cal_value.specs.declared.attribute.Entry.{Entry}
 use Rattle.cal_value.specs.declared.variant.Variant.TheVariants as value
 use Rattle.cal_write.specs.Nodes.{prop_attribute}
 use Rattle.cal_write.proofs.DescribeLemmas.{no-props, some-props}

@@ -1,4 +1,4 @@
-use Rattle.std.proofs.Common.{◌≡◌, sym, ◌∙◌}
+use Rattle.std.proofs.Common.{sym, ◌∙◌}
 use Rattle.cal_write.proofs.RecordLemmas.{globals-written}
 use Rattle.cal_write.proofs.writer.Writer.write_globals.Goals as goal
 
