@@ -3,8 +3,9 @@ ghost use Rattle.cal_agg.specs.Numbers.{IsSmall, IsWithin};
 ghost use Rattle.cal_agg.specs.Parts.{AreWithin, sum_over};
 
 use cal_agg::Num::{Fixed, Whole};
-use cal_agg::{AggRow, Cell, Count, Greatest, Kernel, Least, Num, Sum};
-use cal_agg::{average, kernel_of, percent_total};
+use cal_agg::{
+    AggRow, Cell, Count, Greatest, Kernel, Least, Num, Sum, average, kernel_of, percent_total,
+};
 use std::process::Abort;
 use std::test::Fail;
 
@@ -48,8 +49,16 @@ fn come_to(rt: &impl Abort, numbers: &[Num], results: Results) {
     } = results;
     assert_eq!(rt; sum.value(), total, "sum of {numbers:?}");
     assert_eq!(rt; least.value(), ends.map(|e| e.0), "least of {numbers:?}");
-    assert_eq!(rt; greatest.value(), ends.map(|e| e.1), "greatest of {numbers:?}");
-    assert_eq!(rt; average(&sum, numbers.len() as u64), mean, "average of {numbers:?}");
+    assert_eq!(rt;
+        greatest.value(),
+        ends.map(|e| e.1),
+        "greatest of {numbers:?}"
+    );
+    assert_eq!(rt;
+        average(&sum, numbers.len() as u64),
+        mean,
+        "average of {numbers:?}"
+    );
 }
 
 #[test]
@@ -80,7 +89,11 @@ fn fixed_numbers_come_to_fixed_ones(rt: HostRuntime) {
         ends: Some((Fixed(1), Fixed(200000000))),
         average: Some(Fixed(100000000)),
     };
-    come_to(&rt, &[Fixed(100000000), Fixed(200000000), Fixed(1)], results);
+    come_to(
+        &rt,
+        &[Fixed(100000000), Fixed(200000000), Fixed(1)],
+        results,
+    );
 }
 
 #[test]
@@ -148,7 +161,16 @@ fn percentages_round_towards_0(rt: HostRuntime) {
 
 #[test]
 fn a_percentage_of_too_large_a_measure_is_absent(rt: HostRuntime) {
-    let group = summed(&rt, &[Whole(LIMIT), Whole(LIMIT), Whole(LIMIT), Whole(LIMIT), Whole(LIMIT)]);
+    let group = summed(
+        &rt,
+        &[
+            Whole(LIMIT),
+            Whole(LIMIT),
+            Whole(LIMIT),
+            Whole(LIMIT),
+            Whole(LIMIT),
+        ],
+    );
     assert_eq!(rt; percent_total(&group, &group), Some(Whole(100)));
     let all = summed(&rt, &[Fixed(1)]);
     assert_eq!(rt; percent_total(&group, &all), None);

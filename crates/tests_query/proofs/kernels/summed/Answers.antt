@@ -5,4 +5,4 @@ use Rattle.tests_query.proofs.kernels.summed.Goals as goal
 pub returns : goal.returns
 returns c =
     rw c.kernel_of.ensures
-      (sum_over-within_118 c.args.numbers.now c.check.ensures.small c.check.ensures.few)
+    (sum_over-within_118 c.args.numbers.now c.check.ensures.small c.check.ensures.few)
