@@ -1,4 +1,4 @@
-// The probing of `bench_rows` over plain atomics; `bench/rows` builds and runs it beside that program.
+// The probing of `bench rows` over plain atomics; `bench/rows` builds and runs it beside that.
 use std::sync::atomic::{AtomicU64, Ordering::SeqCst};
 use std::time::Instant;
 

@@ -21,8 +21,8 @@ pub fn by_bytes(alloc: Global, text: &str) -> Result<Vec<u8>>
     Ok(out)
 }
 
-/// The same through a buffer that is emptied where it is full, as if it were written on. It answers how many
-/// bytes went through.
+/// The same through a buffer that is emptied where it is full, as if it were written on. It answers
+/// how many bytes went through.
 pub fn through_a_buffer(alloc: Global, text: &str) -> Result<usize> {
     let mut buffer = Vec::with_capacity(alloc, BUFFER)?;
     let mut through = 0usize;

@@ -1,10 +1,12 @@
-//! Times parts of the program: `bench values`, `bench rows` and `bench write`.
+//! Times parts of the program: `bench values`, `bench rows`, `bench write` and `bench line`.
 //!
 //! With no word it does nothing and writes nothing, as the gate runs it. What is timed is proved to
 //! be what it says; of the times nothing is promised.
 #![tactic(auto)]
 
 mod copying;
+mod line;
+mod plain;
 mod records;
 mod rows;
 mod values;
@@ -19,7 +21,8 @@ fn main(rt: HostRuntime) -> Result<()> {
             "values" => values::measure(&rt)?,
             "rows" => rows::measure(&rt)?,
             "write" => write::measure(&rt)?,
-            _ => println!(rt; "there is no bench `{word}`: values, rows or write")?,
+            "line" => line::measure(&rt)?,
+            _ => println!(rt; "there is no bench `{word}`: values, rows, write or line")?,
         }
     }
     Ok(())

@@ -41,14 +41,18 @@ pub const WRITING: Shape = Shape {
     ],
 };
 
-/// So many records, of which every second one is of the other shape.
+/// So many records, of which every second one is of the other shape, and no globals.
 pub fn in_turn(alloc: Global, one: &Shape, other: &Shape, count: usize) -> Result<Records> {
     let mut rows = Seq::new(alloc);
     for number in 0..count {
         let shape = if number % 2 == 0 { one } else { other };
         rows.push(record(alloc, shape, number % 2 + 1)?)?;
     }
-    Ok(Records { rows })
+    let globals = Rec {
+        paths: Seq::new(alloc),
+        imms: Seq::new(alloc),
+    };
+    Ok(Records { rows, globals })
 }
 
 /// A record of this shape; its numbers go by `variant`.

@@ -78,7 +78,7 @@ fn time_round(rt: &impl Clock, alloc: Global, records: &Records) -> Result<(Time
 }
 
 fn written(alloc: Global, records: &Records) -> Result<Text>
-    ensures { IfOk result (λ text. text ≡ canonical_text records.now.rows) }
+    ensures { IfOk result (λ text. text ≡ canonical_text records.now) }
 {
     Ok(cali_text(alloc, records)?)
 }

@@ -1,5 +1,5 @@
 use Rattle.std.proofs.Common.{◌≡◌}
-use Rattle.bench_line.proofs.plain_all.Given as goal
+use Rattle.bench.proofs.plain.plain_all.Given as goal
 
 -- the lines so far are counted
 abbrev pub invariant-loop-line : goal.invariant-loop-line

@@ -1,5 +1,5 @@
 use Rattle.std.proofs.Common.{◌≡◌}
-use Rattle.bench_line.proofs.plain_line.Given as goal
+use Rattle.bench.proofs.plain.plain_line.Given as goal
 
 -- the line isn't counted yet
 abbrev pub invariant-loop-piece : goal.invariant-loop-piece

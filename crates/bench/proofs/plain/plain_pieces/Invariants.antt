@@ -1,5 +1,5 @@
 use Rattle.std.proofs.Common.{◌+◌, ◌-◌, ◌≤◌, length}
-use Rattle.bench_line.proofs.plain_pieces.Given as goal
+use Rattle.bench.proofs.plain.plain_pieces.Given as goal
 
 abbrev pub invariant-loop-place : goal.invariant-loop-place
 invariant-loop-place l = l.place ≤ length l.line + 1

@@ -1,5 +1,5 @@
 use Rattle.std.proofs.Common.{◌≡◌}
-use Rattle.bench_line.proofs.tally_line.Given as goal
+use Rattle.bench.proofs.line.tally_line.Given as goal
 
 -- the line isn't counted yet
 abbrev pub invariant-loop-place : goal.invariant-loop-place

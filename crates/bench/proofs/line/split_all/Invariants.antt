@@ -1,5 +1,5 @@
 use Rattle.std.proofs.Common.{◌≡◌}
-use Rattle.bench_line.proofs.split_all.Given as goal
+use Rattle.bench.proofs.line.split_all.Given as goal
 
 -- the lines so far are counted
 abbrev pub invariant-loop-line : goal.invariant-loop-line

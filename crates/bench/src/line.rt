@@ -1,0 +1,103 @@
+ghost use Rattle.std.specs.Prelude.{◌≡◌, length, IfOk};
+
+use crate::plain::{NOTHING, Tally, plain_all};
+use anyhow::Result;
+use cal_line::{FieldEnd, FieldPieces, Splitter};
+use std::alloc::Global;
+use std::rt::Clock;
+use std::time::Instant;
+
+/// Lines like those of a stream; one piece in forty has an escape.
+const SAMPLES: [&str; 8] = [
+    "__rec=node,id=1048571,attr=8,data=main,parent=1048570",
+    "__rec=node,id=1048572,attr=8,data=compute_residual,parent=1048571",
+    "__rec=ctx,ref=1048572=1048563,attr=31=32,data=17=3.25",
+    "__rec=ctx,ref=1048571",
+    "__rec=node,id=1048573,attr=12,data=a\\,b\\=c,parent=1048572",
+    "__rec=ctx,ref=1048573=1048563=12,attr=31=32=33,data=18=1048576=0.000001",
+    "__rec=node,id=1048574,attr=10,data=64,parent=3",
+    "__rec=ctx,ref=1048574=1048563,attr=31=32,data=-1=77371252455336267181195264",
+];
+
+const BYTES: usize = 46_000_000;
+
+/// Times the splitting of 46 MB of lines five times, beside a plain loop over their bytes.
+pub fn measure(rt: &(impl Clock + Print + AllocGlobal)) -> Result<()> {
+    let alloc = rt.alloc();
+    let text = stream(alloc)?;
+    let mut lines = Vec::new(alloc);
+    for line in text.lines() {
+        lines.push(line)?;
+    }
+    println!(rt; "{} bytes", text.len())?;
+    for _round in 0..5 {
+        time_round(rt, alloc, lines.as_slice())?;
+    }
+    Ok(())
+}
+
+fn stream(alloc: Global) -> Result<String> {
+    let mut text = String::new(alloc);
+    for round in 0..BYTES / 56 {
+        text.push_str(SAMPLES[round % 8])?;
+        text.push_str("\n")?;
+    }
+    Ok(text)
+}
+
+fn tally_field(alloc: Global, field: &FieldPieces, tally: &mut Tally) -> Result<(), FieldEnd>
+    ensures { tally.new.lines ≡ tally.old.lines }
+{
+    let mut bytes = field.key().text(alloc)?.len();
+    for place in 0..field.value_count() {
+        bytes = bytes.wrapping_add(field.value(place).text(alloc)?.len());
+    }
+    tally.pieces = tally.pieces.wrapping_add(field.value_count());
+    tally.bytes = tally.bytes.wrapping_add(bytes);
+    Ok(())
+}
+
+fn tally_line(
+    alloc: Global,
+    splitter: &mut Splitter,
+    line: &str,
+    tally: &mut Tally,
+) -> Result<(), FieldEnd>
+    ensures { tally.new.lines ≡ tally.old.lines }
+{
+    let fields = splitter.split(line)?;
+    for place in 0..fields.len() {
+        tally_field(alloc, &fields.get(place), tally)?;
+    }
+    tally.pieces = tally.pieces.wrapping_add(fields.len());
+    Ok(())
+}
+
+fn split_all(alloc: Global, lines: &[&str]) -> Result<Tally, FieldEnd>
+    ensures { IfOk result (λ tally. tally.lines ≡ length lines.now) }
+{
+    let mut splitter = Splitter::new(alloc);
+    let mut tally = NOTHING;
+    for line in lines {
+        tally_line(alloc, &mut splitter, line, &mut tally)?;
+        tally.lines += 1;
+    }
+    Ok(tally)
+}
+
+fn report(rt: &(impl Clock + Print), what: &str, from: Instant, tally: Tally) -> Result<()> {
+    let micros = from.elapsed(rt)?.as_micros();
+    println!(rt; "  {what}: {micros} us ({tally:?})")?;
+    Ok(())
+}
+
+fn time_round(rt: &(impl Clock + Print), alloc: Global, lines: &[&str]) -> Result<()> {
+    let started = Instant::now(rt)?;
+    let split = split_all(alloc, lines)?;
+    report(rt, "split", started, split)?;
+    let again = Instant::now(rt)?;
+    let plain = plain_all(alloc, lines)?;
+    report(rt, "plain", again, plain)?;
+    println!(rt; "  the same was seen: {}", split == plain)?;
+    Ok(())
+}
