@@ -59,6 +59,7 @@ __rec=ctx,ref=14
 ";
 
 /// What a run leaves: the records, and how many nodes its context has.
+#[derive(Drop)]
 struct Ran {
     rows: Seq<Rec>,
     nodes: usize,
