@@ -1,18 +1,24 @@
 -- A thread that gets one line more is as good as before.
-use Rattle.std.proofs.Common.{◌≡◌, ℕ, ◌+◌, ◌-◌, ◌<◌, ◌≤◌, Bool, true, false, cond, ltb, List, [], ◌∷◌, ◌++◌, length, All, refl, sym, ◌∙◌, arith, inl, inr, ◌&&◌}
+use Rattle.std.proofs.Common.{◌≡◌, ℕ, ◌+◌, ◌-◌, ◌<◌, ◌≤◌, Bool, true, false, cond, ltb, List, [], ◌∷◌, ◌++◌, length, All, Some, refl, sym, ap, ◌∙◌, arith, inl, inr, ◌&&◌}
 use Rattle.std.specs.List.{sum_by}
-use Rattle.std.proofs.lemmas.Bool.{false≢true, ltb-true, cases_lt}
+use Rattle.std.proofs.lemmas.Bool.{false≢true, ltb-true, lt-ltb, cases_lt}
 use Rattle.std.proofs.lemmas.List.{length_push, take_all, take-append-le}
 use Rattle.std.proofs.lemmas.List.Sums.{sum_by_push}
 use Rattle.std.proofs.lemmas.List.Elements.{All-head, All-cons, All-nil, All-push, All-weaker}
+use Rattle.std.proofs.lemmas.Option.{slice_get_within}
 use Rattle.cal_value.specs.declared.variant.Variant.{Variant}
 use Rattle.cal_value.specs.declared.variant.Variant.TheVariants.{Text}
 use Rattle.cal_script.specs.declared.script.Line.{Line}
 use Rattle.cal_script.specs.declared.script.Line.TheVariants.{Begin, End, Snapshot}
 use Rattle.cal_script.specs.declared.reader.Reader.{Reader}
 use Rattle.cal_script.specs.Depth.{is_begin, is_end, opened, closed, KeepsDepth}
+use Rattle.cal_context.specs.Lists.{AreApart, Interns}
+use Rattle.cal_context.proofs.CallerLemmas.{All-Adds}
+use Rattle.cal_context.proofs.ListLemmas.{AreApart-Adds, IsFront-Adds, length-IsFront}
 use Rattle.cal_script.specs.Shape.{IsShortText, IsPlaced}
-use Rattle.cal_script.specs.Reading.{has_room}
+use Rattle.cal_script.specs.Reading.{has_room, open_now, begun, begin_after}
+use Rattle.cal_script.specs.Parts.{opening_of}
+use Rattle.cal_script.proofs.Values.{with_value-Adds, value_place-apart}
 use Rattle.cal_script.specs.Reader.{threads_of, script_of, IsReading}
 
 -- what there is room for a line in
@@ -45,11 +51,11 @@ with_line reader values line open_after = record reader { values = values; lines
 record IsNextLine (reader : Reader) (values : List Variant) (line : Line) (open_after : ℕ) : Type 0 where
   room : has_room (script_of reader) ≡ true
   texts : All IsShortText values
+  once : AreApart values
   more : length reader.values ≤ length values
   placed : IsPlaced (length reader.attributes) (length values) line
   depth : closed reader.lines + cond (is_end line) 1 0 + open_after ≡ opened reader.lines + cond (is_begin line) 1 0
   shallow : open_after ≤ 128
-  numbered : length values ≡ opened reader.lines + cond (is_begin line) 1 0
 
 line_read : (reader : Reader) (values : List Variant) (line : Line) (open_after : ℕ) → IsReading reader → IsNextLine reader values line open_after → IsReading (with_line reader values line open_after)
 unfolding with_line
@@ -76,29 +82,41 @@ line_read reader values line open_after reading next =
         attributes = old.attributes;
         channels = old.channels;
         values = next.texts;
+        once = next.once;
         few_lines = rw e (omega arith);
         places = rw e (All-cons (All (IsPlaced (length reader.attributes) (length values))) (reader.lines ++ line ∷ []) [] now_placed (All-nil (All (IsPlaced (length reader.attributes) (length values)))));
         depths = rw e (All-cons KeepsDepth (reader.lines ++ line ∷ []) [] now_keeps (All-nil KeepsDepth));
       };
       idle = λ idle. absurd (false≢true (sym idle ∙ e));
       counted = omega (arith, next.depth);
-      numbered = omega (arith, next.numbered);
     }
 
-pub begin_read : (reader : Reader) (attr : ℕ) (text : List ℕ) → IsReading reader → has_room (script_of reader) ≡ true → reader.depth < 128 → attr < length reader.attributes → length text ≤ 4096
-    → IsReading (record reader { values = reader.values ++ Text text ∷ []; lines = reader.lines ++ Begin attr (length reader.values) ∷ []; depth = reader.depth + 1 })
+pub begin_read : (reader : Reader) (attr : ℕ) (text : List ℕ) (values : List Variant) (value : ℕ) → IsReading reader → Interns reader.values (Text text) values value
+    → has_room (script_of reader) ≡ true → reader.depth < 128 → attr < length reader.attributes → length text ≤ 4096
+    → IsReading (record reader { values = values; lines = reader.lines ++ Begin attr value ∷ []; depth = reader.depth + 1 })
 unfolding with_line
-begin_read reader attr text reading room shallow placed short =
-    let longer = length_push reader.values (Text text) in
-    line_read reader (reader.values ++ Text text ∷ []) (Begin attr (length reader.values)) (reader.depth + 1) reading (record {
+begin_read reader attr text values value reading interns room shallow placed short =
+    line_read reader values (Begin attr value) (reader.depth + 1) reading (record {
       room = room;
-      texts = All-push IsShortText reader.values (Text text) reading.script.values short;
-      more = omega arith;
-      placed = (placed, omega arith);
+      texts = All-Adds IsShortText reader.values (Text text) values reading.script.values short interns.adds;
+      once = AreApart-Adds reader.values (Text text) values reading.script.once interns.adds;
+      more = length-IsFront reader.values values (IsFront-Adds reader.values (Text text) values interns.adds);
+      placed = (placed, slice_get_within values value (Text text) interns.number);
       depth = omega (arith, reading.counted);
       shallow = omega arith;
-      numbered = omega (arith, reading.numbered);
     })
+
+-- the script that the reader says then
+pub begin_said : (reader : Reader) (words : List (List ℕ)) (attr : ℕ) (text : List ℕ) (values : List Variant) (value : ℕ) → IsReading reader → Interns reader.values (Text text) values value
+    → has_room (script_of reader) ≡ true → reader.depth < 128 → opening_of reader.attributes words ≡ Some (attr, text)
+    → begin_after (script_of reader) words ≡ Some (script_of (record reader { values = values; lines = reader.lines ++ Begin attr value ∷ []; depth = reader.depth + 1 }))
+begin_said reader words attr text values value reading interns room shallow opening =
+    let e : reader.in_thread ≡ true = (room_is reader.in_thread reader.lines room).0 in
+    let few : open_now (script_of reader) < 128 = rw e (omega (arith, reading.counted)) in
+    let added = with_value-Adds reader.values (Text text) values interns.adds in
+    let place = value_place-apart values (Text text) value (AreApart-Adds reader.values (Text text) values reading.script.once interns.adds) interns.number in
+    let same : begun (script_of reader) attr (Text text) ≡ script_of (record reader { values = values; lines = reader.lines ++ Begin attr value ∷ []; depth = reader.depth + 1 }) = rw (added, place, e) refl in
+    rw (opening, room, lt-ltb (open_now (script_of reader)) 128 few) (ap Some same)
 
 open_at_most : (reader : Reader) → IsReading reader → has_room (script_of reader) ≡ true → reader.depth ≤ 128
 open_at_most reader reading room =
@@ -115,11 +133,11 @@ end_read reader attr reading room some placed =
     line_read reader reader.values (End attr) (reader.depth - 1) reading (record {
       room = room;
       texts = reading.script.values;
+      once = reading.script.once;
       more = omega arith;
       placed = placed;
       depth = omega (arith, reading.counted);
       shallow = omega (arith, open_at_most reader reading room);
-      numbered = omega (arith, reading.numbered);
     })
 
 pub snapshot_read : (reader : Reader) → IsReading reader → has_room (script_of reader) ≡ true → IsReading (record reader { lines = reader.lines ++ Snapshot ∷ [] })
@@ -128,9 +146,9 @@ snapshot_read reader reading room =
     line_read reader reader.values Snapshot reader.depth reading (record {
       room = room;
       texts = reading.script.values;
+      once = reading.script.once;
       more = omega arith;
       placed = tt;
       depth = omega (arith, reading.counted);
       shallow = open_at_most reader reading room;
-      numbered = omega (arith, reading.numbered);
     })

@@ -2,6 +2,7 @@ pub mod Lines
 pub mod Names
 pub mod Depth
 pub mod Parts
+pub mod Values
 pub mod Reading
 pub mod Kinds
 pub mod Spelled

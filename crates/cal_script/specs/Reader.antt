@@ -1,5 +1,5 @@
 -- What the reader of a script knows of the lines so far (private).
-use Rattle.std.specs.Prelude.{◌≡◌, ◌+◌, Bool, true, false, List, [], ◌∷◌, length}
+use Rattle.std.specs.Prelude.{◌≡◌, ◌+◌, Bool, true, false, List, [], ◌∷◌}
 use Rattle.cal_script.specs.declared.script.Script.{Script}
 use Rattle.cal_script.specs.declared.script.Line.{Line}
 use Rattle.cal_script.specs.declared.reader.Reader.{Reader}
@@ -25,4 +25,3 @@ pub record IsReading (reader : Reader) : Type 0 where
   pub script : IsScript (script_of reader)
   pub idle : reader.in_thread ≡ false → reader.lines ≡ []
   pub counted : closed reader.lines + reader.depth ≡ opened reader.lines
-  pub numbered : length reader.values ≡ opened reader.lines

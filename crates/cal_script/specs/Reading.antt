@@ -2,6 +2,7 @@
 -- that is read so far: a line that isn't of it may not stand.
 use Rattle.std.specs.Prelude.{ℕ, Bool, List, [], ◌∷◌, ◌++◌, length, Option, Some, None, codes, sum_by, nat_lt, not, ◌==◌, ◌&&◌, if◌then◌else◌}
 use Rattle.std.specs.Str.{bytes_eq, is_utf8}
+use Rattle.cal_value.specs.declared.variant.Variant.{Variant}
 use Rattle.cal_value.specs.declared.variant.Variant.TheVariants.{Text}
 use Rattle.cal_script.specs.declared.script.Script.{Script}
 use Rattle.cal_script.specs.declared.script.Line.{Line}
@@ -9,6 +10,7 @@ use Rattle.cal_script.specs.declared.script.Line.TheVariants.{Begin, End, Snapsh
 use Rattle.cal_script.specs.Lines.{lines_of, words_of, is_skipped}
 use Rattle.cal_script.specs.Parts.{◌>>=◌, attribute_of, channel_of, opening_of, closing_of}
 use Rattle.cal_script.specs.Depth.{open_count}
+use Rattle.cal_script.specs.Values.{with_value, value_place}
 
 -- the script without lines
 abbrev pub no_lines : Script
@@ -56,16 +58,22 @@ thread_after script [] =
     then Some (record script { threads = script.threads ++ [] ∷ [] }) else None
 thread_after script (word ∷ words) = None
 
+-- the script with a line more that opens a value of an attribute: the values with this one, and the
+-- line names its place there
+abbrev pub begun : Script → ℕ → Variant → Script
+begun script attr value =
+    let values = with_value script.values value in
+    record script {
+      values = values;
+      threads = add_line (Begin attr (value_place values value)) script.threads;
+    }
+
 -- `begin ..` opens a value, where fewer than 128 are open (Giltmoth's limit)
 abbrev pub begin_after : Script → List (List ℕ) → Option Script
 begin_after script words = do
   opening ← opening_of script.attributes words
   if has_room script && nat_lt (open_now script) 128
-      then Some (record script {
-        values = script.values ++ Text opening.1 ∷ [];
-        threads = add_line (Begin opening.0 (length script.values)) script.threads;
-      })
-      else None
+      then Some (begun script opening.0 (Text opening.1)) else None
 
 -- `end ..` closes the value that was opened last
 abbrev pub end_after : Script → List (List ℕ) → Option Script

@@ -8,6 +8,7 @@ use Rattle.cal_script.specs.declared.script.Script.{Script}
 use Rattle.cal_script.specs.declared.script.Line as lines
 use Rattle.cal_script.specs.declared.script.Line.TheVariants as line
 use Rattle.cal_script.specs.Names.{is_name, is_attribute_name}
+use Rattle.cal_context.specs.Lists.{AreApart}
 use Rattle.cal_script.specs.Depth.{KeepsDepth}
 
 -- an attribute of the kind `string` and the properties 276, under a name that may be declared
@@ -28,7 +29,7 @@ IsPlaced attributes values (line.End attr) = attr < attributes
 IsPlaced attributes values line.Snapshot = Unit {0}
 
 -- A script that bytes say: one attribute, one channel and one thread at most, each where the one
--- before it stands, and every line of the thread can be run.
+-- before it stands, each value once, and every line of the thread can be run.
 pub record IsScript (script : Script) : Type 0 where
   pub one_attribute : length script.attributes ≤ 1
   pub channel_behind_attribute : length script.channels ≤ length script.attributes
@@ -36,6 +37,7 @@ pub record IsScript (script : Script) : Type 0 where
   pub attributes : All IsNestedText script.attributes
   pub channels : All (λ channel. IsTrue (is_name channel.name)) script.channels
   pub values : All IsShortText script.values
+  pub once : AreApart script.values
   pub few_lines : sum_by length script.threads ≤ 1048576
   pub places : All (All (IsPlaced (length script.attributes) (length script.values))) script.threads
   pub depths : All KeepsDepth script.threads

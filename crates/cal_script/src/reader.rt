@@ -8,6 +8,7 @@ use crate::end::{BAD, LineEnd};
 use crate::parts::{attribute_of, channel_of, closing_of, opening_of};
 use crate::words::{first_word, is_skipped};
 use crate::{Channel, Line, Script};
+use cal_context::Interner;
 use cal_value::{Attribute, OutOfMemory, Seq, Variant};
 use std::alloc::Global;
 
@@ -21,7 +22,7 @@ const MOST_OPEN: usize = 128;
 pub(crate) struct Reader {
     attributes: Seq<Attribute>,
     channels: Seq<Channel>,
-    values: Seq<Variant>,
+    values: Interner<Variant>,
     in_thread: bool,
     lines: Seq<Line>,
     depth: usize,
@@ -36,7 +37,7 @@ impl Reader {
         Reader {
             attributes: Seq::new(alloc),
             channels: Seq::new(alloc),
-            values: Seq::new(alloc),
+            values: Interner::new(alloc),
             in_thread: false,
             lines: Seq::new(alloc),
             depth: 0,
@@ -163,8 +164,7 @@ impl Reader {
         if !self.has_room() || self.depth >= MOST_OPEN {
             return Err(BAD);
         }
-        let value = self.values.len() as u32;
-        self.values.push(Variant::Text(text))?;
+        let value = self.values.intern(Variant::Text(text))?;
         self.lines.push(Line::Begin { attr, value })?;
         self.depth += 1;
         Ok(())

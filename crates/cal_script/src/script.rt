@@ -1,12 +1,13 @@
+use cal_context::Interner;
 use cal_value::{Attribute, Seq, Text, Variant};
 
 /// What a script declares and what its threads do.
-#[derive(Debug, Drop)]
+#[derive(Drop)]
 pub struct Script {
     pub attributes: Seq<Attribute>,
     pub channels: Seq<Channel>,
-    /// The values of the lines that open one, in the order of the lines.
-    pub values: Seq<Variant>,
+    /// The values that lines open, each once, in the order in which they are first opened.
+    pub values: Interner<Variant>,
     pub threads: Seq<Seq<Line>>,
 }
 

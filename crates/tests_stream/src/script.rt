@@ -64,12 +64,47 @@ fn values_are_read_with_their_escapes(rt: HostRuntime) -> Result<(), Fail> {
     )?;
     let script = read_script(rt.alloc(), text.as_bytes())?;
     let wanted = ["a,b=c\\d\ne", "", " two  wordsé\\"];
-    assert_eq!(rt; script.values.len(), wanted.len());
+    assert_eq!(rt; script.values.as_slice().len(), wanted.len());
     for (value, wanted) in script.values.as_slice().iter().zip(wanted) {
         match value {
             Variant::Text(text) => assert_eq!(rt; text.as_str(), wanted),
             _ => assert!(rt; false, "a value is a text"),
         }
+    }
+    Ok(())
+}
+
+#[test]
+fn each_value_stands_once(rt: HostRuntime) -> Result<(), Fail> {
+    let text = behind_head(
+        rt.alloc(),
+        &[
+            ("begin function b\n", 1),
+            ("begin function a\n", 2),
+            ("end function\n", 3),
+            ("begin function \\b\n", 1),
+        ],
+    )?;
+    let script = read_script(rt.alloc(), text.as_bytes())?;
+    let values = ["b", "a"];
+    assert_eq!(rt; script.values.as_slice().len(), values.len());
+    for (value, wanted) in script.values.as_slice().iter().zip(values) {
+        match value {
+            Variant::Text(text) => assert_eq!(rt; text.as_str(), wanted),
+            _ => assert!(rt; false, "a value is a text"),
+        }
+    }
+    let lines = [
+        Line::Begin { attr: 0, value: 0 },
+        Line::Begin { attr: 0, value: 1 },
+        Line::Begin { attr: 0, value: 1 },
+        Line::End { attr: 0 },
+        Line::End { attr: 0 },
+        Line::End { attr: 0 },
+        Line::Begin { attr: 0, value: 0 },
+    ];
+    for thread in script.threads.as_slice() {
+        assert_eq!(rt; thread.as_slice(), lines.as_slice());
     }
     Ok(())
 }
