@@ -1,5 +1,5 @@
 -- What is of the grammar is read: the clauses, and the whole text.
-use Rattle.std.proofs.Common.{◌≡◌, ℕ, zero, suc, ◌≤◌, Bool, true, false, cond, List, [], ◌∷◌, Option, Some, None, Ok, refl, ap, ◌∙◌, arith}
+use Rattle.std.proofs.Common.{◌≡◌, ℕ, zero, suc, ◌≤◌, Bool, true, false, List, [], ◌∷◌, Some, None, Ok, refl, ap, ◌∙◌, arith}
 use Rattle.std.specs.Prelude.{is_some}
 use Rattle.cal_ql.specs.declared.clauses.Clauses.{Clauses}
 use Rattle.cal_ql.specs.declared.token.Sign.TheVariants as signed
