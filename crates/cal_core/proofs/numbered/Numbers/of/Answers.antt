@@ -9,5 +9,5 @@ returns-clause-numbered c =
     record {
       attributes = AttributesStand-Grows c.in_ok-values.ensures.grows _ _
           (subst (AttributesStand c.number_attributes.new.context c.in_ok-attributes.attributes.items) c.as_slice.ensures c.in_ok-attributes.ensures.numbered);
-      values = subst (ValuesStand now c.in_ok-values.values.items) c.as_slice-2.ensures c.in_ok-values.ensures.numbered;
+      values = subst (ValuesStand now c.in_ok-values.values.items) c.as_slice-2.ensures.items c.in_ok-values.ensures.numbered;
     }
