@@ -7,7 +7,7 @@ use std::alloc::Global;
 use std::rt::Clock;
 use std::time::Instant;
 
-/// Lines like those of a stream; one piece in forty has an escape.
+/// Lines like those of a stream; one piece in eighty has an escape.
 const SAMPLES: [&str; 8] = [
     "__rec=node,id=1048571,attr=8,data=main,parent=1048570",
     "__rec=node,id=1048572,attr=8,data=compute_residual,parent=1048571",
