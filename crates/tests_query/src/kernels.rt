@@ -199,6 +199,20 @@ fn a_cell_keeps_a_sum_and_both_ends(rt: HostRuntime) {
     assert_eq!(rt; cell.greatest.value(), Some(Whole(3)));
 }
 
+// A sum that is doubled 40 times from 2^86 just reaches 2^126.
+#[tactic(auto, using(crate::proofs::Doubled::doubled_parts))]
+#[test]
+fn a_sum_reaches_2_to_126(rt: HostRuntime) {
+    let mut sum = Sum::start();
+    sum.add(Whole(LIMIT));
+    for bits in 86..126u32 {
+        let _ = bits;
+        let copy = sum;
+        sum.merge(&copy);
+    }
+    assert_eq!(rt; sum.value(), Some(Whole(1 << 126)));
+}
+
 // A count that is doubled 40 times from 2^86 just reaches 2^126.
 #[test]
 fn a_count_reaches_2_to_126(rt: HostRuntime) {
