@@ -101,7 +101,9 @@ fn read_input<S: Source>(alloc: Global, input: &mut S) -> Result<Script, Fault>
         Err(ReadEnd::TooLong) => return Err(Fault::TooLong),
         Err(ReadEnd::OutOfMemory) => return Err(Fault::OutOfMemory),
     };
-    match read_script(alloc, bytes.as_slice()) {
+    let read = read_script(alloc, bytes.as_slice());
+    give_back(bytes);
+    match read {
         Ok(script) => Ok(script),
         Err(ScriptEnd::BadLine { line, kind }) => Err(Fault::BadInput {
             line,
@@ -109,4 +111,11 @@ fn read_input<S: Source>(alloc: Global, input: &mut S) -> Result<Script, Fault>
         }),
         Err(ScriptEnd::OutOfMemory) => Err(Fault::OutOfMemory),
     }
+}
+
+/// Drops the input, shrunk first: where a big block is freed at once, glibc takes later ones from
+/// its heap, in which each that outgrows its place leaves a hole.
+fn give_back(mut bytes: Vec<u8>) {
+    bytes.truncate(1);
+    bytes.shrink_to_fit();
 }
