@@ -1,5 +1,5 @@
 -- A number that is doubled.
-use Rattle.std.proofs.Common.{◌≡◌, ℕ, ◌+◌, ◌*◌, ◌<◌, ◌≤◌, ◌^◌, ℤ, ◌+ℤ◌, arith}
+use Rattle.std.proofs.Common.{◌≡◌, ℕ, ◌+◌, ◌*◌, ◌<◌, ◌≤◌, ◌^◌, ℤ, ◌+ℤ◌, subst, refl, arith}
 use Rattle.std.specs.Int.RustNames.{unsigned_abs}
 use Rattle.std.proofs.lemmas.Int.{ints}
 use Rattle.std.proofs.lemmas.Grind.{pow_more}
@@ -23,8 +23,9 @@ doubled_within z bits h short =
 
 doubled_part : (o : Option ℤ) (bits : ℕ) → ForSome o (IsWithin bits)
     → ForSome (both ◌+ℤ◌ o o) (IsWithin (bits + 1))
-doubled_part None bits h = tt
-doubled_part (Some z) bits h = doubled z bits h
+doubled_part None bits h x e = absurd cc
+doubled_part (Some z) bits h x e =
+    let is : z +ℤ z ≡ x = cc in subst (IsWithin (bits + 1)) is (doubled z bits (h z refl))
 
 pub doubled_parts : (p : Parts) (bits : ℕ) → AreWithin bits p
     → AreWithin (bits + 1) (merged_by ◌+ℤ◌ p p)
@@ -33,11 +34,11 @@ doubled_parts p bits h = record {
   fixed = doubled_part p.fixed bits h.fixed;
 }
 
+-- what is within a power of two is within a greater one
 pub parts_within : (p : Parts) (bits : ℕ) → AreWithin bits p → bits ≤ 126 → AreWithin 126 p
-parts_within p bits h short = record {
-  whole = within p.whole h.whole;
-  fixed = within p.fixed h.fixed;
-} where
-  within : (o : Option ℤ) → ForSome o (IsWithin bits) → ForSome o (IsWithin 126)
-  within None h = tt
-  within (Some z) h = let most : 2 ^ bits ≤ 2 ^ 126 = pow_mono {i = bits} {j = 126} (omega arith) in omega arith
+parts_within p bits h short =
+    let most : 2 ^ bits ≤ 2 ^ 126 = pow_mono {i = bits} {j = 126} short in
+    record {
+      whole = λ x e. let within : unsigned_abs x ≤ 2 ^ bits = h.whole x e in omega arith;
+      fixed = λ x e. let within : unsigned_abs x ≤ 2 ^ bits = h.fixed x e in omega arith;
+    }

@@ -200,7 +200,6 @@ fn a_cell_keeps_a_sum_and_both_ends(rt: HostRuntime) {
 }
 
 // A sum that is doubled 40 times from 2^86 just reaches 2^126.
-#[tactic(auto, using(crate::proofs::Doubled::doubled_parts))]
 #[test]
 fn a_sum_reaches_2_to_126(rt: HostRuntime) {
     let mut sum = Sum::start();

@@ -86,7 +86,11 @@ fn nodes_hang_by_links(rt: HostRuntime) -> Result<(), Fail> {
             return Err("no link".into());
         };
         assert_eq!(rt; link.parent, NodeNumber(parent), "of node {node}");
-        assert_eq!(rt; value(&context, link.value), Some(&text(rt.alloc(), name)?), "of {node}");
+        assert_eq!(rt;
+            value(&context, link.value),
+            Some(&text(rt.alloc(), name)?),
+            "of {node}"
+        );
     }
     assert!(rt; link(&context, NodeNumber::ROOT).is_none());
     Ok(())
@@ -212,11 +216,7 @@ fn fill(
 }
 
 /// Passes a snapshot to a taker.
-fn pass<T: Taker>(
-    context: &Context,
-    snapshot: &Snapshot,
-    taker: &mut T,
-) -> Result<(), OutOfMemory>
+fn pass<T: Taker>(context: &Context, snapshot: &Snapshot, taker: &mut T) -> Result<(), OutOfMemory>
     requires { IsIn context.now snapshot.now }
 {
     taker.take(context, snapshot)

@@ -2,4 +2,4 @@ use Rattle.cal_agg.specs.Numbers.{IsWithin}
 use Rattle.tests_query.proofs.kernels.a_count_reaches_2_to_126.Given as goal
 
 abbrev pub invariant-loop-bits : goal.invariant-loop-bits
-invariant-loop-bits l = IsWithin l.bits l.count
+invariant-loop-bits g l = IsWithin l.bits l.count

@@ -5,4 +5,4 @@ use Rattle.tests_query.proofs.kernels.check.Given as goal
 
 -- the numbers before this one are small
 abbrev pub invariant-loop-n : goal.invariant-loop-n
-invariant-loop-n l = (k : ℕ) (d : Num) → k < l.n-index → IsSmall (slice_index_or l.numbers k d)
+invariant-loop-n g l = (k : ℕ) (d : Num) → k < l.n-index → IsSmall (slice_index_or l.numbers k d)

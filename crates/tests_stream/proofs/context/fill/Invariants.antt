@@ -5,6 +5,7 @@ use Rattle.tests_stream.proofs.context.fill.Given as goal
 
 abbrev pub invariant-loop-node : goal.invariant-loop-node
 invariant-loop-node l = record {
-    nodes : All (IsBelowRoot l.context) l.snapshot.nodes.items;
-    imms : l.snapshot.imms.items ≡ [];
-    attribute : l.attribute.0 < length l.context.attributes }
+  nodes : All (IsBelowRoot l.context) l.snapshot.nodes.items;
+  imms : l.snapshot.imms.items ≡ [];
+  attribute : l.attribute.0 < length l.context.attributes;
+}
