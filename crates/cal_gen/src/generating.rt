@@ -1,0 +1,104 @@
+ghost use Rattle.std.specs.Prelude.{◌≡◌, ◌<◌, ◌≤◌, ◌++◌, decimal, IfOk, OnOk};
+ghost use Rattle.cal_gen.specs.Draws.{drawn, next};
+ghost use Rattle.cal_gen.specs.Generated.{generated, line_from, lines_from, look_line};
+
+use crate::draws::Draws;
+use crate::moves::Move;
+use cal_value::{OutOfMemory, Text};
+use itoa::Buffer;
+use std::alloc::Global;
+
+const HEADER: &str = "attribute function string 276\nattribute iteration int 21\n\
+    channel profile event,timer,aggregate\n";
+
+/// The script of a seed, with so many threads of so many lines. It takes time in their product.
+pub fn generate(alloc: Global, seed: u32, threads: u32, lines: u32) -> Result<Text, OutOfMemory>
+    ensures { IfOk result (λ text. text ≡ generated seed threads lines) }
+{
+    let mut text = Text::from_str(alloc, HEADER)?;
+    let mut draws = Draws { x: seed };
+    for _ in 0..threads {
+        text.push_str("thread\n")?;
+        push_lines(&mut text, &mut draws, lines)?;
+    }
+    Ok(text)
+}
+
+/// Appends the lines of a thread, each with its newline.
+fn push_lines(text: &mut Text, draws: &mut Draws, lines: u32) -> Result<(), OutOfMemory>
+    ensures text { OnOk result (text.new
+        ≡ text.old ++ (lines_from lines (record { x = draws.old.x; depth = 0 })).text) }
+    ensures draws { OnOk result (draws.new.x
+        ≡ (lines_from lines (record { x = draws.old.x; depth = 0 })).x) }
+{
+    let mut depth = 0;
+    for _ in 0..lines {
+        depth = push_line(text, draws, depth)?;
+        text.push_str("\n")?;
+    }
+    Ok(())
+}
+
+/// Appends the next line of a thread, and gives how many values are open behind it.
+fn push_line(text: &mut Text, draws: &mut Draws, depth: u32) -> Result<u32, OutOfMemory>
+    requires { depth ≤ 32 }
+    ensures text { OnOk result (text.new
+        ≡ text.old ++ (line_from (record { x = draws.old.x; depth = depth })).line) }
+    ensures draws { OnOk result (draws.new.x
+        ≡ (line_from (record { x = draws.old.x; depth = depth })).after.x) }
+    ensures depth { IfOk result (λ after. after
+        ≡ (line_from (record { x = draws.old.x; depth = depth })).after.depth) }
+    ensures within { IfOk result (λ after. after ≤ 32) }
+{
+    match Move::of(draws.draw(8), depth) {
+        Move::Begin => {
+            push_number(text, draws, "begin function f", 16)?;
+            Ok(depth + 1)
+        }
+        Move::End => {
+            text.push_str("end function")?;
+            Ok(depth - 1)
+        }
+        Move::Iterate => {
+            push_number(text, draws, "set iteration ", 1000)?;
+            Ok(depth)
+        }
+        Move::Tick => {
+            push_number(text, draws, "tick ", 10_000)?;
+            Ok(depth)
+        }
+        Move::Look => {
+            push_look(text, draws)?;
+            Ok(depth)
+        }
+    }
+}
+
+/// Appends a word and a number that is drawn from so many.
+fn push_number(
+    text: &mut Text,
+    draws: &mut Draws,
+    front: &str,
+    count: u32,
+) -> Result<(), OutOfMemory>
+    requires { 0 < count }
+    ensures text { OnOk result (text.new
+        ≡ text.old ++ (front.now ++ decimal (drawn count (next draws.old.x)))) }
+    ensures draws { draws.new.x ≡ next draws.old.x }
+{
+    let number = draws.draw(count);
+    text.push_str(front)?;
+    text.push_str(Buffer::new().format(number))
+}
+
+/// Appends a line that flushes, or one that takes a snapshot.
+fn push_look(text: &mut Text, draws: &mut Draws) -> Result<(), OutOfMemory>
+    ensures text { OnOk result (text.new ≡ text.old ++ look_line (drawn 16 (next draws.old.x))) }
+    ensures draws { draws.new.x ≡ next draws.old.x }
+{
+    if draws.draw(16) == 0 {
+        text.push_str("flush profile")
+    } else {
+        text.push_str("snapshot")
+    }
+}
