@@ -1,5 +1,6 @@
 -- The script that is made of three numbers (Giltmoth's rule).
-use Rattle.std.specs.Prelude.{ℕ, zero, suc, ◌-◌, List, [], ◌∷◌, ◌++◌, codes, decimal, nat_lt, ◌==◌, if◌then◌else◌}
+use Rattle.std.specs.Prelude.{ℕ, zero, suc, ◌-◌, List, [], ◌∷◌, ◌++◌, codes, decimal, nat_lt}
+use Rattle.std.specs.Prelude.{◌==◌, if◌then◌else◌}
 use Rattle.cal_gen.specs.Draws.{next, drawn}
 use Rattle.cal_gen.specs.declared.moves.Move as moves
 use Rattle.cal_gen.specs.declared.moves.Move.TheVariants.{Begin, End, Iterate, Tick, Look}
@@ -79,7 +80,8 @@ threads_from (suc threads) lines x =
 
 -- a nested attribute, an as-value one, and a channel that measures and sums
 abbrev pub header : List ℕ
-header = codes "attribute function string 276\nattribute iteration int 21\nchannel profile event,timer,aggregate\n"
+header = codes "attribute function string 276\n" ++ (codes "attribute iteration int 21\n"
+    ++ codes "channel profile event,timer,aggregate\n")
 
 -- the script of a seed, a number of threads, and a number of lines for each
 abbrev pub generated : ℕ → ℕ → ℕ → List ℕ

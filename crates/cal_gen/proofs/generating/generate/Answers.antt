@@ -1,4 +1,4 @@
-use Rattle.std.proofs.Common.{◌≡◌, ℕ, suc, ◌<◌, ◌+◌, ◌-◌, ◌++◌, ◌∙◌, ap, arith}
+use Rattle.std.proofs.Common.{◌≡◌, suc, ◌+◌, ◌-◌, ◌++◌, ◌∙◌, ap, arith}
 use Rattle.cal_gen.specs.Generated.{lines_from}
 use Rattle.cal_gen.proofs.Turns.{next_thread}
 use Rattle.cal_gen.proofs.generating.generate.Goals as goal
