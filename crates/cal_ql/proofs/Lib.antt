@@ -18,3 +18,7 @@ pub mod GrammarClauses
 pub mod GrammarStops
 pub mod GrammarAgain
 pub mod GrammarWhole
+pub mod Spelling
+pub mod Writings
+pub mod WholeText
+pub mod Sayings

@@ -10,10 +10,10 @@ use Rattle.cal_ql.proofs.Choices.{either_way}
 abbrev names_of : List Agg → List (List ℕ)
 names_of aggs = map (λ agg. agg.name) aggs
 
-abbrev IsApart : List ℕ → List ℕ → Type 0
+abbrev pub IsApart : List ℕ → List ℕ → Type 0
 IsApart name other = pointwise nat_eq name other ≡ false
 
-turned : (name other : List ℕ) → pointwise nat_eq other name ≡ false → IsApart name other
+pub turned : (name other : List ℕ) → pointwise nat_eq other name ≡ false → IsApart name other
 turned name other apart =
     elim (either_way (pointwise nat_eq name other)) [
       | inl same ↦ absurd (let back : pointwise nat_eq other name ≡ true = (bytes_decides other name).1 (sym ((bytes_decides name other).0 same)) in let contradiction : true ≡ false = sym back ∙ apart in cc)

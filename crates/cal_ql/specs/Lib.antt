@@ -13,3 +13,4 @@ pub mod Signs
 pub mod Steps
 pub mod Tokens
 pub mod Valid
+pub mod Writing

@@ -1,9 +1,11 @@
 -- The queries that make sense to whoever answers them.
-use Rattle.std.specs.Prelude.{◌≡◌, ℕ, pos, ◌≤◌, ◌≤ℤ◌, length, map, nat_eq}
+use Rattle.std.specs.Prelude.{◌≡◌, ℕ, ℤ, pos, ◌≤◌, ◌≤ℤ◌, List, [], ◌∷◌, Option, None, Some, length, map, nat_eq}
 use Rattle.std.specs.List.{AllByRecursion, IsDistinct}
 use Rattle.std.specs.Cmp.Lexicographic.{pointwise}
 use Rattle.cal_ql.specs.declared.names.Op as ops
 use Rattle.cal_ql.specs.declared.names.Op.TheVariants as op
+use Rattle.cal_ql.specs.declared.names.KernelName as kernels
+use Rattle.cal_ql.specs.declared.names.KernelName.TheVariants as kernel
 use Rattle.cal_ql.specs.declared.query.Let.{Let}
 use Rattle.cal_ql.specs.declared.query.Query.{Query}
 use Rattle.cal_ql.specs.Lets.{least_number}
@@ -26,3 +28,28 @@ pub record IsLet (l : Let) : Type 0 where
 pub record IsValidQuery (query : Query) : Type 0 where
   pub lets : AllByRecursion IsLet query.lets
   pub aggs : IsDistinct (pointwise nat_eq) (map (λ agg. agg.name) query.aggs)
+
+-- an operator that takes no number has 1
+abbrev pub SaysNumber : ops.Op → ℤ → Type 0
+SaysNumber op.First n = n ≡ pos 1
+SaysNumber op.Sum n = n ≡ pos 1
+SaysNumber _ n = Unit {0}
+
+-- count has no attribute
+abbrev pub SaysAttribute : kernels.KernelName → List ℕ → Type 0
+SaysAttribute kernel.Count attr = attr ≡ []
+SaysAttribute _ attr = Unit {0}
+
+-- a list that is there has items
+abbrev pub SaysItems : {X : Type 0} → Option (List X) → Type 0
+SaysItems None = Unit {0}
+SaysItems (Some []) = ⊥
+SaysItems (Some (x ∷ xs)) = Unit {0}
+
+-- What a text says of a query beside that it is valid: where no number or attribute can be given,
+-- none is, and what SELECT and GROUP BY list isn't empty.
+pub record IsSaid (query : Query) : Type 0 where
+  pub numbers : AllByRecursion (λ l. SaysNumber l.op l.n) query.lets
+  pub attributes : AllByRecursion (λ agg. SaysAttribute agg.kernel agg.attr) query.aggs
+  pub select : SaysItems query.select
+  pub group : SaysItems query.group

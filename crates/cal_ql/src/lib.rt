@@ -27,7 +27,7 @@ mod token;
 
 pub use end::QueryEnd;
 pub use kind::QueryKind;
-pub use laws::meaning_law;
+pub use laws::{meaning_law, writing_law};
 pub use names::{Format, KernelName, Op};
 pub use query::{Agg, Cond, Item, Let, OrderKey, Query, Test};
 pub use reading::parse_query;

@@ -1,6 +1,6 @@
 use cal_ql::{
     Agg, Cond, Format, Item, KernelName, Let, Op, OrderKey, Query, QueryEnd, Test, meaning_law,
-    parse_query,
+    parse_query, writing_law,
 };
 use cal_value::TryCopy;
 use std::alloc::{AllocError, Global};
@@ -204,6 +204,27 @@ const QUERIES: [(&str, &str); 30] = [
     ),
 ];
 
+/// Canonical texts, written by hand, with the queries that they are the texts of.
+const CANONICAL: [(&str, &str); 5] = [
+    ("format expand ", "expand"),
+    (
+        "let \"a\" = ratio ( \"b\" , \"c\" , -7 ) , \"d\" = sum ( \"let\" ) format json ",
+        "a=ratio(b,c)-7;d=sum(let)1; json",
+    ),
+    (
+        "select \"a\" as \"b\" , \"count\" as \"count\" aggregate count ( ) as \"count\" format tree ",
+        "[a:b][count:count] {count of  as count} tree",
+    ),
+    (
+        "where not \"a\\\"\" <= \"\\\\\" , \"\" group by \"path\" format table ",
+        "(not a\"<=\\)() by[path] table",
+    ),
+    (
+        "order by \"a\" asc , \"b\" desc format expand ",
+        "order[a][b down] expand",
+    ),
+];
+
 fn let_text(alloc: Global, definition: &Let) -> Result<String, AllocError> {
     let mut args = String::new(alloc);
     for name in definition.args.as_slice() {
@@ -358,6 +379,12 @@ fn formats_and_by(rt: HostRuntime) -> Result<(), Fail> {
 #[test]
 fn texts_mean_queries(rt: HostRuntime) -> Result<(), Fail> {
     table(&rt, rt.alloc(), &QUERIES)
+}
+
+#[test]
+fn canonical_texts_mean_their_queries(rt: HostRuntime) -> Result<(), Fail> {
+    writing_law();
+    table(&rt, rt.alloc(), &CANONICAL)
 }
 
 /// A text of many names, in which no result name comes twice.
