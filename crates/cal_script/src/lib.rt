@@ -6,6 +6,7 @@
 mod journal;
 mod kind;
 mod script;
+mod tally;
 
 pub use journal::{
     Journal, JournalMarks, JournalText, LineNote, Placed, Reply, RowMark, ThreadNote,
