@@ -5,3 +5,5 @@ pub mod State
 pub mod Limits
 pub mod Parts
 pub mod Reading
+pub mod Registers
+pub mod Steps

@@ -133,7 +133,9 @@ abbrev pub with_default_values : Channel → Channel
 with_default_values channel =
     if channel.aggregate && channel.timer
     then record channel {
-      query = record { by_default = true; keys = []; values = codes "time.duration.ns" ∷ [] };
+      query = record channel.query {
+        values = channel.query.values ++ codes "time.duration.ns" ∷ [];
+      };
     }
     else channel
 
@@ -152,31 +154,28 @@ service_names =
     codes "time.duration.ns" ∷ codes "time.inclusive.duration.ns" ∷ codes "region.depth"
     ∷ codes "region.count" ∷ []
 
--- what services add at the events of a declared attribute
-abbrev pub is_event_name : List (List ℕ) → List ℕ → List ℕ → Bool
-is_event_name declared front name =
-    starts_with nat_eq name front && is_among declared (drop (length front) name)
+-- the fronts of what services add at the events of an attribute, before `#` and its name
+abbrev pub event_fronts : List (List ℕ)
+event_fronts = codes "event.begin" ∷ codes "event.end" ∷ codes "event.set" ∷ []
+
+abbrev pub is_event_name : List (List ℕ) → List (List ℕ) → Bool
+is_event_name declared (front ∷ attribute ∷ []) =
+    is_among event_fronts front && is_among declared attribute
+is_event_name declared _ = false
 
 -- a name that is declared, or that services add
 abbrev pub is_known : List (List ℕ) → List ℕ → Bool
 is_known declared name =
-    is_among declared name || is_among service_names name
-    || is_event_name declared (codes "event.begin#") name
-    || is_event_name declared (codes "event.end#") name
-    || is_event_name declared (codes "event.set#") name
+    is_among declared name || is_among service_names name || is_event_name declared (pieces 35 name)
 
--- a `value` line's names with one more
-abbrev pub with_name : List (List ℕ) → List (List ℕ) → List ℕ → Result (List (List ℕ)) ScriptKind
-with_name declared names name =
-    if is_among names name then Err DuplicateName
-    else (if is_known declared name then Ok (names ++ name ∷ []) else Err UnknownName)
-
--- a `key` line's names with one more: `path` may be the first
-abbrev pub with_key : List (List ℕ) → List (List ℕ) → List ℕ → Result (List (List ℕ)) ScriptKind
-with_key declared names name =
-    if bytes_eq name (codes "path")
-    then (if length names == 0 then Ok (name ∷ []) else Err BadName)
-    else with_name declared names name
+-- The names of a `key` or `value` line with one more. The first of a `key` line may be `path`.
+abbrev pub with_name :
+    Bool → List (List ℕ) → List (List ℕ) → List ℕ → Result (List (List ℕ)) ScriptKind
+with_name is_key declared names name =
+    if is_key && bytes_eq name (codes "path")
+    then (if length names == 0 then Ok (names ++ name ∷ []) else Err BadName)
+    else (if is_among names name then Err DuplicateName
+    else (if is_known declared name then Ok (names ++ name ∷ []) else Err UnknownName))
 
 -- ---- values
 

@@ -18,7 +18,7 @@ use Rattle.cal_script.specs.declared.script.ChannelQuery.{ChannelQuery}
 use Rattle.cal_script.specs.declared.script.Line as lines
 use Rattle.cal_script.specs.declared.script.Line.TheVariants as line
 use Rattle.cal_script.specs.Lines.{lines_of, words_of, is_skipped, no_word, one_word, two_words, three_words, some_words, word_and_rest}
-use Rattle.cal_script.specs.Parts.{attribute_names, attribute_named, attribute_of, channel_named, channel_of, is_among, number_said, value_said, with_key, with_name}
+use Rattle.cal_script.specs.Parts.{attribute_names, attribute_named, attribute_of, channel_named, channel_of, is_among, number_said, value_said, with_name}
 use Rattle.cal_script.specs.State.{State, no_lines, next_thread, script_of, with_line, with_value}
 use Rattle.cal_script.specs.Limits.{fits}
 
@@ -69,14 +69,19 @@ last_channel channels = slice_get channels (length channels - 1)
 abbrev pub earlier_channels : List Channel → List Channel
 earlier_channels channels = take (length channels - 1) channels
 
--- `key NAME NAME` and so on, once for a channel, which aggregates
+-- the names of a `key` or `value` line of a channel, which aggregates
+abbrev pub names_said : Channel → List (List ℕ) → Result (List (List ℕ)) ScriptKind
+names_said channel words = do
+  names ← ok_or (some_words words) WrongArity
+  if channel.aggregate then Ok names else Err NotAggregate
+
+-- `key NAME NAME` and so on, once for a channel
 abbrev pub keyed : List (List ℕ) → Channel → List (List ℕ) → Result Channel ScriptKind
 keyed declared channel words =
     if not channel.query.by_default then Err Misplaced
     else (do
-      names ← ok_or (some_words words) WrongArity
-      names ← (if channel.aggregate then Ok names else Err NotAggregate)
-      keys ← after_lines (with_key declared) [] names
+      names ← names_said channel words
+      keys ← after_lines (with_name true declared) [] names
       Ok (record channel { query = record channel.query { by_default = false; keys = keys } }))
 
 abbrev pub key_after : State → List (List ℕ) → Result State ScriptKind
@@ -85,12 +90,11 @@ key_after state words = in_header state (do
   channel ← keyed (attribute_names state.attributes) channel words
   Ok (record state { channels = earlier_channels state.channels ++ channel ∷ [] }))
 
--- `value NAME NAME` and so on, once for a channel, which aggregates
+-- `value NAME NAME` and so on, once for a channel
 abbrev pub with_values : List (List ℕ) → Channel → List (List ℕ) → Result Channel ScriptKind
 with_values declared channel words = do
-  names ← ok_or (some_words words) WrongArity
-  names ← (if channel.aggregate then Ok names else Err NotAggregate)
-  values ← after_lines (with_name declared) [] names
+  names ← names_said channel words
+  values ← after_lines (with_name false declared) [] names
   Ok (record channel { query = record channel.query { values = values } })
 
 abbrev pub value_after : State → List (List ℕ) → Result State ScriptKind

@@ -3,11 +3,20 @@
 //! The types of a script and of a run's journal, which the layers above run and print.
 #![tactic(auto)]
 
+mod attributes;
+mod channels;
+mod end;
 mod journal;
 mod kind;
+mod lists;
+mod names;
+mod register;
 mod script;
 mod tally;
+mod value;
+mod words;
 
+pub use end::ScriptEnd;
 pub use journal::{
     Journal, JournalMarks, JournalText, LineNote, Placed, Reply, RowMark, ThreadNote,
 };
