@@ -6,4 +6,5 @@ pub mod Limits
 pub mod Parts
 pub mod Reading
 pub mod Registers
+pub mod Reader
 pub mod Steps

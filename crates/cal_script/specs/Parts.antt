@@ -190,7 +190,10 @@ is_allowed (variant.Int n) = is_short_number n
 is_allowed (variant.Fixed n) = is_short_number n
 is_allowed (variant.Text t) = nat_le (length t) 4096
 is_allowed (variant.Real t) = nat_le (length t) 4096
-is_allowed _ = true
+is_allowed (variant.Uint n) = true
+is_allowed (variant.Addr a) = true
+is_allowed (variant.Bool b) = true
+is_allowed _ = false
 
 abbrev pub allowed : variants.Variant → Result variants.Variant ScriptKind
 allowed value = if is_allowed value then Ok value else Err BadValue

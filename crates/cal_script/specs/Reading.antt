@@ -17,9 +17,10 @@ use Rattle.cal_script.specs.declared.script.Channel.{Channel}
 use Rattle.cal_script.specs.declared.script.ChannelQuery.{ChannelQuery}
 use Rattle.cal_script.specs.declared.script.Line as lines
 use Rattle.cal_script.specs.declared.script.Line.TheVariants as line
+use Rattle.cal_script.specs.declared.opening.Opening.{Opening}
 use Rattle.cal_script.specs.Lines.{lines_of, words_of, is_skipped, no_word, one_word, two_words, three_words, some_words, word_and_rest}
 use Rattle.cal_script.specs.Parts.{attribute_names, attribute_named, attribute_of, channel_named, channel_of, is_among, number_said, value_said, with_name}
-use Rattle.cal_script.specs.State.{State, no_lines, next_thread, script_of, with_line, with_value}
+use Rattle.cal_script.specs.State.{State, no_lines, next_thread, opening, script_of, with_line, with_opening}
 use Rattle.cal_script.specs.Limits.{fits}
 
 -- a header line stands before the first `thread` line, and a line of a thread behind one
@@ -118,13 +119,18 @@ thread_after state words =
     })
     else Err WrongArity
 
--- `begin NAME VALUE` and `set NAME VALUE`: the value is the next of the script's
-abbrev pub opening_after : (ℕ → ℕ → lines.Line) → State → List (List ℕ) → Result State ScriptKind
-opening_after line_of state words = in_thread state (do
+-- `begin NAME VALUE` and `set NAME VALUE`
+abbrev pub opening_said : State → List (List ℕ) → Result Opening ScriptKind
+opening_said state words = do
   two ← ok_or (word_and_rest words) WrongArity
   named ← attribute_named state.attributes two.0
   value ← value_said named.1.kind two.1
-  Ok (with_value (line_of named.0 (length state.values)) named.1 value state))
+  Ok (opening named.0 named.1 value)
+
+abbrev pub opening_after : (ℕ → ℕ → lines.Line) → State → List (List ℕ) → Result State ScriptKind
+opening_after line_of state words = in_thread state (do
+  opening ← opening_said state words
+  Ok (with_opening line_of opening state))
 
 -- `end NAME`
 abbrev pub end_after : State → List (List ℕ) → Result State ScriptKind

@@ -9,6 +9,7 @@ use Rattle.cal_script.specs.declared.script.Script.{Script}
 use Rattle.cal_script.specs.declared.script.Channel.{Channel}
 use Rattle.cal_script.specs.declared.script.Line.{Line}
 use Rattle.cal_script.specs.declared.tally.Tally.{Tally}
+use Rattle.cal_script.specs.declared.opening.Opening.{Opening}
 
 -- What stands so far. In the header there is no thread; behind it there is a last one, whose lines
 -- go on.
@@ -76,8 +77,17 @@ with_line line process words state = record state {
 abbrev pub made_words : Attribute → Variant → ℕ
 made_words attribute value = if is_reference attribute.props then node_length value else 0
 
--- the last thread with a line more that opens a value of an attribute
-abbrev pub with_value : Line → Attribute → Variant → State → State
-with_value line attribute value state =
-    with_line line (has_process_scope attribute.props) (made_words attribute value)
-    (record state { values = state.values ++ value ∷ [] })
+-- a line that opens a value, before it is counted: its attribute's place, and the value
+abbrev pub opening : ℕ → Attribute → Variant → Opening
+opening place attribute value = record {
+  attr = place;
+  process = has_process_scope attribute.props;
+  words = made_words attribute value;
+  value = value;
+}
+
+-- the last thread with this line more: the value is the next of the script's
+abbrev pub with_opening : (ℕ → ℕ → Line) → Opening → State → State
+with_opening line_of opening state =
+    with_line (line_of opening.attr (length state.values)) opening.process opening.words
+    (record state { values = state.values ++ opening.value ∷ [] })

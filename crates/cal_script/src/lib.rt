@@ -6,13 +6,17 @@
 mod attributes;
 mod channels;
 mod end;
+mod header;
 mod journal;
 mod kind;
 mod lists;
 mod names;
+mod opening;
+mod reader;
 mod register;
 mod script;
 mod tally;
+mod thread;
 mod value;
 mod words;
 

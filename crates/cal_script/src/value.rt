@@ -1,4 +1,4 @@
-ghost use Rattle.std.specs.Prelude.{◌≡◌, IfOk};
+ghost use Rattle.std.specs.Prelude.{◌≡◌, IfOk, IsTrue};
 ghost use Rattle.std.specs.Option.{ok_or};
 ghost use Rattle.cal_line.specs.Tokens.{spelled_text};
 ghost use Rattle.cal_value.specs.Reading.{uint_of, value_of};
@@ -65,12 +65,16 @@ fn is_allowed(value: &Variant) -> bool
         Variant::Fixed(nanos) => is_short_number(*nanos),
         Variant::Text(text) => text.len() <= LONGEST_TEXT,
         Variant::Real(text) => text.len() <= LONGEST_TEXT,
-        _ => true,
+        Variant::Uint(_) => true,
+        Variant::Addr(_) => true,
+        Variant::Bool(_) => true,
+        _ => false,
     }
 }
 
 fn allowed(value: Variant) -> Result<Variant, LineEnd>
-    ensures { Gives (λ value. value) result (allowed value) }
+    ensures allowed { IfOk result (λ value. IsTrue (is_allowed value)) }
+    ensures said { Gives (λ value. value) result (allowed value) }
 {
     if !is_allowed(&value) {
         return Err(LineEnd::Bad(ScriptKind::BadValue));
@@ -80,7 +84,8 @@ fn allowed(value: Variant) -> Result<Variant, LineEnd>
 
 /// The value of a kind that a VALUE says.
 pub(crate) fn read_value(alloc: Global, kind: Kind, spelled: &str) -> Result<Variant, LineEnd>
-    ensures { Gives (λ value. value) result (value_said kind spelled.now) }
+    ensures allowed { IfOk result (λ value. IsTrue (is_allowed value)) }
+    ensures said { Gives (λ value. value) result (value_said kind spelled.now) }
 {
     let text = read_text(alloc, spelled)?;
     let value = value_of_text(alloc, kind, text)?;
