@@ -1,11 +1,11 @@
 -- A text is its first piece, and the pieces behind the mark that ends it.
-use Rattle.std.proofs.Common.{◌≡◌, ℕ, ◌<◌, true, false, cond, eqb, Some, None, ◌&&◌, List, [], ◌∷◌, ◌++◌, length, get_or, refl, sym, ap, ◌∙◌, inl, inr}
+use Rattle.std.proofs.Common.{◌≡◌, ℕ, ◌<◌, true, false, cond, eqb, Some, None, List, [], ◌∷◌, ◌++◌, length, get_or, refl, sym, ap, ◌∙◌, inl, inr}
 use Rattle.std.specs.List.{All, onto_first, list_all}
 use Rattle.std.proofs.lemmas.Bool.{ne_eqb, eq-eqb, cases_Bool}
 use Rattle.std.proofs.lemmas.List.{get_or_default}
 use Rattle.std.proofs.lemmas.List.Splits.{slice_split_none, slice_split_at, slice_split-cons_yes, slice_split-cons_no, join_with_byte-slice_split}
 use Rattle.cal_script.specs.Parts.{is_event_name}
-use Rattle.cal_script.specs.Lines.{pieces, words_of, joined, is_word, one_word, two_words, three_words, some_words, word_and_rest}
+use Rattle.cal_script.specs.Lines.{pieces, words_of, joined, is_word, no_word, one_word, two_words, three_words, some_words, word_and_rest}
 
 -- no byte is the mark, by place and by element
 abbrev pub HasNone : ℕ → List ℕ → Type 0
@@ -66,3 +66,7 @@ is_event_name_one declared front = refl
 
 pub is_event_name_more : (declared : List (List ℕ)) (front attribute rest : List ℕ) → is_event_name declared (front ∷ attribute ∷ pieces 35 rest) ≡ false
 is_event_name_more declared front attribute rest = let more = more_pieces 35 rest in rw more.2 refl
+
+-- what stands behind a space has a word
+pub no_word_more : (rest : List ℕ) → no_word (words_of rest) ≡ false
+no_word_more rest = let more = more_pieces 32 rest in rw more.2 refl

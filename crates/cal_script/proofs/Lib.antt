@@ -1,3 +1,5 @@
 pub mod Cuts
 pub mod Registers
 pub mod Values
+pub mod LastChannel
+pub mod Runs

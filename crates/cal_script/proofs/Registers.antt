@@ -1,12 +1,14 @@
 -- Items that are found by their names.
-use Rattle.std.proofs.Common.{◌≡◌, ℕ, suc, ◌+◌, ◌<◌, Bool, false, cond, ltb, List, [], ◌∷◌, ◌++◌, length, refl, sym, ap, ◌∙◌}
+use Rattle.std.proofs.Common.{◌≡◌, ℕ, Bool, false, List, [], ◌∷◌, ◌++◌, length, get_or, refl, sym, ap, ◌∙◌}
 use Rattle.std.specs.Prelude.{String}
-use Rattle.std.specs.Prelude.{map, string_bytes, nat_lt, Some, None, Option}
+use Rattle.std.specs.Prelude.{IfSome, map, string_bytes, Some, None, Option}
 use Rattle.std.specs.List.{list_any, position, position_or_len}
 use Rattle.std.specs.Str.{bytes_eq}
 use Rattle.std.specs.String.{string_eq}
 use Rattle.std.proofs.lemmas.List.{map-append, length-map}
 use Rattle.std.proofs.lemmas.Bool.{cond-false}
+use Rattle.std.proofs.lemmas.List.Quantifiers.{position-Some}
+use Rattle.std.specs.Cmp.Lexicographic.{bytes_decides}
 use Rattle.indexmap.specs.IndexSet.{insert_key}
 use Rattle.std.specs.declared.alloc.Global.{Global}
 use Rattle.cal_script.specs.declared.register.Register.{Register}
@@ -53,3 +55,15 @@ registered_more name_of register item key keys kept named fresh inserted =
     ap (map string_bytes) pushed ∙ map-append string_bytes register.names.keys (key ∷ [])
     ∙ ap (λ (x : List (List ℕ)). x ++ string_bytes key ∷ []) kept ∙ ap (λ (x : List ℕ). map name_of register.items ++ x ∷ []) named
     ∙ sym (map-append name_of register.items (item ∷ []))
+
+-- what stands at a place that was found has the name
+pub registered_named : {T : Type 0} (name_of : T → List ℕ) (items : List T) (name : List ℕ) (place : ℕ) (other : T)
+    → place_of (map name_of items) name ≡ Some place → name_of (get_or items place other) ≡ name
+registered_named name_of items name place other found =
+    let at = position-Some (λ x. bytes_eq name (name_of x)) items place other (sym (position-map (bytes_eq name) name_of items) ∙ found) in
+    sym ((bytes_decides name (name_of (get_or items place other))).0 at.1)
+
+pub registered_found : {T : Type 0} (name_of : T → List ℕ) (items : List T) (name : List ℕ) (found : Option ℕ)
+    → found ≡ place_of (map name_of items) name → IfSome found (λ place. (other : T) → name_of (get_or items place other) ≡ name)
+registered_found name_of items name None is = tt
+registered_found name_of items name (Some place) is = λ other. registered_named name_of items name place other (sym is)

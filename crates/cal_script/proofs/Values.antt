@@ -1,10 +1,15 @@
 -- Numbers that words write.
-use Rattle.std.proofs.Common.{◌≡◌, ℕ, ◌≤◌, Bool, true, false, cond, leb, List, refl, sym, ap, ◌∙◌, arith, lit≤, inl, inr}
+use Rattle.std.proofs.Common.{◌≡◌, ℕ, ◌≤◌, Bool, length, true, false, cond, leb, List, refl, sym, arith, lit≤}
 use Rattle.std.specs.Prelude.{Option, Some, None}
 use Rattle.std.specs.Option.{option_map, ok_or}
 use Rattle.std.proofs.lemmas.Bool.Decides.{nat_tests}
 use Rattle.cal_value.specs.Numerals.{at_most, number_of}
-use Rattle.cal_script.specs.Parts.{declared_props}
+use Rattle.cal_words.specs.Words.{text_words}
+use Rattle.cal_words.proofs.Bytes.{length-text_words}
+use Rattle.cal_value.specs.declared.attribute.Attribute.{Attribute}
+use Rattle.std.proofs.lemmas.Bool.{leb-true}
+use Rattle.cal_script.specs.State.{node_length, made_words}
+use Rattle.cal_script.specs.Parts.{declared_props, is_allowed}
 use Rattle.cal_script.specs.declared.kind.ScriptKind.TheVariants.{BadProps}
 use Rattle.cal_value.specs.Reading.{uint_of, value_of}
 use Rattle.cal_value.specs.declared.kind.Kind.TheVariants as kind
@@ -35,3 +40,26 @@ at_most-at_most few many le (Some n) = grind (arith, nat_tests)
 -- properties by the number that a word writes
 pub props_read : (word : List ℕ) → declared_props word ≡ ok_or (option_map (λ bits. record { 0 = bits }) (at_most 65535 (uint_of word))) BadProps
 props_read word = rw (at_most-at_most 65535 18446744073709551615 (lit≤ tt) (number_of 10 word)) refl
+
+text_small : (text : List ℕ) → leb (length text) 4096 ≡ true → length (text_words text) ≤ 512
+text_small text short = let le = leb-true (length text) 4096 short in omega (arith, length-text_words text)
+
+-- the node of a value that a script may have is small
+node_small : (value : Variant) → is_allowed value ≡ true → node_length value ≤ 516
+node_small (variant.Int n) fine = lit≤ tt
+node_small (variant.Fixed n) fine = lit≤ tt
+node_small (variant.Uint n) fine = lit≤ tt
+node_small (variant.Addr a) fine = lit≤ tt
+node_small (variant.Bool b) fine = lit≤ tt
+node_small (variant.Text t) fine = omega (arith, text_small t fine)
+node_small (variant.Real t) fine = omega (arith, text_small t fine)
+node_small (variant.Kind k) fine = absurd cc
+node_small (variant.Usr t) fine = absurd cc
+node_small (variant.Ptr t) fine = absurd cc
+
+words_small : (made : Bool) (words : ℕ) → words ≤ 516 → cond made words 0 ≤ 516
+words_small true words le = le
+words_small false words le = lit≤ tt
+
+pub made_small : (attribute : Attribute) (value : Variant) → is_allowed value ≡ true → made_words attribute value ≤ 516
+made_small attribute value fine = words_small _ _ (node_small value fine)

@@ -5,6 +5,7 @@ pub mod State
 pub mod Limits
 pub mod Parts
 pub mod Reading
+pub mod Faults
 pub mod Registers
 pub mod Reader
 pub mod Steps

@@ -1,5 +1,5 @@
 -- The lines of a script, which are those of every input, and the words of a line.
-use Rattle.std.specs.Prelude.{ℕ, Bool, true, List, [], ◌∷◌, length, Option, Some, None, not, ◌==◌, ◌&&◌, if◌then◌else◌}
+use Rattle.std.specs.Prelude.{ℕ, Bool, true, false, List, [], ◌∷◌, length, Option, Some, None, not, ◌==◌, ◌&&◌, if◌then◌else◌}
 use Rattle.std.specs.List.{list_all, slice_split, join_with_byte}
 pub use Rattle.cal_line.specs.Lines.{lines_of}
 
@@ -28,7 +28,8 @@ is_word word = not (length word == 0)
 -- The words behind a line's first word, where there are as many as there must be and none is empty.
 
 abbrev pub no_word : List (List ℕ) → Bool
-no_word words = length words == 0
+no_word [] = true
+no_word (word ∷ words) = false
 
 abbrev pub one_word : List (List ℕ) → Option (List ℕ)
 one_word (first ∷ []) = if is_word first then Some first else None

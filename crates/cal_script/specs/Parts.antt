@@ -1,6 +1,6 @@
 -- What the words of a line say by themselves, or what is wrong with them.
-use Rattle.std.specs.Prelude.{ℕ, ℤ, pos, negsuc, Bool, true, false, List, [], ◌∷◌, ◌++◌, length, Option, Some, None, Result, Ok, Err, codes, drop, position, map, nat_eq, nat_le, slice_get, not, ◌==◌, ◌&&◌, ◌||◌, if◌then◌else◌}
-use Rattle.std.specs.List.{list_any, starts_with}
+use Rattle.std.specs.Prelude.{ℕ, ℤ, pos, negsuc, Bool, true, false, List, [], ◌∷◌, ◌++◌, length, Option, Some, None, Result, Ok, Err, codes, position, map, nat_le, slice_get, not, ◌==◌, ◌&&◌, ◌||◌, if◌then◌else◌}
+use Rattle.std.specs.List.{list_any}
 use Rattle.std.specs.Option.{ok_or, option_map}
 use Rattle.std.specs.Str.{bytes_eq}
 use Rattle.cal_value.specs.Kinds.{kind_named}
@@ -16,7 +16,7 @@ use Rattle.cal_value.specs.declared.variant.Variant.TheVariants as variant
 use Rattle.cal_line.specs.Tokens.{spelled_text}
 use Rattle.cal_input.specs.FirstFault.{◌>>=◌, after_lines}
 use Rattle.cal_script.specs.declared.kind.ScriptKind.{ScriptKind}
-use Rattle.cal_script.specs.declared.kind.ScriptKind.TheVariants.{BadName, DuplicateName, BadKind, BadProps, BadService, UnknownName, BadEscape, BadValue, NotGlobal}
+use Rattle.cal_script.specs.declared.kind.ScriptKind.TheVariants.{BadName, DuplicateName, BadKind, BadProps, BadService, UnknownName, BadEscape, BadValue}
 use Rattle.cal_script.specs.declared.script.Channel.{Channel}
 use Rattle.cal_script.specs.declared.script.ProbeKind as probes
 use Rattle.cal_script.specs.declared.script.ProbeKind.TheVariants as probe
@@ -117,13 +117,13 @@ with_probe channel probe =
 abbrev pub with_service : Channel → List ℕ → Result Channel ScriptKind
 with_service channel word =
     if bytes_eq word (codes "event") then
-        (if channel.event then Err BadService else Ok (record channel { event = true }))
+    (if channel.event then Err BadService else Ok (record channel { event = true }))
     else (if bytes_eq word (codes "timer") then
-        (if channel.timer then Err BadService else Ok (record channel { timer = true }))
+    (if channel.timer then Err BadService else Ok (record channel { timer = true }))
     else (if bytes_eq word (codes "trace") then
-        (if channel.trace then Err BadService else Ok (record channel { trace = true }))
+    (if channel.trace then Err BadService else Ok (record channel { trace = true }))
     else (if bytes_eq word (codes "aggregate") then
-        (if channel.aggregate then Err BadService else Ok (record channel { aggregate = true }))
+    (if channel.aggregate then Err BadService else Ok (record channel { aggregate = true }))
     else (if bytes_eq word (codes "region.depth") then with_probe channel probe.Depth
     else (if bytes_eq word (codes "region.count") then with_probe channel probe.Count
     else Err BadService)))))

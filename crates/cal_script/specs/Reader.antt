@@ -1,9 +1,8 @@
 -- What the reader of a script knows of the lines so far (private).
-use Rattle.std.specs.Prelude.{◌≡◌, ℕ, ◌+◌, ◌++◌, option_to_list, ◌≤◌, Bool, true, false, List, [], length, Option, Some, None, if◌then◌else◌, IsTrue}
+use Rattle.std.specs.Prelude.{◌≡◌, ◌++◌, option_to_list, ◌≤◌, Bool, List, [], length, Option, Some, None, if◌then◌else◌}
 use Rattle.cal_script.specs.declared.script.Line.{Line}
 use Rattle.cal_script.specs.declared.reader.Reader.{Reader}
 use Rattle.cal_script.specs.declared.tally.Tally.{Tally}
-use Rattle.cal_script.specs.Limits.{arena, fits}
 use Rattle.cal_script.specs.Registers.{IsAttributes, IsChannels, IsGlobals}
 use Rattle.cal_script.specs.State.{State}
 
@@ -24,11 +23,15 @@ state_of reader = record {
   tally = reader.tally;
 }
 
--- Names are found by hash, and each value stands in a line.
-pub record IsReading (reader : Reader) : Type 0 where
+-- Names are found by hash.
+pub record HasNames (reader : Reader) : Type 0 where
   pub attributes : IsAttributes reader.attributes
   pub channels : IsChannels reader.channels
   pub globals : IsGlobals reader.globals
+
+-- Names are found by hash, and each value stands in a line.
+pub record IsReading (reader : Reader) : Type 0 where
+  pub names : HasNames reader
   pub few_values : length reader.values ≤ reader.tally.lines
 
 -- So much has been counted where no limit is passed, that the counts of one line more are counts.
@@ -53,10 +56,8 @@ pub record SameLines (old new : Reader) : Type 0 where
   pub tally : new.tally ≡ old.tally
 
 -- The last thread is one of the earlier ones.
-pub record IsEnded (old new : Reader) : Type 0 where
-  pub earlier : new.earlier ≡ old.earlier ++ option_to_list (last_thread old.in_thread old.lines)
-  pub lines : new.lines ≡ []
-  pub same : state_of new ≡ record (state_of old) {
-    earlier = new.earlier;
-    thread = last_thread old.in_thread [];
-  }
+abbrev pub ended : Reader → Reader
+ended reader = record reader {
+  earlier = reader.earlier ++ option_to_list (last_thread reader.in_thread reader.lines);
+  lines = [];
+}

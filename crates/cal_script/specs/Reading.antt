@@ -1,20 +1,17 @@
 -- What each line of a script makes of what stands before it, or what kind of fault it has there.
 -- The tests of a line stand in their order: where it may stand, its words, its channel's services,
 -- and then its words from the left.
-use Rattle.std.specs.Prelude.{◌≡◌, ℕ, Bool, true, false, List, [], ◌∷◌, ◌++◌, length, Option, Some, None, Result, Ok, Err, codes, is_some, is_none, not, ◌==◌, ◌&&◌, ◌||◌, if◌then◌else◌}
+use Rattle.std.specs.Prelude.{◌≡◌, ℕ, true, false, List, [], ◌∷◌, ◌++◌, length, Option, Some, None, Result, Ok, Err, codes, is_some, not, if◌then◌else◌}
 use Rattle.std.specs.Prelude.{map, slice_get, take, ◌-◌}
 use Rattle.std.specs.Option.{ok_or, option_to_list}
 use Rattle.std.specs.Str.{bytes_eq, is_utf8}
 use Rattle.cal_value.specs.Props.{has_process_scope, is_global}
-use Rattle.cal_value.specs.declared.attribute.Attribute.{Attribute}
 use Rattle.cal_value.specs.declared.attribute.Entry.{Entry}
-use Rattle.cal_value.specs.declared.variant.Variant.{Variant}
 use Rattle.cal_input.specs.FirstFault.{◌>>=◌, after_lines}
 use Rattle.cal_script.specs.declared.kind.ScriptKind.{ScriptKind}
 use Rattle.cal_script.specs.declared.kind.ScriptKind.TheVariants.{NotText, UnknownWord, Misplaced, WrongArity, NotAggregate, DuplicateName, NotGlobal, TooMany}
 use Rattle.cal_script.specs.declared.script.Script.{Script}
 use Rattle.cal_script.specs.declared.script.Channel.{Channel}
-use Rattle.cal_script.specs.declared.script.ChannelQuery.{ChannelQuery}
 use Rattle.cal_script.specs.declared.script.Line as lines
 use Rattle.cal_script.specs.declared.script.Line.TheVariants as line
 use Rattle.cal_script.specs.declared.opening.Opening.{Opening}
@@ -177,14 +174,21 @@ words_after state (word ∷ words) =
     else (if bytes_eq word (codes "tick") then tick_after state words
     else Err UnknownWord)))))))))))
 
--- A line is UTF-8, and passes no limit.
+-- A line that passes a limit has no other fault.
+abbrev pub limited : State → Result State ScriptKind
+limited next = if fits next then Ok next else Err TooMany
+
+-- a line that says something
+abbrev pub text_after : State → List ℕ → Result State ScriptKind
+text_after state line = do
+  next ← words_after state (words_of line)
+  limited next
+
+-- A line is UTF-8. One that says nothing leaves what stands.
 unfoldable pub line_after : State → List ℕ → Result State ScriptKind
 line_after state line =
     if not (is_utf8 line) then Err NotText
-    else (if is_skipped line then Ok state
-    else (do
-      next ← words_after state (words_of line)
-      if fits next then Ok next else Err TooMany))
+    else (if is_skipped line then Ok state else text_after state line)
 
 -- the script that bytes say, or the kind of their first fault
 abbrev pub meaning : List ℕ → Result Script ScriptKind

@@ -1,7 +1,7 @@
-ghost use Rattle.std.specs.Prelude.{◌≡◌, ◌<◌, ◌^◌, length};
+ghost use Rattle.std.specs.Prelude.{◌≡◌, false, IfOk};
 ghost use Rattle.cal_value.specs.Kinds.{kind_named};
-ghost use Rattle.cal_script.specs.Parts.{attribute_named, attribute_names, attribute_of};
-ghost use Rattle.cal_script.specs.Parts.{declarable, declared_props, is_text_kind};
+ghost use Rattle.cal_script.specs.Parts.{attribute_names, attribute_of};
+ghost use Rattle.cal_script.specs.Parts.{declarable, declared_props, is_among, is_text_kind};
 ghost use Rattle.cal_script.specs.Registers.{IsAttributes};
 ghost use Rattle.cal_script.specs.Steps.{Gives};
 
@@ -59,7 +59,9 @@ pub(crate) fn read_attribute(
     props: &str,
 ) -> Result<Attribute, LineEnd>
     requires { IsAttributes declared.now }
-    ensures { Gives (λ attribute. attribute) result
+    ensures fresh { IfOk result (λ attribute. is_among (attribute_names declared.now.items) attribute.name
+        ≡ false) }
+    ensures said { Gives (λ attribute. attribute) result
         (attribute_of declared.now.items (name.now, kind.now, props.now)) }
 {
     if !is_attribute_name(name) {

@@ -2,7 +2,7 @@ ghost use Rattle.std.specs.Prelude.{◌≡◌, false, true, IfErr, IfOk, OnOk};
 ghost use Rattle.std.specs.List.{list_any};
 ghost use Rattle.cal_input.specs.FirstFault.{after_lines};
 ghost use Rattle.cal_script.specs.Lines.{pieces};
-ghost use Rattle.cal_script.specs.Parts.{bare_channel, channel_of, is_probe};
+ghost use Rattle.cal_script.specs.Parts.{bare_channel, channel_names, channel_of, is_among, is_probe};
 ghost use Rattle.cal_script.specs.Parts.{with_default_values, with_probe, with_service};
 ghost use Rattle.cal_script.specs.Registers.{IsChannels};
 ghost use Rattle.cal_script.specs.Steps.{Gives, bad_service};
@@ -56,7 +56,8 @@ fn has_probe(channel: &Channel, probe: ProbeKind) -> bool
 }
 
 fn add_probe(channel: &mut Channel, probe: ProbeKind) -> Result<(), LineEnd>
-    ensures { Gives (λ _. channel.new) result (with_probe channel.old probe) }
+    ensures said { Gives (λ _. channel.new) result (with_probe channel.old probe) }
+    ensures name { OnOk result (channel.new.name ≡ channel.old.name) }
 {
     if has_probe(channel, probe) {
         return Err(BAD_SERVICE);
@@ -78,7 +79,8 @@ fn switch_on(service: &mut bool) -> Result<(), LineEnd>
 
 /// Adds the service of this name, which the channel doesn't have.
 fn add_service(channel: &mut Channel, word: &str) -> Result<(), LineEnd>
-    ensures { Gives (λ _. channel.new) result (with_service channel.old word.now) }
+    ensures said { Gives (λ _. channel.new) result (with_service channel.old word.now) }
+    ensures name { OnOk result (channel.new.name ≡ channel.old.name) }
 {
     match word {
         "event" => switch_on(&mut channel.event),
@@ -93,8 +95,9 @@ fn add_service(channel: &mut Channel, word: &str) -> Result<(), LineEnd>
 
 /// Adds the services between commas.
 fn add_services(channel: &mut Channel, services: &str) -> Result<(), LineEnd>
-    ensures { Gives (λ _. channel.new) result
+    ensures said { Gives (λ _. channel.new) result
         (after_lines with_service channel.old (pieces 44 services.now)) }
+    ensures name { OnOk result (channel.new.name ≡ channel.old.name) }
 {
     let mut rest = Some(services);
     while let Some(text) = rest {
@@ -107,7 +110,8 @@ fn add_services(channel: &mut Channel, services: &str) -> Result<(), LineEnd>
 
 /// Without a `value` line a channel that aggregates and has the timer sums the durations.
 fn with_default_values(alloc: Global, mut channel: Channel) -> Result<Channel, OutOfMemory>
-    ensures { IfOk result (λ with. with ≡ with_default_values channel) }
+    ensures valued { IfOk result (λ valued. valued ≡ with_default_values channel) }
+    ensures name { IfOk result (λ valued. valued.name ≡ channel.name) }
 {
     if channel.aggregate && channel.timer {
         let duration = Text::from_str(alloc, "time.duration.ns")?;
@@ -124,7 +128,9 @@ pub(crate) fn read_channel(
     services: &str,
 ) -> Result<Channel, LineEnd>
     requires { IsChannels declared.now }
-    ensures { Gives (λ channel. channel) result
+    ensures fresh { IfOk result (λ channel. is_among (channel_names declared.now.items) channel.name
+        ≡ false) }
+    ensures said { Gives (λ channel. channel) result
         (channel_of declared.now.items (name.now, services.now)) }
 {
     if !is_name(name) {

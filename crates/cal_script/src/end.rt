@@ -26,7 +26,7 @@ impl From<OutOfMemory> for ScriptEnd {
 
 /// Why a line adds nothing to a script.
 #[derive(Clone, Copy, Debug, PartialEq, Eq)]
-pub(crate) enum LineEnd {
+pub enum LineEnd {
     Bad(ScriptKind),
     OutOfMemory,
 }

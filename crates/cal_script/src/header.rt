@@ -1,4 +1,4 @@
-ghost use Rattle.std.specs.Prelude.{◌≡◌, false, true, IfOk, OnOk};
+ghost use Rattle.std.specs.Prelude.{◌≡◌, false, true, IfOk, IfSome, OnOk};
 ghost use Rattle.std.specs.Option.{ok_or, option_map};
 ghost use Rattle.cal_script.specs.Limits.{fits};
 ghost use Rattle.cal_script.specs.Parts.{attribute_named, is_among};
@@ -43,11 +43,7 @@ impl Reader {
         Ok(())
     }
 
-    pub(crate) fn read_channel(
-        &mut self,
-        alloc: Global,
-        rest: Option<&str>,
-    ) -> Result<(), LineEnd>
+    pub(crate) fn read_channel(&mut self, alloc: Global, rest: Option<&str>) -> Result<(), LineEnd>
         requires { IsReading self.old }
         ensures said { Gives (λ _. state_of self.new) result
             (channel_after (state_of self.old) (words_behind rest.entry)) }
@@ -70,8 +66,9 @@ impl Reader {
     pub(crate) fn named(&self, name: &str) -> Option<(u32, &Attribute)>
         requires kept { IsReading self.now }
         requires fits { fits (state_of self.now) ≡ true }
-        ensures { ok_or (option_map (λ named. (named.0, named.1.now)) result) kinds.UnknownName
+        ensures named { ok_or (option_map (λ named. (named.0, named.1.now)) result) kinds.UnknownName
             ≡ attribute_named self.now.attributes.items name.now }
+        ensures same { IfSome result (λ named. named.1.now.name ≡ name.now) }
     {
         let place = self.attributes.place(name)?;
         Some((place as u32, &self.attributes.items.as_slice()[place]))
@@ -120,6 +117,7 @@ impl Reader {
         Ok(())
     }
 
+    #[tactic(auto, using(crate::proofs::LastChannel::last_pushed, crate::proofs::LastChannel::earlier_pushed))]
     pub(crate) fn read_key(&mut self, alloc: Global, rest: Option<&str>) -> Result<(), LineEnd>
         requires { IsReading self.old }
         ensures said { Gives (λ _. state_of self.new) result
@@ -138,6 +136,7 @@ impl Reader {
         Ok(())
     }
 
+    #[tactic(auto, using(crate::proofs::LastChannel::last_pushed, crate::proofs::LastChannel::earlier_pushed))]
     pub(crate) fn read_value(&mut self, alloc: Global, rest: Option<&str>) -> Result<(), LineEnd>
         requires { IsReading self.old }
         ensures said { Gives (λ _. state_of self.new) result

@@ -1,6 +1,9 @@
-//! The annotation script: what its bytes say, as plain data.
+//! The annotation script: what its bytes say, as plain data; and the types of a run's journal.
 //!
-//! The types of a script and of a run's journal, which the layers above run and print.
+//! `read_script` gives the script that bytes mean, or their first fault with its line and kind. What
+//! each line makes of what stands before it is `specs/Reading.antt`, which reads as the table of
+//! lines and faults does. The layers above run a valid script without a test. Nothing is promised of
+//! when memory is there.
 #![tactic(auto)]
 
 mod attributes;
@@ -9,10 +12,12 @@ mod end;
 mod header;
 mod journal;
 mod kind;
+mod laws;
 mod lists;
 mod names;
 mod opening;
 mod reader;
+mod reading;
 mod register;
 mod script;
 mod tally;
@@ -20,9 +25,14 @@ mod thread;
 mod value;
 mod words;
 
-pub use end::ScriptEnd;
+pub use end::{LineEnd, ScriptEnd};
 pub use journal::{
     Journal, JournalMarks, JournalText, LineNote, Placed, Reply, RowMark, ThreadNote,
 };
 pub use kind::ScriptKind;
+pub use laws::meaning_law;
+pub use reader::Reader;
+pub use reading::read_script;
 pub use script::{Channel, ChannelQuery, Line, ProbeKind, Script};
+pub use value::read_decimal;
+pub use words::{cut, first_word, one_word, two_words};

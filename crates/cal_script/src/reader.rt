@@ -1,8 +1,8 @@
-ghost use Rattle.std.specs.Prelude.{◌≡◌, ◌<◌, ◌≤◌, ◌^◌, ◌++◌, ◌∷◌, length, option_to_list, true, IfOk, OnOk, IsTrue};
+ghost use Rattle.std.specs.Prelude.{◌≡◌, ◌+◌, ◌<◌, ◌≤◌, ◌^◌, ◌++◌, ◌∷◌, length, option_to_list, true, IfOk, OnOk, IsTrue};
 ghost use Rattle.cal_script.specs.Limits.{fits, thread_count};
 ghost use Rattle.cal_script.specs.Lines.{words_of};
-ghost use Rattle.cal_script.specs.Reader.{IsNear, IsReading, IsSmall, last_thread, state_of};
-ghost use Rattle.cal_script.specs.Reading.{line_after, words_after};
+ghost use Rattle.cal_script.specs.Reader.{HasNames, IsNear, IsReading, IsSmall, last_thread, state_of};
+ghost use Rattle.cal_script.specs.Reading.{line_after, text_after, words_after};
 ghost use Rattle.cal_script.specs.State.{no_lines, script_of, with_line};
 ghost use Rattle.cal_script.specs.Steps.{Gives, words_behind};
 
@@ -26,9 +26,10 @@ const MOST_PROCESS_LINES: u64 = 65_536;
 
 const MOST_TREE_WORDS: u64 = 134_217_728;
 
-/// What the lines of a script have said so far. After an `Err` it is of no more use.
+/// What the lines of a script have said so far, for whoever reads a script line by line. After an
+/// `Err` it is of no more use.
 #[derive(Drop)]
-pub(crate) struct Reader {
+pub struct Reader {
     pub(crate) attributes: Register<Attribute>,
     pub(crate) channels: Register<Channel>,
     pub(crate) valued: bool,
@@ -42,7 +43,7 @@ pub(crate) struct Reader {
 
 impl Reader {
     /// The reader before the first line. It takes no memory.
-    pub(crate) fn new(alloc: Global) -> Self
+    pub fn new(alloc: Global) -> Self
         ensures start { state_of result ≡ no_lines }
         ensures kept { IsReading result }
         ensures fits { fits (state_of result) ≡ true }
@@ -67,7 +68,8 @@ impl Reader {
     }
 
     /// Reads the next line.
-    pub(crate) fn read_line(&mut self, alloc: Global, line: &[u8]) -> Result<(), LineEnd>
+    #[tactic(auto, unfolding(crate::specs::Reading::line_after), using(crate::proofs::Runs::texts))]
+    pub fn read_line(&mut self, alloc: Global, line: &[u8]) -> Result<(), LineEnd>
         requires kept { IsReading self.old }
         requires fits { fits (state_of self.old) ≡ true }
         ensures said { Gives (λ _. state_of self.new) result
@@ -81,7 +83,19 @@ impl Reader {
         if is_skipped(line) {
             return Ok(());
         }
-        self.read_words(alloc, text)?;
+        self.read_text(alloc, text)
+    }
+
+    /// Reads a line that says something.
+    fn read_text(&mut self, alloc: Global, line: &str) -> Result<(), LineEnd>
+        requires kept { IsReading self.old }
+        requires fits { fits (state_of self.old) ≡ true }
+        ensures said { Gives (λ _. state_of self.new) result
+            (text_after (state_of self.old) line.now) }
+        ensures kept { OnOk result (IsReading self.new) }
+        ensures fits { OnOk result (fits (state_of self.new) ≡ true) }
+    {
+        self.read_words(alloc, line)?;
         if !self.fits() {
             return Err(LineEnd::Bad(ScriptKind::TooMany));
         }
@@ -147,10 +161,14 @@ impl Reader {
         words: u64,
     ) -> Result<(), OutOfMemory>
         requires thread { IsTrue self.old.in_thread }
+        requires names { HasNames self.old }
+        requires values { length self.old.values ≤ self.old.tally.lines + 1 }
         requires small { IsSmall self.old.tally }
         requires words { words ≤ 516 }
         ensures added { OnOk result
             (state_of self.new ≡ with_line line process words (state_of self.old)) }
+        ensures kept { OnOk result (IsReading self.new) }
+        ensures earlier { OnOk result (self.new.earlier ≡ self.old.earlier) }
         ensures near { OnOk result (IsNear self.new.tally) }
     {
         self.lines.push(line)?;
@@ -159,7 +177,7 @@ impl Reader {
     }
 
     /// The script that all lines say.
-    pub(crate) fn into_script(self) -> Result<Script, OutOfMemory>
+    pub fn into_script(self) -> Result<Script, OutOfMemory>
         ensures { IfOk result (λ script. script ≡ script_of (state_of self)) }
     {
         let Reader {

@@ -1,12 +1,11 @@
-ghost use Rattle.std.specs.Prelude.{◌≡◌, ◌<◌, ◌++◌, ◌∷◌, [], List, ℕ, false, length, map, OnOk, IfSome};
+ghost use Rattle.std.specs.Prelude.{◌≡◌, ◌<◌, ◌++◌, ◌∷◌, [], List, ℕ, false, length, map, slice_index_or, OnOk, IfSome};
 ghost use Rattle.cal_script.specs.Parts.{is_among, place_of};
 ghost use Rattle.cal_script.specs.Registers.{IsRegister};
 
+use crate::Channel;
 use cal_value::{Attribute, Entry, OutOfMemory, Seq, Text};
 use indexmap::IndexSet;
 use std::alloc::Global;
-
-use crate::Channel;
 
 /// What goes by a name.
 pub(crate) trait Named {
@@ -80,6 +79,8 @@ impl<T: Named + Drop> Register<T> {
         requires { IsRegister T.name_of self.now }
         ensures place { result ≡ place_of (map T.name_of self.now.items) name.now }
         ensures below { IfSome result (λ place. place < length self.now.items) }
+        ensures named { IfSome result (λ place. (other : T)
+            → T.name_of (slice_index_or self.now.items place other) ≡ name.now) }
     {
         self.names.get_index_of(name)
     }

@@ -2,7 +2,7 @@ ghost use Rattle.std.specs.Prelude.{◌≡◌, ◌<◌, ◌≤◌, ◌++◌, ◌
 ghost use Rattle.std.specs.Option.{ok_or, option_map};
 ghost use Rattle.cal_script.specs.Limits.{fits};
 ghost use Rattle.cal_script.specs.Parts.{channel_named};
-ghost use Rattle.cal_script.specs.Reader.{IsEnded, IsNear, IsReading, state_of};
+ghost use Rattle.cal_script.specs.Reader.{IsNear, IsReading, ended, state_of};
 ghost use Rattle.cal_script.specs.Reading.{end_after, flush_after, opening_after, snapshot_after};
 ghost use Rattle.cal_script.specs.Reading.{opening_said, thread_after, tick_after};
 ghost use Rattle.cal_script.specs.Steps.{Gives, words_behind};
@@ -24,7 +24,7 @@ use std::mem;
 impl Reader {
     /// Puts the last thread to the earlier ones, where one has begun.
     fn end_thread(&mut self, alloc: Global) -> Result<(), OutOfMemory>
-        ensures { OnOk result (IsEnded self.old self.new) }
+        ensures { OnOk result (self.new ≡ ended self.old) }
     {
         if self.in_thread {
             let lines = mem::replace(&mut self.lines, Seq::new(alloc));
@@ -35,6 +35,7 @@ impl Reader {
         Ok(())
     }
 
+    #[tactic(auto, using(crate::proofs::Cuts::no_word_more))]
     pub(crate) fn read_thread(&mut self, alloc: Global, rest: Option<&str>) -> Result<(), LineEnd>
         requires kept { IsReading self.old }
         requires fits { fits (state_of self.old) ≡ true }
@@ -53,6 +54,7 @@ impl Reader {
         Ok(())
     }
 
+    #[tactic(auto, using(crate::proofs::Values::made_small))]
     fn opening_of(&self, alloc: Global, rest: Option<&str>) -> Result<Opening, LineEnd>
         requires kept { IsReading self.now }
         requires fits { fits (state_of self.now) ≡ true }
@@ -157,6 +159,7 @@ impl Reader {
         Ok(())
     }
 
+    #[tactic(auto, using(crate::proofs::Cuts::no_word_more))]
     pub(crate) fn read_snapshot(&mut self, rest: Option<&str>) -> Result<(), LineEnd>
         requires kept { IsReading self.old }
         requires fits { fits (state_of self.old) ≡ true }

@@ -103,7 +103,7 @@ fn uint_inside(value: Variant) -> Option<u64>
 
 /// The number of at most 64 bits that a decimal writes.
 #[tactic(auto, using(crate::proofs::Values::uint_read, crate::proofs::Values::uint_unread))]
-pub(crate) fn read_decimal(alloc: Global, word: &str) -> Result<Option<u64>, OutOfMemory>
+pub fn read_decimal(alloc: Global, word: &str) -> Result<Option<u64>, OutOfMemory>
     ensures { IfOk result (λ number. number ≡ uint_of word.now) }
 {
     match parse_value(alloc, Kind::Uint, word) {

@@ -16,7 +16,7 @@ pub(crate) fn is_skipped(line: &[u8]) -> bool
 }
 
 /// A text's first piece, and what stands behind the mark that ends it.
-pub(crate) fn cut(text: &str, mark: char) -> (&str, Option<&str>)
+pub fn cut(text: &str, mark: char) -> (&str, Option<&str>)
     requires { mark < 128 }
     ensures pieces { pieces mark text.now ≡ result.0.now ∷ pieces_behind mark result.1 }
     ensures shorter { IfSome result.1 (λ rest. length rest.now < length text.now) }
@@ -28,7 +28,7 @@ pub(crate) fn cut(text: &str, mark: char) -> (&str, Option<&str>)
 }
 
 /// A line's first word, and what stands behind the space that ends it.
-pub(crate) fn first_word(line: &str) -> (&str, Option<&str>)
+pub fn first_word(line: &str) -> (&str, Option<&str>)
     ensures { pieces 32 line.now ≡ result.0.now ∷ words_behind result.1 }
 {
     cut(line, ' ')
@@ -36,7 +36,7 @@ pub(crate) fn first_word(line: &str) -> (&str, Option<&str>)
 
 /// The one word that stands there.
 #[tactic(auto, using(crate::proofs::Cuts::one_word_more))]
-pub(crate) fn one_word(rest: Option<&str>) -> Option<&str>
+pub fn one_word(rest: Option<&str>) -> Option<&str>
     ensures { option_map (λ word. word.now) result ≡ one_word (words_behind rest.entry) }
 {
     let (word, rest) = first_word(rest?);
@@ -48,7 +48,7 @@ pub(crate) fn one_word(rest: Option<&str>) -> Option<&str>
 
 /// The two words that stand there.
 #[tactic(auto, using(crate::proofs::Cuts::two_words_more))]
-pub(crate) fn two_words(rest: Option<&str>) -> Option<(&str, &str)>
+pub fn two_words(rest: Option<&str>) -> Option<(&str, &str)>
     ensures { option_map (λ words. (words.0.now, words.1.now)) result
         ≡ two_words (words_behind rest.entry) }
 {
