@@ -1,5 +1,5 @@
 pub mod Cuts
+pub mod Registers
 pub mod Values
-pub mod Threads
+pub mod LastChannel
 pub mod Runs
-pub mod Forms

@@ -1,19 +1,18 @@
 -- Where a script goes wrong.
-use Rattle.std.specs.Prelude.{◌≡◌, ℕ, ◌-◌, List, take, IsSome, IsNone}
+use Rattle.std.specs.Prelude.{ℕ, List}
+use Rattle.cal_input.specs.FirstFault.{IsFirstFault}
 use Rattle.cal_script.specs.declared.end.ScriptEnd as ends
 use Rattle.cal_script.specs.declared.end.ScriptEnd.TheVariants as end
-use Rattle.cal_script.specs.declared.kind.ScriptKind.TheVariants.{NotYet}
+use Rattle.cal_script.specs.declared.kind.ScriptKind.{ScriptKind}
 use Rattle.cal_script.specs.Lines.{lines_of}
-use Rattle.cal_script.specs.Reading.{reading}
+use Rattle.cal_script.specs.Reading.{line_after}
+use Rattle.cal_script.specs.State.{no_lines}
 
--- The first fault of lines is the line, counted from 1, before which they say a script and with
--- which they say none. (Giltmoth's rule.)
-pub record IsFirstFault (lines : List (List ℕ)) (line : ℕ) : Type 0 where
-  pub stands : IsSome (reading (take (line - 1) lines))
-  pub falls : IsNone (reading (take line lines))
+-- the first fault of bytes: its line, counted from 1, and its kind
+abbrev pub HasFault : List ℕ → ℕ → ScriptKind → Type 0
+HasFault bytes line kind = IsFirstFault line_after no_lines (lines_of bytes) line kind
 
--- What a refusal says of the bytes: a bad line is their first fault, and running out of memory says
--- nothing.
+-- What a refusal says of the bytes: their first fault. Running out of memory says nothing.
 abbrev pub IsRefusalOf : List ℕ → ends.ScriptEnd → Type 0
-IsRefusalOf bytes (end.BadLine line kind) = IsFirstFault (lines_of bytes) line × (kind ≡ NotYet)
+IsRefusalOf bytes (end.BadLine line kind) = HasFault bytes line kind
 IsRefusalOf bytes end.OutOfMemory = Unit {0}

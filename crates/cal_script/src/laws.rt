@@ -1,23 +1,16 @@
-ghost use Rattle.std.specs.Prelude.{◌≡◌, ◌↔◌, ◌⊎◌, ℕ, List, Some, IsSome, IsNone, IsTrue};
+ghost use Rattle.std.specs.Prelude.{◌≡◌, ◌↔◌, ℕ, List};
+ghost use Rattle.cal_script.specs.declared.kind.ScriptKind.{ScriptKind};
 ghost use Rattle.cal_script.specs.declared.script.Script.{Script};
-ghost use Rattle.cal_script.specs.Lines.{is_skipped};
-ghost use Rattle.cal_script.specs.Spelled.{Said, spelling};
-ghost use Rattle.cal_script.specs.Reading.{line_after, reading};
-ghost use Rattle.cal_script.specs.Faults.{IsFirstFault};
+ghost use Rattle.cal_script.specs.Faults.{HasFault};
+ghost use Rattle.cal_script.specs.Reading.{Means};
 
-/// The law of first faults: lines say a script exactly where they have no first fault, and no lines
-/// have two.
-pub fn first_fault_law()
-    ensures said { (lines : List (List ℕ))
-        → (IsSome (reading lines) ↔ ((line : ℕ) → ¬ IsFirstFault lines line)) }
-    ensures fault { (lines : List (List ℕ))
-        → (IsNone (reading lines) ↔ ((line : ℕ) × IsFirstFault lines line)) }
-    ensures one { (lines : List (List ℕ)) (m n : ℕ)
-        → IsFirstFault lines m → IsFirstFault lines n → m ≡ n }
-{}
-
-/// The law of spelling: a line that may stand says nothing, or is spelled in one of the forms.
-pub fn spelling_law()
-    ensures { (before after : Script) (line : List ℕ) → line_after before line ≡ Some after
-        → (IsTrue (is_skipped line) ⊎ ((said : Said) × (line ≡ spelling said))) }
+/// The law of meaning: bytes mean a script exactly where they have no first fault, and no bytes mean
+/// two scripts or have two first faults.
+pub fn meaning_law()
+    ensures said { (bytes : List ℕ) → (((script : Script) × Means bytes script)
+        ↔ ((line : ℕ) (kind : ScriptKind) → ¬ HasFault bytes line kind)) }
+    ensures one_script { (bytes : List ℕ) (script other : Script)
+        → Means bytes script → Means bytes other → script ≡ other }
+    ensures one_fault { (bytes : List ℕ) (m n : ℕ) (kind other : ScriptKind)
+        → HasFault bytes m kind → HasFault bytes n other → (m ≡ n) × (kind ≡ other) }
 {}

@@ -1,24 +1,38 @@
-//! The annotation script: what its bytes say, as plain data.
+//! The annotation script: what its bytes say, as plain data; and the types of a run's journal.
 //!
-//! `read_script` gives the script that bytes say, or the first line at which they say none. The
-//! layers above run the lines of an accepted script without a test: each number in a line is a
-//! place, and no value is closed that isn't open. Only the first form of the grammar is read so
-//! far, and each other line is a fault `NotYet`. Nothing is promised of when memory is there.
+//! `read_script` gives the script that bytes mean, or their first fault with its line and kind. What
+//! each line makes of what stands before it is `specs/Reading.antt`, which reads as the table of
+//! lines and faults does. The layers above run a valid script without a test. Nothing is promised of
+//! when memory is there.
 #![tactic(auto)]
 
+mod attributes;
+mod channels;
 mod end;
+mod header;
+mod journal;
 mod kind;
 mod laws;
+mod lists;
 mod names;
-mod parts;
+mod opening;
 mod reader;
 mod reading;
+mod register;
 mod script;
+mod tally;
+mod thread;
 mod value;
 mod words;
 
-pub use end::ScriptEnd;
+pub use end::{LineEnd, ScriptEnd};
+pub use journal::{
+    Journal, JournalMarks, JournalText, LineNote, Placed, Reply, RowMark, ThreadNote,
+};
 pub use kind::ScriptKind;
-pub use laws::{first_fault_law, spelling_law};
+pub use laws::meaning_law;
+pub use reader::Reader;
 pub use reading::read_script;
-pub use script::{Channel, Line, Script};
+pub use script::{Channel, ChannelQuery, Line, ProbeKind, Script};
+pub use value::read_decimal;
+pub use words::{cut, first_word, one_word, two_words};

@@ -1,7 +1,6 @@
-ghost use Rattle.std.specs.Prelude.{◌≡◌, Some, IfOk, IfErr};
-ghost use Rattle.cal_script.specs.Reading.{meaning};
+ghost use Rattle.std.specs.Prelude.{◌≡◌, IfOk, IfErr};
 ghost use Rattle.cal_script.specs.Faults.{IsRefusalOf};
-ghost use Rattle.cal_script.specs.Shape.{IsScript};
+ghost use Rattle.cal_script.specs.Reading.{Means};
 
 use crate::end::LineEnd;
 use crate::reader::Reader;
@@ -9,10 +8,9 @@ use crate::{Script, ScriptEnd};
 use cal_line::next_line;
 use std::alloc::Global;
 
-/// The script that the bytes say. It takes time in their number.
+/// The script that the bytes mean. It takes time in their number.
 pub fn read_script(alloc: Global, bytes: &[u8]) -> Result<Script, ScriptEnd>
-    ensures read { IfOk result (λ script. meaning bytes.now ≡ Some script) }
-    ensures shape { IfOk result (λ script. IsScript script) }
+    ensures read { IfOk result (λ script. Means bytes.now script) }
     ensures fault { IfErr result (λ end. IsRefusalOf bytes.now end) }
 {
     let mut reader = Reader::new(alloc);
@@ -28,5 +26,5 @@ pub fn read_script(alloc: Global, bytes: &[u8]) -> Result<Script, ScriptEnd>
         }
         rest = after;
     }
-    Ok(reader.into_script(alloc)?)
+    Ok(reader.into_script()?)
 }

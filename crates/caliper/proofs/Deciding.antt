@@ -5,8 +5,8 @@ use Rattle.std.proofs.lemmas.Option.{IfSome_then}
 use Rattle.cal_base.specs.Change.{Change, HasFailed}
 use Rattle.cal_base.specs.Told.{TakesOver}
 use Rattle.cal_base.proofs.Taking.{ReadsAll-left}
-use Rattle.cal_script.specs.Lines.{lines_of}
-use Rattle.cal_script.proofs.Runs.{none_from_fault, first_fault_one}
+use Rattle.cal_first_form.specs.Lines.{lines_of}
+use Rattle.cal_first_form.proofs.Runs.{none_from_fault, first_fault_one}
 use Rattle.caliper.specs.Causes.{input_limit, Answers, BytesDecide, IsDue, ReadsInput}
 use Rattle.caliper.specs.Inputs.{IsFaultOf, IsTextOf}
 use Rattle.caliper.specs.declared.fault.Fault as faults

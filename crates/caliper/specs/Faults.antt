@@ -1,6 +1,6 @@
 -- What a fault is told as (ours).
 use Rattle.std.specs.Prelude.{ℕ, ◌+◌, List, [], ◌++◌, Option, Some, None, codes, decimal}
-use Rattle.cal_script.specs.Kinds.{kind_name}
+use Rattle.cal_first_form.specs.Kinds.{kind_name}
 use Rattle.caliper.specs.declared.fault.Fault as faults
 use Rattle.caliper.specs.declared.fault.Fault.TheVariants as fault
 use Rattle.caliper.specs.declared.fault.InputKind.{InputKind}

@@ -1,10 +1,10 @@
 -- What each command makes of the bytes of its input: their first fault, or the text that it writes.
 use Rattle.std.specs.Prelude.{◌≡◌, ℕ, List}
 use Rattle.std.specs.Option.{IsSomeAnd}
-use Rattle.cal_script.specs.Faults.{IsFirstFault}
-use Rattle.cal_script.specs.Lines.{lines_of}
-use Rattle.cal_script.specs.Reading.{meaning}
-use Rattle.cal_script.specs.declared.kind.ScriptKind.TheVariants.{NotYet}
+use Rattle.cal_first_form.specs.Faults.{IsFirstFault}
+use Rattle.cal_first_form.specs.Lines.{lines_of}
+use Rattle.cal_first_form.specs.Reading.{meaning}
+use Rattle.cal_first_form.specs.declared.kind.ScriptKind.TheVariants.{NotYet}
 use Rattle.caliper.specs.Texts.{text_of}
 use Rattle.caliper.specs.declared.fault.InputKind.{InputKind}
 use Rattle.caliper.specs.declared.fault.InputKind.TheVariants.{Script}

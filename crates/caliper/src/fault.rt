@@ -1,7 +1,7 @@
 ghost use Rattle.std.specs.Prelude.{◌≡◌, Some};
 ghost use Rattle.caliper.specs.Faults.{input_kind_name, status_of};
 
-use cal_script::ScriptKind;
+use cal_first_form::ScriptKind;
 
 /// Why a call wrote less than it was asked for.
 #[derive(Clone, Copy, Debug, PartialEq, Eq)]

@@ -2,7 +2,7 @@ use Rattle.std.proofs.Common.{length}
 use Rattle.cal_script.proofs.Runs.{IsRun}
 use Rattle.cal_script.proofs.reading.read_script.Given as goal
 
--- the lines so far say the script so far, and the others are those of the rest
+-- the lines so far say what the reader has, and the others are those of the rest
 abbrev pub invariant-loop-rest : goal.invariant-loop-rest
 invariant-loop-rest l = IsRun l.bytes l.line l.reader l.rest
 
