@@ -1,0 +1,9 @@
+pub mod Kinds
+pub mod Nodes
+pub mod BuiltIn
+pub mod Fields
+pub mod NodeLines
+pub mod RecordLines
+pub mod Stream
+pub mod Steps
+pub mod Keys
