@@ -59,14 +59,17 @@ abbrev pub only : StreamKind → List (List ℕ) → Result (List ℕ) StreamKin
 only kind (text ∷ []) = Ok text
 only kind _ = Err kind
 
--- The first field is `__rec`, with one value, which names the sort of the line.
+-- the first field is `__rec`, with one value
+abbrev pub first_name : List Field → Result (List ℕ) StreamKind
+first_name [] = Err kind.NoRecord
+first_name (first ∷ fields) =
+    if has_key (codes "__rec") first then only kind.NoRecord first.values else Err kind.NoRecord
+
+-- which names the sort of the line
 abbrev pub sort_of : List Field → Result Sort StreamKind
-sort_of [] = Err kind.NoRecord
-sort_of (first ∷ fields) =
-    if has_key (codes "__rec") first then (do
-      name ← only kind.NoRecord first.values
-      sort_named name)
-    else Err kind.NoRecord
+sort_of fields = do
+  name ← first_name fields
+  sort_named name
 
 -- An id is a decimal that 64 bits hold.
 abbrev pub id_of : List ℕ → Result ℕ StreamKind

@@ -7,3 +7,9 @@ pub mod RecordLines
 pub mod Stream
 pub mod Steps
 pub mod Keys
+pub mod Held
+pub mod Sites
+pub mod Columns
+pub mod Standing
+pub mod Cuts
+pub mod Reading

@@ -1,7 +1,7 @@
 -- What a `node` line makes of the nodes before it.
-use Rattle.std.specs.Prelude.{ℕ, Bool, true, false, ◌==◌, ◌&&◌, not, nat_le, nat_lt, nat_eq, pos}
+use Rattle.std.specs.Prelude.{ℕ, Bool, ◌==◌, ◌&&◌, not, nat_lt, nat_eq}
 use Rattle.std.specs.Prelude.{List, [], ◌∷◌, Option, Some, None, Result, Ok, Err, codes, length}
-use Rattle.std.specs.Prelude.{is_some, if◌then◌else◌, ◌^◌}
+use Rattle.std.specs.Prelude.{is_some, if◌then◌else◌}
 use Rattle.std.specs.Option.{option_eq}
 use Rattle.std.specs.Ordering.{eq_by_cmp}
 use Rattle.cal_input.specs.FirstFault.{◌>>=◌}
@@ -10,9 +10,8 @@ use Rattle.cal_value.specs.Order.{value_cmp}
 use Rattle.cal_value.specs.Reading.{value_of}
 use Rattle.cal_value.specs.declared.attribute.Attribute.{Attribute}
 use Rattle.cal_value.specs.declared.variant.Variant as variants
-use Rattle.cal_value.specs.declared.variant.Variant.TheVariants as value
 use Rattle.cal_read.specs.Fields.{or_fault, if_there, values_of, only, id_of}
-use Rattle.cal_read.specs.Nodes.{Step, Node, Named, steps_to, kind_below, attribute_of, node_at}
+use Rattle.cal_read.specs.Nodes.{Step, Node, Named, steps_to, kind_below, props_in, attribute_of, node_at}
 use Rattle.cal_read.specs.declared.kind.StreamKind.{StreamKind}
 use Rattle.cal_read.specs.declared.kind.StreamKind.TheVariants as kind
 use Rattle.cal_read.specs.declared.node_texts.NodeIds.{NodeIds}
@@ -49,40 +48,46 @@ known nodes id = or_fault kind.UnknownNode (node_at nodes id)
 abbrev pub as_attribute : Node → Result Attribute StreamKind
 as_attribute n = or_fault kind.NotAttribute (attribute_of n)
 
--- properties are from 0 to 4294967295
-abbrev pub is_props : variants.Variant → Bool
-is_props (value.Int (pos n)) = nat_lt n (2 ^ 32)
-is_props _ = false
-
 -- the value that a text has, of the attribute's kind; one of attribute 10 is properties
 abbrev pub node_value : ℕ → Attribute → List ℕ → Result variants.Variant StreamKind
 node_value id attribute text = do
   value ← or_fault kind.BadValue (value_of attribute.kind text)
-  if id == 10 && not (is_props value) then Err kind.BadValue else Ok value
+  if id == 10 && not (is_some (props_in value)) then Err kind.BadValue else Ok value
 
 -- the steps down to a node; none where there is none
 abbrev pub steps_down : Option Node → List Step
 steps_down None = []
 steps_down (Some n) = steps_to n
 
--- An attribute has a kind above it, and a path at most 1,024 entries (Giltmoth's limit).
-abbrev pub fitting : Node → Result Node StreamKind
-fitting n =
-    if n.own.attribute == 8 && not (is_some (kind_below n.above)) then Err kind.NoKind
-    else (if nat_le (length (steps_to n)) 1024 then Ok n else Err kind.TooDeep)
+-- where a node is to stand: its attribute, and the steps above it
+pub record Site : Type 0 where
+  pub attribute : Attribute
+  pub above : List Step
 
--- the node that a line's ids and value make, below the nodes before it
-abbrev pub node_of : List Named → NodeIds → List ℕ → Result Node StreamKind
-node_of nodes ids text = do
+-- the attribute and the parent were given by earlier lines, or are built in
+abbrev pub site_of : List Named → NodeIds → Result Site StreamKind
+site_of nodes ids = do
   named ← known nodes ids.attribute
   parent ← if_there (known nodes) ids.parent
   attribute ← as_attribute named
-  value ← node_value ids.attribute attribute text
-  fitting (record {
-    own = record { attribute = ids.attribute; entry = record { attr = attribute; value = value } };
-    parent = ids.parent;
-    above = steps_down parent;
-  })
+  Ok (record { attribute = attribute; above = steps_down parent })
+
+-- An attribute has a kind above it, and a path at most 1,024 entries (Giltmoth's limit).
+abbrev pub misfit : ℕ → List Step → Option StreamKind
+misfit id above =
+    if id == 8 && not (is_some (kind_below above)) then Some kind.NoKind
+    else (if nat_lt (length above) 1024 then None else Some kind.TooDeep)
+
+-- the node with these ids, at a site, with a value
+abbrev pub node_there : NodeIds → Site → variants.Variant → Node
+node_there ids site value = record {
+  own = record {
+    attribute = ids.attribute;
+    entry = record { attr = site.attribute; value = value };
+  };
+  parent = ids.parent;
+  above = site.above;
+}
 
 -- the same content: the attribute's id, the value and the parent's id
 abbrev pub same_content : Node → Node → Bool
@@ -96,10 +101,21 @@ abbrev pub with_node : List Named → ℕ → Node → Option Node → Result (L
 with_node nodes id n None = Ok (record { id = id; node = n } ∷ nodes)
 with_node nodes id n (Some old) = if same_content n old then Ok nodes else Err kind.Redefined
 
+-- the nodes with one more, where it fits
+abbrev pub with_fitting : List Named → ℕ → Node → Option StreamKind → Result (List Named) StreamKind
+with_fitting nodes id n (Some kind) = Err kind
+with_fitting nodes id n None = with_node nodes id n (node_at nodes id)
+
+-- the nodes with that of these ids and this text
+abbrev pub with_ids : List Named → NodeIds → List ℕ → Result (List Named) StreamKind
+with_ids nodes ids text = do
+  site ← site_of nodes ids
+  value ← node_value ids.attribute site.attribute text
+  with_fitting nodes ids.id (node_there ids site value) (misfit ids.attribute site.above)
+
 -- what a `node` line makes of the nodes before it
 abbrev pub node_step : List Named → List Field → Result (List Named) StreamKind
 node_step nodes fields = do
   texts ← texts_of fields
   ids ← ids_of texts
-  n ← node_of nodes ids texts.value
-  with_node nodes ids.id n (node_at nodes ids.id)
+  with_ids nodes ids texts.value

@@ -1,7 +1,7 @@
 -- The nodes of a stream, by their ids.
-use Rattle.std.specs.Prelude.{ℕ, ℤ, pos, ◌==◌, List, [], ◌∷◌, ◌++◌, Option, Some, None, map, fold}
-use Rattle.std.specs.Prelude.{if◌then◌else◌}
-use Rattle.std.specs.Option.{option_map}
+use Rattle.std.specs.Prelude.{ℕ, ℤ, pos, ◌==◌, ◌^◌, nat_lt, List, [], ◌∷◌, ◌++◌, map, fold}
+use Rattle.std.specs.Prelude.{Option, Some, None, unwrap_or, if◌then◌else◌}
+use Rattle.std.specs.Option.{option_and_then, option_map}
 use Rattle.cal_value.specs.declared.attribute.Attribute.{Attribute}
 use Rattle.cal_value.specs.declared.attribute.Entry.{Entry}
 use Rattle.cal_value.specs.declared.kind.Kind as kinds
@@ -33,14 +33,14 @@ abbrev pub nearest : ℕ → List Step → Option variants.Variant
 nearest attribute steps =
     fold (λ found s. if s.attribute == attribute then Some s.entry.value else found) None steps
 
--- the kind that a value is, the properties that it is, and its text
-abbrev pub kind_in : Option variants.Variant → Option kinds.Kind
-kind_in (Some (value.Kind k)) = Some k
+-- the kind that a value is, the properties that it is, from 0 to 4294967295, and its text
+abbrev pub kind_in : variants.Variant → Option kinds.Kind
+kind_in (value.Kind k) = Some k
 kind_in _ = None
 
-abbrev pub props_in : Option variants.Variant → ℕ
-props_in (Some (value.Int (pos n))) = n
-props_in _ = 0
+abbrev pub props_in : variants.Variant → Option ℕ
+props_in (value.Int (pos n)) = if nat_lt n (2 ^ 32) then Some n else None
+props_in _ = None
 
 abbrev pub text_in : variants.Variant → List ℕ
 text_in (value.Text t) = t
@@ -48,21 +48,22 @@ text_in _ = []
 
 -- below these steps an attribute has this kind, if any, and these properties (the `.cali` format)
 abbrev pub kind_below : List Step → Option kinds.Kind
-kind_below steps = kind_in (nearest 9 steps)
+kind_below steps = option_and_then kind_in (nearest 9 steps)
 
 abbrev pub props_below : List Step → ℕ
-props_below steps = props_in (nearest 10 steps)
+props_below steps = unwrap_or (option_and_then props_in (nearest 10 steps)) 0
+
+-- the attribute of this name, where there is a kind
+abbrev pub attribute_named : List ℕ → Option kinds.Kind → ℕ → Option Attribute
+attribute_named name kind props =
+    option_map (λ k. record { name = name; kind = k; props = record { 0 = props } }) kind
 
 -- A node is an attribute where its own attribute is that of names: its value is the name, and the
 -- kind and the properties stand above it (the `.cali` format).
 abbrev pub attribute_of : Node → Option Attribute
 attribute_of n =
     if n.own.attribute == 8
-    then option_map (λ k. record {
-      name = text_in n.own.entry.value;
-      kind = k;
-      props = record { 0 = props_below n.above };
-    }) (kind_below n.above)
+    then attribute_named (text_in n.own.entry.value) (kind_below n.above) (props_below n.above)
     else None
 
 -- a node with its id

@@ -1,5 +1,5 @@
 -- What a `ctx` or `globals` line says.
-use Rattle.std.specs.Prelude.{ℕ, ◌==◌, ◌×◌, List, Result, Ok, Err, codes, length, map, if◌then◌else◌}
+use Rattle.std.specs.Prelude.{ℕ, ◌==◌, List, Result, Ok, Err, codes, length, map, if◌then◌else◌}
 use Rattle.std.specs.List.{zip}
 use Rattle.cal_input.specs.FirstFault.{◌>>=◌}
 use Rattle.cal_line.specs.declared.field.Field.{Field}

@@ -53,12 +53,16 @@ step_by_fields s fields =
       sort ← sort_of fields
       step_by_sort s fields sort)
 
--- a blank line adds nothing, and another is a list of fields
+-- a line that isn't blank is a list of fields
+abbrev pub step_by_list : Stream → List ℕ → Result Stream StreamKind
+step_by_list s line = do
+  fields ← or_fault kind.BadField (fields_of line)
+  step_by_fields s fields
+
+-- a blank line adds nothing
 abbrev pub step_by_text : Stream → List ℕ → Result Stream StreamKind
 step_by_text s [] = Ok s
-step_by_text s (byte ∷ bytes) = do
-  fields ← or_fault kind.BadField (fields_of (byte ∷ bytes))
-  step_by_fields s fields
+step_by_text s (byte ∷ bytes) = step_by_list s (byte ∷ bytes)
 
 -- What a line makes of the lines before it, or what is wrong with it there.
 abbrev pub line_step : Stream → List ℕ → Result Stream StreamKind

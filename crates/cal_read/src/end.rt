@@ -4,6 +4,7 @@ ghost use Rattle.std.specs.Prelude.{◌≡◌};
 
 use crate::StreamKind;
 use cal_value::OutOfMemory;
+use std::alloc::{AllocError, AllocFailed};
 use thiserror::Error;
 
 /// Why there are no records.
@@ -24,6 +25,14 @@ impl From<OutOfMemory> for StreamEnd {
     }
 }
 
+impl From<AllocError> for StreamEnd {
+    ghost from_gives = { λ _ end. end ≡ stream_ends.OutOfMemory };
+
+    fn from(_error: AllocError) -> StreamEnd {
+        StreamEnd::OutOfMemory
+    }
+}
+
 /// Why a line isn't taken.
 #[derive(Clone, Copy, Debug, PartialEq, Eq)]
 pub(crate) enum LineEnd {
@@ -39,10 +48,18 @@ impl From<OutOfMemory> for LineEnd {
     }
 }
 
-impl From<StreamKind> for LineEnd {
-    ghost from_gives = { λ kind end. end ≡ line_ends.Bad kind };
+impl From<AllocError> for LineEnd {
+    ghost from_gives = { λ _ end. end ≡ line_ends.OutOfMemory };
 
-    fn from(kind: StreamKind) -> LineEnd {
-        LineEnd::Bad(kind)
+    fn from(_error: AllocError) -> LineEnd {
+        LineEnd::OutOfMemory
+    }
+}
+
+impl<T: Drop> From<AllocFailed<T>> for LineEnd {
+    ghost from_gives = { λ _ end. end ≡ line_ends.OutOfMemory };
+
+    fn from(_error: AllocFailed<T>) -> LineEnd {
+        LineEnd::OutOfMemory
     }
 }

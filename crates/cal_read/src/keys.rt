@@ -1,15 +1,23 @@
-ghost use Rattle.std.specs.Prelude.{◌≡◌, ◌≤◌, take, length, map, Some, None, IfOk, MatchOption};
+ghost use Rattle.std.specs.Prelude.{◌≡◌, ◌≤◌, take, length, IfOk};
 ghost use Rattle.std.specs.List.{list_any};
 ghost use Rattle.cal_read.specs.Fields.{has_key, repeats_key, values_of};
-ghost use Rattle.cal_read.specs.Keys.{FindsField};
+ghost use Rattle.cal_read.specs.Keys.{values_in};
 
+use cal_context::Interner;
 use cal_line::{FieldPieces, Fields};
 use cal_value::{OutOfMemory, Text};
-use indexmap::IndexSet;
 use std::alloc::Global;
 
-// with so many fields, each key is compared with those before it
+// among so many fields a key is compared with each one before it
 const FEW: usize = 16;
+
+/// Whether a field has this key.
+pub(crate) fn has_key(alloc: Global, field: &FieldPieces, key: &str) -> Result<bool, OutOfMemory>
+    ensures { IfOk result (λ has. has ≡ has_key key.now field.now) }
+{
+    let text = field.key().text(alloc)?;
+    Ok(text.as_str() == key)
+}
 
 /// The field with this key.
 pub(crate) fn field_with_key<'a>(
@@ -17,12 +25,11 @@ pub(crate) fn field_with_key<'a>(
     fields: &Fields<'a>,
     key: &str,
 ) -> Result<Option<FieldPieces<'a>>, OutOfMemory>
-    ensures { IfOk result (λ found. FindsField found key.now fields.now) }
+    ensures { IfOk result (λ found. values_of key.now fields.now ≡ values_in found) }
 {
     for place in 0..fields.len() {
         let field = fields.get(place);
-        let text = field.key().text(alloc)?;
-        if text.as_str() == key {
+        if has_key(alloc, &field, key)? {
             return Ok(Some(field));
         }
     }
@@ -65,8 +72,7 @@ fn has_key_before(
 {
     for place in 0..count {
         let field = fields.get(place);
-        let text = field.key().text(alloc)?;
-        if text.as_str() == key {
+        if has_key(alloc, &field, key)? {
             return Ok(true);
         }
     }
@@ -76,11 +82,11 @@ fn has_key_before(
 fn repeats_key_of_many(alloc: Global, fields: &Fields) -> Result<bool, OutOfMemory>
     ensures { IfOk result (λ repeats. repeats ≡ repeats_key fields.now) }
 {
-    let mut keys: IndexSet<Text> = IndexSet::new(alloc);
+    let mut keys: Interner<Text> = Interner::new(alloc);
     for place in 0..fields.len() {
         let field = fields.get(place);
-        let (_, is_new) = keys.insert_full(field.key().to_text(alloc)?)?;
-        if !is_new {
+        let number = keys.intern(field.key().to_text(alloc)?)?;
+        if (number as usize) < place {
             return Ok(true);
         }
     }

@@ -6,8 +6,15 @@ mod end;
 mod ids;
 mod keys;
 mod kind;
+mod node_line;
 mod node_texts;
+mod nodes;
+mod place;
+mod record_line;
 mod sort;
+mod stream;
+mod stream_reader;
 
 pub use end::StreamEnd;
 pub use kind::StreamKind;
+pub use stream_reader::StreamReader;

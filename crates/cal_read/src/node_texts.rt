@@ -1,5 +1,4 @@
-ghost use Rattle.std.specs.Prelude.{◌≡◌, ◌<◌, length, Some, None, IfOk, MatchOption, slice_get, codes};
-ghost use Rattle.cal_read.specs.Fields.{has_key, only, values_of};
+ghost use Rattle.cal_read.specs.Fields.{only, values_of};
 ghost use Rattle.cal_read.specs.NodeLines.{at_most_one, ids_of, texts_of};
 ghost use Rattle.cal_read.specs.Steps.{Answers};
 
@@ -7,7 +6,7 @@ use crate::StreamKind;
 use crate::end::LineEnd;
 use crate::ids::read_id;
 use crate::keys::field_with_key;
-use cal_line::{FieldPieces, Fields, Piece};
+use cal_line::{Fields, Piece};
 use std::alloc::Global;
 
 /// The four fields of a `node` line.
@@ -64,10 +63,11 @@ fn at_most_one<'a>(
     let Some(field) = field_with_key(alloc, fields, key)? else {
         return Ok(None);
     };
-    if field.value_count() != 1 {
-        return Err(LineEnd::Bad(StreamKind::MissingField));
+    match field.value_count() {
+        0 => Ok(None),
+        1 => Ok(Some(field.value(0))),
+        _ => Err(LineEnd::Bad(StreamKind::MissingField)),
     }
-    Ok(Some(field.value(0)))
 }
 
 /// The three ids.

@@ -1,0 +1,123 @@
+-- What a reader has read, as bytes come and lines end.
+use Rattle.std.proofs.Common.{◌≡◌, ℕ, ◌+◌, ◌<◌, List, [], ◌∷◌, ◌++◌, length, Some, None, refl, sym, ap, ◌∙◌, subst, append_assoc, arith}
+use Rattle.std.specs.Prelude.{Result, Ok, Err}
+use Rattle.cal_context.specs.Tree.{Tree, Grows}
+use Rattle.cal_context.proofs.CallerLemmas.{IsIn-Grows, meaning-Grows}
+use Rattle.cal_input.specs.FirstFault.{after_lines, IsFirstFault}
+use Rattle.cal_line.specs.Lines.{lines_of, HasNoNewline}
+use Rattle.cal_value.specs.declared.record.Rec.{Rec}
+use Rattle.cal_read.specs.Cuts.{ended_lines, IsCut}
+use Rattle.cal_read.specs.Reading.{HasRead, IsRefusalOf, TakesBytes, TakesEnd, Ends, rows_made, rows_of_lines, rows_before}
+use Rattle.cal_read.specs.Standing.{Stands, TakesUpTo}
+use Rattle.cal_read.specs.Stream as streams
+use Rattle.cal_read.specs.Stream.{no_lines, line_step}
+use Rattle.cal_read.specs.declared.end.StreamEnd as ends
+use Rattle.cal_read.specs.declared.end.StreamEnd.TheVariants as end
+use Rattle.cal_read.specs.declared.kind.StreamKind.{StreamKind}
+use Rattle.cal_read.specs.declared.stream.Stream.{Stream}
+use Rattle.cal_read.specs.declared.stream_reader.StreamReader.{StreamReader}
+use Rattle.cal_read.proofs.CutLemmas.{cut-begin, cut-end, cut-ended, cut-more, cut-lines, cut-lines_none}
+use Rattle.cal_read.proofs.FaultLemmas.{after_push, fault_push, fault_more}
+use Rattle.cal_read.proofs.HeldLemmas.{AreHeld-Grows}
+
+-- what is held stays while the context grows
+pub Stands-Grows : {old new : Tree} → Grows old new → (held : Stream) (s : streams.Stream) → Stands old held s → Stands new held s
+Stands-Grows grows held s h = record {
+  nodes = AreHeld-Grows grows held.nodes s.nodes h.nodes;
+  within = IsIn-Grows grows held.globals h.within;
+  globals = meaning-Grows grows held.globals h.within ∙ h.globals;
+}
+
+pub HasRead-Grows : (r : StreamReader) (old new : Tree) (bytes : List ℕ) → HasRead r old bytes → Grows old new → HasRead r new bytes
+HasRead-Grows r old new bytes h grows = record {
+  sound = h.sound;
+  lines = h.lines;
+  cut = h.cut;
+  counted = h.counted;
+  stream = h.stream;
+  made = h.made;
+  stands = Stands-Grows grows r.stream h.stream h.stands;
+}
+
+module _ (r : StreamReader) (t : Tree) (bytes : List ℕ) (h : HasRead r t bytes) where
+  -- the rows of what was read
+  pub rows_read : rows_before bytes ≡ h.stream.rows
+  rows_read = ap rows_of_lines (cut-ended bytes h.lines r.begun.items h.cut) ∙ ap rows_made h.made
+
+  -- more of the line that has begun
+  pub read_begun : (new : StreamReader) (part : List ℕ) → HasNoNewline part → new.refused ≡ r.refused → new.lines ≡ r.lines → new.stream ≡ r.stream
+      → new.begun.items ≡ r.begun.items ++ part → HasRead new t (bytes ++ part)
+  read_begun new part none refused lines stream begun = record {
+    sound = refused ∙ h.sound;
+    lines = h.lines;
+    cut = subst (IsCut (bytes ++ part) h.lines) (sym begun) (cut-begin bytes h.lines r.begun.items h.cut part none);
+    counted = lines ∙ h.counted;
+    stream = h.stream;
+    made = h.made;
+    stands = subst (λ s. Stands t s h.stream) (sym stream) h.stands;
+  }
+
+  pub rows_begun : (part : List ℕ) → HasNoNewline part → rows_before (bytes ++ part) ≡ rows_before bytes
+  rows_begun part none =
+      ap rows_of_lines (cut-ended (bytes ++ part) h.lines (r.begun.items ++ part) (cut-begin bytes h.lines r.begun.items h.cut part none)
+      ∙ sym (cut-ended bytes h.lines r.begun.items h.cut))
+
+  -- the line that has begun ends
+  pub ended : ended_lines (bytes ++ 10 ∷ []) ≡ h.lines ++ r.begun.items ∷ []
+  ended = cut-ended (bytes ++ 10 ∷ []) (h.lines ++ r.begun.items ∷ []) [] (cut-end bytes h.lines r.begun.items h.cut)
+
+  pub read_ended : (u : Tree) (new : StreamReader) (next : streams.Stream) → line_step h.stream r.begun.items ≡ Ok next → Stands u new.stream next
+      → new.refused ≡ r.refused → new.lines ≡ r.lines + 1 → new.begun.items ≡ [] → HasRead new u (bytes ++ 10 ∷ [])
+  read_ended u new next made stands refused lines begun = record {
+    sound = refused ∙ h.sound;
+    lines = h.lines ++ r.begun.items ∷ [];
+    cut = subst (IsCut (bytes ++ 10 ∷ []) (h.lines ++ r.begun.items ∷ [])) (sym begun) (cut-end bytes h.lines r.begun.items h.cut);
+    counted = lines ∙ ap (λ n. n + 1) h.counted ∙ counts h.lines r.begun.items;
+    stream = next;
+    made = after_push line_step no_lines h.lines r.begun.items h.stream next h.made made;
+    stands = stands;
+  }
+    where
+      counts : (ls : List (List ℕ)) (l : List ℕ) → length ls + 1 ≡ length (ls ++ l ∷ [])
+      counts ls l = grind arith
+
+  pub rows_ended : (next : streams.Stream) → line_step h.stream r.begun.items ≡ Ok next → rows_before (bytes ++ 10 ∷ []) ≡ next.rows
+  rows_ended next made = ap rows_of_lines ended ∙ ap rows_made (after_push line_step no_lines h.lines r.begun.items h.stream next h.made made)
+
+  pub takes_ended : (had has : List Rec → Type 0) (next : streams.Stream) → line_step h.stream r.begun.items ≡ Ok next → TakesUpTo had has h.stream.rows next.rows
+      → TakesBytes had has bytes (bytes ++ 10 ∷ [])
+  takes_ended had has next made takes = λ first g. subst (λ rs. has (first ++ rs)) (sym (rows_ended next made)) (takes first (subst (λ rs. had (first ++ rs)) rows_read g))
+
+  pub fault_ended : (kind : StreamKind) → line_step h.stream r.begun.items ≡ Err kind → IsFirstFault line_step no_lines (ended_lines (bytes ++ 10 ∷ [])) (r.lines + 1) kind
+  fault_ended kind falls =
+      subst (λ ls. IsFirstFault line_step no_lines ls (r.lines + 1) kind) (sym ended)
+      (subst (λ n. IsFirstFault line_step no_lines (h.lines ++ r.begun.items ∷ []) (n + 1) kind) (sym h.counted)
+      (fault_push line_step no_lines h.lines r.begun.items h.stream kind h.made falls))
+
+  -- a refusal of the line that ends stays one, where more bytes follow
+  pub refusal_more : (more : List ℕ) (refusal : ends.StreamEnd) → IsRefusalOf (ended_lines (bytes ++ 10 ∷ [])) refusal
+      → IsRefusalOf (ended_lines ((bytes ++ 10 ∷ []) ++ more)) refusal
+  refusal_more more end.OutOfMemory is = tt
+  refusal_more more (end.BadLine line kind) is =
+      subst (λ ls. IsFirstFault line_step no_lines ls line kind)
+      (ap (λ ls. ls ++ ended_lines more) ended ∙ sym (cut-more (bytes ++ 10 ∷ []) (h.lines ++ r.begun.items ∷ []) [] (cut-end bytes h.lines r.begun.items h.cut) refl more))
+      (fault_more line_step no_lines (ended_lines (bytes ++ 10 ∷ [])) (ended_lines more) line kind is)
+
+  -- the lines of the whole, where one has begun
+  pub lines_ended : 0 < length r.begun.items → lines_of bytes ≡ ended_lines (bytes ++ 10 ∷ [])
+  lines_ended some = cut-lines bytes h.lines r.begun.items h.cut some ∙ sym ended
+
+  pub lines_none : r.begun.items ≡ [] → lines_of bytes ≡ ended_lines bytes
+  lines_none none = cut-lines_none bytes h.lines r.begun.items h.cut none ∙ sym (cut-ended bytes h.lines r.begun.items h.cut)
+
+  -- the globals, where no line has begun
+  pub ends_none : (globals : Rec) → r.begun.items ≡ [] → globals ≡ h.stream.globals → Ends bytes globals
+  ends_none globals none are = record {
+    stream = h.stream;
+    is = ap (after_lines line_step no_lines) (cut-lines_none bytes h.lines r.begun.items h.cut none) ∙ h.made;
+    globals_are = are;
+  }
+
+-- two parts of what was taken
+pub TakesBytes-trans : (had then has : List Rec → Type 0) (a b c : List ℕ) → TakesBytes had then a b → TakesBytes then has b c → TakesBytes had has a c
+TakesBytes-trans had then has a b c h g = λ first is. g first (h first is)
