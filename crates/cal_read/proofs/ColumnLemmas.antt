@@ -88,12 +88,12 @@ found_length t [] (m ∷ nodes) are = absurd are
 found_length t (f ∷ found) [] are = absurd are
 found_length t (f ∷ found) (m ∷ nodes) are = ap suc (found_length t found nodes are.1)
 
-attribute_is : (t : Tree) (number : AttributeNumber) (o : Option Attribute) → IsNumberOf t (Some number) o
+pub attribute_is : (t : Tree) (number : AttributeNumber) (o : Option Attribute) → IsNumberOf t (Some number) o
     → (number.0 < length t.attributes) × (or_fault kind.NotAttribute o ≡ Ok (attribute_at t number))
 attribute_is t number None h = absurd h
 attribute_is t number (Some a) h = (h.0, ap Ok (sym h.1))
 
-attribute_is_none : (t : Tree) (o : Option Attribute) → IsNumberOf t None o → or_fault kind.NotAttribute o ≡ Err kind.NotAttribute
+pub attribute_is_none : (t : Tree) (o : Option Attribute) → IsNumberOf t None o → or_fault kind.NotAttribute o ≡ Err kind.NotAttribute
 attribute_is_none t None h = refl
 attribute_is_none t (Some a) h = absurd h
 

@@ -5,4 +5,6 @@ mod HeldLemmas
 mod CutLemmas
 mod FaultLemmas
 mod ColumnLemmas
+mod SiteLemmas
 mod ReadLemmas
+mod StreamLemmas

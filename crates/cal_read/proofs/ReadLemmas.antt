@@ -2,7 +2,7 @@
 use Rattle.std.proofs.Common.{◌≡◌, ℕ, ◌+◌, ◌<◌, List, [], ◌∷◌, ◌++◌, length, Some, None, refl, sym, ap, ◌∙◌, subst, append_assoc, arith}
 use Rattle.std.specs.Prelude.{Result, Ok, Err}
 use Rattle.cal_context.specs.Tree.{Tree, Grows}
-use Rattle.cal_context.proofs.CallerLemmas.{IsIn-Grows, meaning-Grows}
+use Rattle.cal_context.proofs.CallerLemmas.{IsIn-Grows, meaning-Grows, TakesMore-trans}
 use Rattle.cal_input.specs.FirstFault.{after_lines, IsFirstFault}
 use Rattle.cal_line.specs.Lines.{lines_of, HasNoNewline}
 use Rattle.cal_value.specs.declared.record.Rec.{Rec}
@@ -86,7 +86,11 @@ module _ (r : StreamReader) (t : Tree) (bytes : List ℕ) (h : HasRead r t bytes
 
   pub takes_ended : (had has : List Rec → Type 0) (next : streams.Stream) → line_step h.stream r.begun.items ≡ Ok next → TakesUpTo had has h.stream.rows next.rows
       → TakesBytes had has bytes (bytes ++ 10 ∷ [])
-  takes_ended had has next made takes = λ first g. subst (λ rs. has (first ++ rs)) (sym (rows_ended next made)) (takes first (subst (λ rs. had (first ++ rs)) rows_read g))
+  takes_ended had has next made takes = record {
+    more = takes.more;
+    rows = rows_ended next made ∙ takes.rows ∙ ap (λ rs. rs ++ takes.more) (sym rows_read);
+    taken = takes.taken;
+  }
 
   pub fault_ended : (kind : StreamKind) → line_step h.stream r.begun.items ≡ Err kind → IsFirstFault line_step no_lines (ended_lines (bytes ++ 10 ∷ [])) (r.lines + 1) kind
   fault_ended kind falls =
@@ -119,5 +123,21 @@ module _ (r : StreamReader) (t : Tree) (bytes : List ℕ) (h : HasRead r t bytes
   }
 
 -- two parts of what was taken
-pub TakesBytes-trans : (had then has : List Rec → Type 0) (a b c : List ℕ) → TakesBytes had then a b → TakesBytes then has b c → TakesBytes had has a c
-TakesBytes-trans had then has a b c h g = λ first is. g first (h first is)
+pub TakesUpTo-trans : (had then has : List Rec → Type 0) (a b c : List Rec) → TakesUpTo had then a b → TakesUpTo then has b c → TakesUpTo had has a c
+TakesUpTo-trans had then has a b c h g = record {
+  more = h.more ++ g.more;
+  rows = g.rows ∙ ap (λ rs. rs ++ g.more) h.rows ∙ append_assoc a h.more g.more;
+  taken = TakesMore-trans had then has h.more g.more h.taken g.taken;
+}
+
+append-nil : {A : Type 0} (xs : List A) → xs ++ [] ≡ xs
+append-nil [] = refl
+append-nil (x ∷ xs) = ap (λ r. x ∷ r) (append-nil xs)
+
+-- nothing more was taken
+pub TakesUpTo-none : (had has : List Rec → Type 0) (a b : List Rec) → b ≡ a → ((rs : List Rec) → had rs → has rs) → TakesUpTo had has a b
+TakesUpTo-none had has a b same keeps = record {
+  more = [];
+  rows = same ∙ sym (append-nil a);
+  taken = λ rs h. subst has (sym (append-nil rs)) (keeps rs h);
+}

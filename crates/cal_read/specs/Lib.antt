@@ -13,3 +13,4 @@ pub mod Columns
 pub mod Standing
 pub mod Cuts
 pub mod Reading
+pub mod Owned

@@ -89,12 +89,11 @@ node_there ids site value = record {
   above = site.above;
 }
 
--- the same content: the attribute's id, the value and the parent's id
+-- the same content: the attribute's id, the parent's id and the value
 abbrev pub same_content : Node → Node → Bool
 same_content n m =
-    (n.own.attribute == m.own.attribute)
+    (n.own.attribute == m.own.attribute) && option_eq nat_eq n.parent m.parent
     && eq_by_cmp value_cmp n.own.entry.value m.own.entry.value
-    && option_eq nat_eq n.parent m.parent
 
 -- A node gets its id; one that has the id already must have the same content.
 abbrev pub with_node : List Named → ℕ → Node → Option Node → Result (List Named) StreamKind

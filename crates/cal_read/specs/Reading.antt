@@ -54,12 +54,11 @@ IsReadyIf (Some refusal) reader t = Unit {0}
 abbrev pub IsReady : StreamReader → Tree → Type 0
 IsReady reader t = IsReadyIf reader.refused reader t
 
--- where a taker had taken the rows of the lines that had ended, it has taken those of the lines that
--- have ended now
+-- the rows of the lines that have ended since were taken
 abbrev pub TakesBytes : (List Rec → Type 0) → (List Rec → Type 0) → List ℕ → List ℕ → Type 0
 TakesBytes had has before after = TakesUpTo had has (rows_before before) (rows_before after)
 
--- and here all the rows of the stream
+-- the rest of the rows was taken
 abbrev pub TakesEnd : (List Rec → Type 0) → (List Rec → Type 0) → List ℕ → Type 0
 TakesEnd had has bytes = TakesUpTo had has (rows_before bytes) (rows_of_lines (lines_of bytes))
 

@@ -1,6 +1,7 @@
 -- What the reader holds stands for what the lines have made (private).
 use Rattle.std.specs.Prelude.{◌≡◌, List, ◌++◌}
 use Rattle.cal_context.specs.Snapshots.{IsIn, meaning}
+use Rattle.cal_context.specs.Taking.{TakesMore}
 use Rattle.cal_context.specs.Tree.{Tree}
 use Rattle.cal_value.specs.declared.record.Rec.{Rec}
 use Rattle.cal_read.specs.Held.{AreHeld}
@@ -16,9 +17,11 @@ pub record Stands (t : Tree) (held : Stream) (s : streams.Stream) : Type 0 where
 abbrev pub StandsForSome : Tree → Stream → Type 0
 StandsForSome t held = (s : streams.Stream) × Stands t held s
 
--- where a taker had taken the one list of rows, behind whatever it had before, it has the other now
-abbrev pub TakesUpTo : (List Rec → Type 0) → (List Rec → Type 0) → List Rec → List Rec → Type 0
-TakesUpTo had has before after = (first : List Rec) → had (first ++ before) → has (first ++ after)
+-- The rows of after are those of before and some more, and a taker has taken these.
+pub record TakesUpTo (had has : List Rec → Type 0) (before after : List Rec) : Type 0 where
+  pub more : List Rec
+  pub rows : after ≡ before ++ more
+  pub taken : TakesMore had has more
 
 -- a line was taken: what is held stands for what it makes, and its row was taken
 pub record TakesLine (t : Tree) (held : Stream) (had has : List Rec → Type 0)

@@ -85,8 +85,8 @@ fn repeats_key_of_many(alloc: Global, fields: &Fields) -> Result<bool, OutOfMemo
     let mut keys: Interner<Text> = Interner::new(alloc);
     for place in 0..fields.len() {
         let field = fields.get(place);
-        let number = keys.intern(field.key().to_text(alloc)?)?;
-        if (number as usize) < place {
+        keys.intern(field.key().to_text(alloc)?)?;
+        if keys.as_slice().len() == place {
             return Ok(true);
         }
     }

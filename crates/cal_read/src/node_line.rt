@@ -1,4 +1,7 @@
-ghost use Rattle.std.specs.Prelude.{◌≡◌, ◌<◌, List, IfOk, length};
+ghost use Rattle.std.specs.Prelude.{◌≡◌, ◌==◌, ◌&&◌, ◌<◌, List, IfOk, length, nat_eq};
+ghost use Rattle.std.specs.Option.{option_eq};
+ghost use Rattle.std.specs.Ordering.{eq_by_cmp};
+ghost use Rattle.cal_value.specs.Order.{value_cmp};
 ghost use Rattle.cal_context.specs.Snapshots.{IsBelowRoot};
 ghost use Rattle.cal_context.specs.Tree.{Grows, attribute_at};
 ghost use Rattle.cal_read.specs.Held.{AreHeld, HoldsSome, IsHeld};
@@ -15,7 +18,7 @@ use crate::nodes::{Held, Nodes, Place};
 use crate::place::{misfit, number_of, place_below, props_in, root};
 use cal_context::{AttributeNumber, Context};
 use cal_line::{Fields, Piece};
-use cal_value::{OutOfMemory, ValueFault, Variant, parse_value, same};
+use cal_value::{OutOfMemory, ValueFault, Variant, parse_value};
 use std::alloc::Global;
 
 /// Where a node is to stand: its attribute, and the place above it.
@@ -139,12 +142,28 @@ fn has_content(old: &Held, ids: &NodeIds, value: &Variant, context: &Context) ->
         → (m.own.attribute ≡ ids.now.attribute) → (m.own.entry.value ≡ value.now)
         → (m.parent ≡ ids.now.parent) → result ≡ same_content m n }
 {
-    let Some(link) = context.link(old.place.node) else {
+    if !has_ids(old, ids) {
         return false;
-    };
-    old.attribute == ids.attribute
-        && same(context.value_at(link.value), value)
-        && old.parent == ids.parent
+    }
+    has_value(old, value, context)
+}
+
+fn has_ids(old: &Held, ids: &NodeIds) -> bool
+    ensures { result ≡ ((ids.now.attribute == old.now.attribute)
+        && option_eq nat_eq ids.now.parent old.now.parent) }
+{
+    ids.attribute == old.attribute && ids.parent == old.parent
+}
+
+fn has_value(old: &Held, value: &Variant, context: &Context) -> bool
+    requires { IsBelowRoot context.now old.now.place.node }
+    ensures { (n : Node) → IsHeld context.now old.now n
+        → result ≡ eq_by_cmp value_cmp value.now n.own.entry.value }
+{
+    match context.link(old.place.node) {
+        Some(link) => *value == *context.value_at(link.value),
+        None => false,
+    }
 }
 
 /// What is held of a new node.

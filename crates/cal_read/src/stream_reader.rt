@@ -37,6 +37,7 @@ impl StreamReader {
     pub fn new(alloc: Global, context: &mut Context) -> Result<StreamReader, OutOfMemory>
         ensures grows { Grows context.old context.new }
         ensures read { IfOk result (λ reader. HasRead reader context.new []) }
+        ensures ready { IfOk result (λ reader. IsReady reader context.new) }
     {
         Ok(StreamReader {
             alloc,
@@ -114,6 +115,13 @@ impl StreamReader {
             &mut self.stream.globals,
             Snapshot::new(self.alloc),
         ))
+    }
+
+    /// Refuses from now on.
+    pub(crate) fn refuse(&mut self, end: StreamEnd)
+        ensures { IsRefused self.new end }
+    {
+        self.refused = Some(end);
     }
 
     fn feed_lines<T: Taker>(
