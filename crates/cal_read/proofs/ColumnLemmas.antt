@@ -2,14 +2,25 @@
 use Rattle.std.proofs.Common.{◌≡◌, ℕ, suc, zero, ◌+◌, ◌<◌, ◌≤◌, List, [], ◌∷◌, ◌++◌, length, map, take, get_or, Option, Some, None, refl, sym, ap, ◌∙◌, subst, add-one, arith}
 use Rattle.std.specs.Prelude.{slice_get, Result, Ok, Err}
 use Rattle.std.specs.List.{All, zip}
+use Rattle.std.specs.Option.{option_map}
+use Rattle.std.proofs.lemmas.Slice.Zip.{length-zip}
+use Rattle.indexmap.proofs.ReorderLemmas.{slice_get-zip_some}
 use Rattle.std.proofs.lemmas.List.{map-append}
 use Rattle.std.proofs.lemmas.List.Elements.{All-push}
-use Rattle.std.proofs.lemmas.Option.{slice_get-get_or, slice_get_past}
+use Rattle.std.proofs.lemmas.Option.{slice_get-get_or, slice_get-map, slice_get_past}
 use Rattle.cal_context.specs.Snapshots.{IsBelowRoot}
 use Rattle.cal_context.specs.Tree.{Tree, attribute_at, path_at}
 use Rattle.cal_context.specs.declared.numbers.AttributeNumber.{AttributeNumber}
 use Rattle.cal_context.specs.declared.numbers.NodeNumber.{NodeNumber}
 use Rattle.cal_value.specs.declared.attribute.Attribute.{Attribute}
+use Rattle.cal_input.specs.FirstFault.{◌>>=◌}
+use Rattle.cal_value.specs.Reading.{value_of}
+use Rattle.cal_value.specs.declared.attribute.Entry.{Entry}
+use Rattle.cal_value.specs.declared.variant.Variant.{Variant}
+use Rattle.cal_read.specs.RecordLines.{entry_of}
+use Rattle.cal_read.specs.Steps.{Answers}
+use Rattle.cal_read.specs.declared.end.LineEnd as ends
+use Rattle.cal_read.specs.declared.end.LineEnd.TheVariants as end
 use Rattle.cal_read.specs.Columns.{AreEnds, AreFound, AreNumbers}
 use Rattle.cal_read.specs.Fields.{each, or_fault}
 use Rattle.cal_read.specs.Held.{held_at, IsHeld, IsNumberOf, AreHeld}
@@ -115,3 +126,21 @@ module _ (t : Tree) (found : List (Option AttributeNumber)) (nodes : List Node) 
       let it = found_there t found nodes i number are at in
       each_falls as_attribute nodes i it.0 it.1 attributes before kind.NotAttribute
       (attribute_is_none t (attribute_of it.0) (subst (λ x. IsNumberOf t x (attribute_of it.0)) is it.2))
+
+-- ---- entries
+
+module _ (a : Attribute) (text : List ℕ) where
+  pub entry_made : (v : Variant) → or_fault kind.BadValue (value_of a.kind text) ≡ Ok v → entry_of (a, text) ≡ Ok (record { attr = a; value = v })
+  entry_made v e = ap (λ o. o >>= (λ value. Ok (record { attr = a; value = value }))) e
+
+  pub entry_err : (e : ends.LineEnd) → Answers {A = Variant} (Err e) (or_fault kind.BadValue (value_of a.kind text)) → Answers {A = Entry} (Err e) (entry_of (a, text))
+  entry_err (end.Bad k) is = ap (λ o. o >>= (λ value. Ok (record { attr = a; value = value }))) is
+  entry_err end.OutOfMemory is = tt
+
+module _ (t : Tree) (numbers : List AttributeNumber) (texts : List (List ℕ)) (i : ℕ) (number : AttributeNumber) (text : List ℕ)
+    (there : slice_get numbers i ≡ Some number) (at : slice_get texts i ≡ Some text) where
+  pub pair_at : slice_get (zip (map (attribute_at t) numbers) texts) i ≡ Some (attribute_at t number, text)
+  pair_at = slice_get-zip_some (map (attribute_at t) numbers) texts i (attribute_at t number) text (slice_get-map (attribute_at t) numbers i ∙ ap (option_map (attribute_at t)) there) at
+
+pub pairs_past : (t : Tree) (numbers : List AttributeNumber) (texts : List (List ℕ)) (i : ℕ) → length texts ≤ i → length (zip (map (attribute_at t) numbers) texts) ≤ i
+pairs_past t numbers texts i past = omega (arith, length-zip (map (attribute_at t) numbers) texts, past)

@@ -4,6 +4,9 @@ use Rattle.std.specs.Prelude.{slice_get, Result, Ok, Err}
 use Rattle.std.proofs.lemmas.List.{take-append-drop, take_all}
 use Rattle.cal_input.specs.FirstFault.{◌>>=◌}
 use Rattle.cal_read.specs.Fields.{each}
+use Rattle.cal_read.specs.Steps.{Answers, AnswersFor}
+use Rattle.cal_read.specs.declared.end.LineEnd as ends
+use Rattle.cal_read.specs.declared.end.LineEnd.TheVariants as end
 use Rattle.cal_read.specs.declared.kind.StreamKind.{StreamKind}
 use Rattle.cal_read.proofs.ListLemmas.{drop_at, take_at}
 
@@ -43,6 +46,12 @@ module _ {A B : Type 0} (f : A → Result B StreamKind) where
         ap (each f) (sym (take-append-drop i xs) ∙ ap (λ r. take i xs ++ r) (drop_at xs i x at))
         ∙ each-stops (take i xs) x (drop (i + 1) xs) ys k h e
 
+  -- an item that isn't answered
+  pub each_err : {C : Type 0} (P : C → List B → Type 0) (xs : List A) (i : ℕ) (x : A) → slice_get xs i ≡ Some x → (ys : List B) → each f (take i xs) ≡ Ok ys
+      → (e : ends.LineEnd) → Answers {A = B} (Err e) (f x) → AnswersFor P (Err e) (each f xs)
+  each_err P xs i x at ys h (end.Bad k) is = each_falls xs i x at ys h k is
+  each_err P xs i x at ys h end.OutOfMemory is = tt
+
   pub each_all : (xs : List A) (i : ℕ) (ys : List B) → length xs ≤ i → each f (take i xs) ≡ Ok ys → each f xs ≡ Ok ys
   each_all xs i ys past h = ap (each f) (sym (take_all i xs past)) ∙ h
 
@@ -51,11 +60,12 @@ module _ {A B : Type 0} (f : A → Result B StreamKind) where
   length_more n first (Err k) ys h e = cc
   length_more n first (Ok zs) ys h e = let same : (first ∷ zs) ≡ ys = cc in subst (λ l. length l ≡ suc n) same (ap suc (h zs refl))
 
+  count_first : (n : ℕ) (o : Result B StreamKind) (p : Result (List B) StreamKind) (ys : List B) → ((zs : List B) → p ≡ Ok zs → length zs ≡ n)
+      → (o >>= (λ first. p >>= (λ more. Ok (first ∷ more)))) ≡ Ok ys → length ys ≡ suc n
+  count_first n (Err k) p ys h e = cc
+  count_first n (Ok first) p ys h e = length_more n first p ys h e
+
   -- as many as there are items
   pub each-length : (xs : List A) (ys : List B) → each f xs ≡ Ok ys → length ys ≡ length xs
   each-length [] ys h = let same : [] ≡ ys = cc in subst (λ l. length l ≡ 0) same refl
-  each-length (z ∷ xs) ys h = by (f z) refl h
-    where
-      by : (o : Result B StreamKind) → f z ≡ o → (o >>= (λ first. each f xs >>= (λ more. Ok (first ∷ more)))) ≡ Ok ys → length ys ≡ suc (length xs)
-      by (Err k) is e = cc
-      by (Ok first) is e = length_more (length xs) first (each f xs) ys (λ zs g. each-length xs zs g) e
+  each-length (z ∷ xs) ys h = count_first (length xs) (f z) (each f xs) ys (λ zs g. each-length xs zs g) h

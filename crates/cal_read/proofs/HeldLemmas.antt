@@ -134,7 +134,7 @@ module _ (t child grown : Tree) (ids : NodeIds) (site : sites.Site) (v : Variant
     where
       entry : record { attr = attribute_at child site.attribute; value = v } ≡ n.own.entry
       entry = λ j. record {
-        attr = (ap (λ as. attribute_at (record { attributes = as; values = []; paths = [] }) site.attribute) adds.attributes ∙ sym be.attribute) j;
+        attr = (ap (λ list. attribute_at (record { attributes = list; values = []; paths = [] }) site.attribute) adds.attributes ∙ sym be.attribute) j;
         value = sym be.value j;
       }
 

@@ -5,6 +5,9 @@ mod HeldLemmas
 mod CutLemmas
 mod FaultLemmas
 mod ColumnLemmas
+mod BuiltInLemmas
+mod StepLemmas
 mod SiteLemmas
 mod ReadLemmas
 mod StreamLemmas
+mod RecordLemmas

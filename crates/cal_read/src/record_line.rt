@@ -95,7 +95,10 @@ fn push_ids(alloc: Global, field: &FieldPieces, ids: &mut Vec<u64>) -> Result<()
     ensures { AnswersFor (λ _ found. ids.new.items ≡ found) result (each id_of field.now.values) }
 {
     for place in 0..field.value_count() {
-        ids.push(read_id(alloc, &field.value(place))?)?;
+        match read_id(alloc, &field.value(place)) {
+            Ok(id) => ids.push(id)?,
+            Err(end) => return Err(end),
+        };
     }
     Ok(())
 }
@@ -197,8 +200,10 @@ fn push_imms(
 {
     for place in 0..texts.value_count() {
         let attribute = numbers[place];
-        let value = value_of(alloc, context, attribute, &texts.value(place))?;
-        imms.push(Immediate { attribute, value })?;
+        match value_of(alloc, context, attribute, &texts.value(place)) {
+            Ok(value) => imms.push(Immediate { attribute, value })?,
+            Err(end) => return Err(end),
+        };
     }
     Ok(())
 }

@@ -3,8 +3,8 @@ use Rattle.cal_context.specs.Tree.{Grows}
 use Rattle.cal_read.specs.Reading.{HasRead, TakesBytes}
 use Rattle.cal_read.proofs.stream_reader.StreamReader.feed_lines.Given as goal
 
-abbrev pub invariant-loop-rest : goal.invariant-loop-rest
-invariant-loop-rest g l =
+abbrev pub invariant-loop-line : goal.invariant-loop-line
+invariant-loop-line g l =
     Grows l.fn.context l.context
     × ((consumed : List ℕ)
     × (l.piece ≡ consumed ++ l.rest)
@@ -12,5 +12,5 @@ invariant-loop-rest g l =
     × ((bytes : List ℕ) → HasRead l.fn.self l.fn.context bytes
     → TakesBytes (g.T.has_taken l.fn.taker l.fn.context) (g.T.has_taken l.taker l.context) bytes (bytes ++ consumed)))
 
-abbrev pub decreases-loop-rest : goal.decreases-loop-rest
-decreases-loop-rest g l = length l.rest
+abbrev pub decreases-loop-line : goal.decreases-loop-line
+decreases-loop-line g l = length l.rest
