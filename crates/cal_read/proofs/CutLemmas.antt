@@ -1,5 +1,5 @@
 -- Lines that end and begin, as bytes come.
-use Rattle.std.proofs.Common.{◌≡◌, ◌≢◌, ℕ, ◌<◌, eqb, List, [], ◌∷◌, ◌++◌, length, refl, sym, ap, ◌∙◌, append_assoc, arith}
+use Rattle.std.proofs.Common.{◌≡◌, ◌≢◌, ℕ, ◌<◌, Bool, true, false, eqb, if◌then◌else◌, List, [], ◌∷◌, ◌++◌, length, refl, sym, ap, ◌∙◌, append_assoc, arith}
 use Rattle.std.specs.List.{All, flat_map, onto_first}
 use Rattle.std.proofs.lemmas.Bool.{ne_eqb, cond-false}
 use Rattle.std.proofs.lemmas.List.Elements.{All-append, All-head, All-push, All-tail}
@@ -82,3 +82,18 @@ module _ (bytes : List ℕ) (lines : List (List ℕ)) (begun : List ℕ) (cut : 
 
 pub cut-start : IsCut [] [] []
 cut-start = record { bytes_are = refl; ended = λ k d l. absurd (omega (arith, l)); begun_line = λ k d l. absurd (omega (arith, l)) }
+
+-- the lines that have ended are the first ones
+front_more : (byte : ℕ) (ended lines more : List (List ℕ)) → lines ≡ ended ++ more → (rest : List (List ℕ)) × (onto_first byte lines ≡ onto_ended byte ended ++ rest)
+front_more byte [] lines more is = (onto_first byte lines, refl)
+front_more byte (line ∷ ended) lines more is = (more, ap (onto_first byte) is)
+
+front_byte : (b : Bool) (byte : ℕ) (ended lines : List (List ℕ)) → (more : List (List ℕ)) × (lines ≡ ended ++ more)
+    → (rest : List (List ℕ)) × ((if b then [] ∷ lines else onto_first byte lines) ≡ (if b then [] ∷ ended else onto_ended byte ended) ++ rest)
+front_byte true byte ended lines front = (front.0, ap (λ r. [] ∷ r) front.1)
+front_byte false byte ended lines front = front_more byte ended lines front.0 front.1
+
+pub ended-front : (bytes : List ℕ) → (more : List (List ℕ)) × (lines_of bytes ≡ ended_lines bytes ++ more)
+ended-front [] = ([], refl)
+ended-front (byte ∷ bytes) = front_byte (eqb byte 10) byte (ended_lines bytes) (lines_of bytes) (ended-front bytes)
+

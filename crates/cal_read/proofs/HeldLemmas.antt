@@ -87,11 +87,11 @@ module _ {old new : Tree} (grows : Grows old new) where
 
 pub AreHeld-insert : (t : Tree) (old new : Nodes) (named : List Named) (id : ℕ) (h : Held) (n : Node) → AreHeld t old named → IsHeld t h n
     → ((other : ℕ) → held_at new other ≡ (if id == other then Some h else held_at old other)) → AreHeld t new (record { id = id; node = n } ∷ named)
-AreHeld-insert t old new named id h n are is set = λ other. subst (λ o. IsHeldIf t o (if id == other then Some n else node_at named other)) (sym (set other)) (by (eqb id other) (are other))
+AreHeld-insert t old new named id h n are is set = λ other. subst (λ o. IsHeldIf t o (if id == other then Some n else node_at named other)) (sym (set other)) (by (held_at old other) (node_at named other) (eqb id other) (are other))
   where
-    by : {o : Option Held} {p : Option Node} (b : Bool) → IsHeldIf t o p → IsHeldIf t (if b then Some h else o) (if b then Some n else p)
-    by true g = is
-    by false g = g
+    by : (o : Option Held) (p : Option Node) (b : Bool) → IsHeldIf t o p → IsHeldIf t (if b then Some h else o) (if b then Some n else p)
+    by o p true g = is
+    by o p false g = g
 
 -- ---- below one more step
 

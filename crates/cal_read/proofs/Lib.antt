@@ -11,3 +11,4 @@ mod SiteLemmas
 mod ReadLemmas
 mod StreamLemmas
 mod RecordLemmas
+mod WholeLemmas

@@ -1,13 +1,14 @@
 -- What a reader has read, as bytes come and lines end.
 use Rattle.std.proofs.Common.{◌≡◌, ℕ, ◌+◌, ◌<◌, List, [], ◌∷◌, ◌++◌, length, Some, None, refl, sym, ap, ◌∙◌, subst, append_assoc, arith}
-use Rattle.std.specs.Prelude.{Result, Ok, Err}
+use Rattle.std.specs.Prelude.{Result, Ok, Err, IsErr}
+use Rattle.std.proofs.lemmas.List.{length-append}
 use Rattle.cal_context.specs.Tree.{Tree, Grows}
 use Rattle.cal_context.proofs.CallerLemmas.{IsIn-Grows, meaning-Grows, TakesMore-trans}
 use Rattle.cal_input.specs.FirstFault.{after_lines, IsFirstFault}
 use Rattle.cal_line.specs.Lines.{lines_of, HasNoNewline}
 use Rattle.cal_value.specs.declared.record.Rec.{Rec}
 use Rattle.cal_read.specs.Cuts.{ended_lines, IsCut}
-use Rattle.cal_read.specs.Reading.{HasRead, IsRefusalOf, TakesBytes, TakesEnd, Ends, rows_made, rows_of_lines, rows_before}
+use Rattle.cal_read.specs.Reading.{HasRead, IsReady, IsReadyIf, IsRefusalOf, TakesBytes, TakesEnd, Ends, rows_made, rows_of_lines, rows_before}
 use Rattle.cal_read.specs.Standing.{Stands, TakesUpTo}
 use Rattle.cal_read.specs.Stream as streams
 use Rattle.cal_read.specs.Stream.{no_lines, line_step}
@@ -16,7 +17,7 @@ use Rattle.cal_read.specs.declared.end.StreamEnd.TheVariants as end
 use Rattle.cal_read.specs.declared.kind.StreamKind.{StreamKind}
 use Rattle.cal_read.specs.declared.stream.Stream.{Stream}
 use Rattle.cal_read.specs.declared.stream_reader.StreamReader.{StreamReader}
-use Rattle.cal_read.proofs.CutLemmas.{cut-begin, cut-end, cut-ended, cut-more, cut-lines, cut-lines_none}
+use Rattle.cal_read.proofs.CutLemmas.{cut-begin, cut-end, cut-ended, cut-more, cut-lines, cut-lines_none, cut-start, ended-front}
 use Rattle.cal_read.proofs.FaultLemmas.{after_push, fault_push, fault_more}
 use Rattle.cal_read.proofs.HeldLemmas.{AreHeld-Grows}
 
@@ -72,14 +73,11 @@ module _ (r : StreamReader) (t : Tree) (bytes : List ℕ) (h : HasRead r t bytes
     sound = refused ∙ h.sound;
     lines = h.lines ++ r.begun.items ∷ [];
     cut = subst (IsCut (bytes ++ 10 ∷ []) (h.lines ++ r.begun.items ∷ [])) (sym begun) (cut-end bytes h.lines r.begun.items h.cut);
-    counted = lines ∙ ap (λ n. n + 1) h.counted ∙ counts h.lines r.begun.items;
+    counted = lines ∙ ap (λ n. n + 1) h.counted ∙ sym (length-append h.lines (r.begun.items ∷ []));
     stream = next;
     made = after_push line_step no_lines h.lines r.begun.items h.stream next h.made made;
     stands = stands;
   }
-    where
-      counts : (ls : List (List ℕ)) (l : List ℕ) → length ls + 1 ≡ length (ls ++ l ∷ [])
-      counts ls l = grind arith
 
   pub rows_ended : (next : streams.Stream) → line_step h.stream r.begun.items ≡ Ok next → rows_before (bytes ++ 10 ∷ []) ≡ next.rows
   rows_ended next made = ap rows_of_lines ended ∙ ap rows_made (after_push line_step no_lines h.lines r.begun.items h.stream next h.made made)
@@ -141,3 +139,48 @@ TakesUpTo-none had has a b same keeps = record {
   rows = same ∙ sym (append-nil a);
   taken = λ rs h. subst has (sym (append-nil rs)) (keeps rs h);
 }
+
+-- ---- a reader that has read is ready
+
+pub ready_read : (r : StreamReader) (t : Tree) (bytes : List ℕ) → HasRead r t bytes → IsReady r t
+ready_read r t bytes h = subst (λ o. IsReadyIf o r t) (sym h.sound) (bytes, h)
+
+pub ready_refused : (r : StreamReader) (t : Tree) (refusal : ends.StreamEnd) → r.refused ≡ Some refusal → IsReady r t
+ready_refused r t refusal is = subst (λ o. IsReadyIf o r t) (sym is) tt
+
+pub has_read : (r : StreamReader) (t : Tree) → IsReady r t → r.refused ≡ None → (bytes : List ℕ) × HasRead r t bytes
+has_read r t ready none = subst (λ o. IsReadyIf o r t) none ready
+
+-- nothing was read yet
+pub read_nothing : (r : StreamReader) (t : Tree) → r.refused ≡ None → r.begun.items ≡ [] → r.lines ≡ 0 → Stands t r.stream no_lines → HasRead r t []
+read_nothing r t sound begun lines stands = record {
+  sound = sound;
+  lines = [];
+  cut = subst (IsCut [] []) (sym begun) cut-start;
+  counted = lines;
+  stream = no_lines;
+  made = refl;
+  stands = stands;
+}
+
+-- a refusal of the lines that have ended is one of the whole
+pub refusal_whole : (bytes : List ℕ) (refusal : ends.StreamEnd) → IsRefusalOf (ended_lines bytes) refusal → IsRefusalOf (lines_of bytes) refusal
+refusal_whole bytes end.OutOfMemory is = tt
+refusal_whole bytes (end.BadLine line kind) is =
+    let front = ended-front bytes in
+    subst (λ ls. IsFirstFault line_step no_lines ls line kind) (sym front.1) (fault_more line_step no_lines (ended_lines bytes) front.0 line kind is)
+
+-- ---- at a loop's turn
+
+pub turns : (bytes consumed line : List ℕ) → ((bytes ++ consumed) ++ line) ++ 10 ∷ [] ≡ bytes ++ (consumed ++ (line ++ 10 ∷ []))
+turns bytes consumed line = append_assoc (bytes ++ consumed) line (10 ∷ []) ∙ append_assoc bytes consumed (line ++ 10 ∷ [])
+
+pub piece_turn : (piece consumed rest line after : List ℕ) → piece ≡ consumed ++ rest → rest ≡ line ++ 10 ∷ after → piece ≡ (consumed ++ (line ++ 10 ∷ [])) ++ after
+piece_turn piece consumed rest line after is parts =
+    is ∙ ap (λ r. consumed ++ r) (parts ∙ sym (append_assoc line (10 ∷ []) after)) ∙ sym (append_assoc consumed (line ++ 10 ∷ []) after)
+
+pub whole_turn : (bytes piece consumed rest line after : List ℕ) → piece ≡ consumed ++ rest → rest ≡ line ++ 10 ∷ after
+    → bytes ++ piece ≡ (((bytes ++ consumed) ++ line) ++ 10 ∷ []) ++ after
+whole_turn bytes piece consumed rest line after is parts =
+    ap (λ p. bytes ++ p) (piece_turn piece consumed rest line after is parts) ∙ sym (append_assoc bytes (consumed ++ (line ++ 10 ∷ [])) after)
+    ∙ ap (λ r. r ++ after) (sym (turns bytes consumed line))

@@ -20,6 +20,11 @@ use Rattle.cal_read.specs.Held.{AreHeld}
 use Rattle.cal_read.specs.NodeLines.{node_step}
 use Rattle.cal_read.specs.Nodes.{Named}
 use Rattle.cal_read.specs.RecordLines.{record_of}
+use Rattle.cal_context.proofs.CallerLemmas.{IsIn-Grows, meaning-Grows}
+use Rattle.cal_read.proofs.ReadLemmas.{TakesUpTo-none}
+use Rattle.cal_read.specs.Steps.{AnswersFor}
+use Rattle.cal_read.specs.declared.end.LineEnd as ends
+use Rattle.cal_read.specs.declared.end.LineEnd.TheVariants as end
 use Rattle.cal_read.specs.Standing.{Stands, TakesUpTo, TakesLine}
 use Rattle.cal_read.specs.Stream as streams
 use Rattle.cal_read.specs.Stream.{no_lines, with_record, step_by_sort, step_by_fields, step_by_list, step_by_text, line_step}
@@ -100,3 +105,35 @@ globals_more t held old new globals r in_old old_is in_held held_is nodes imms =
   })
   ∙ (λ j. with_record (old_is j) (held_is j)),
 )
+
+-- ---- what is taken with a line
+
+pub nodes_taken : (t u : Tree) → Grows t u → (old new : Stream) (had has : List Rec → Type 0) (s : streams.Stream) (fields : List Field) → Stands t old s → new.globals ≡ old.globals
+    → ((rs : List Rec) → had rs → has rs) → (r : Result (Unit {0}) ends.LineEnd) → AnswersFor (λ _. AreHeld u new.nodes) r (node_step s.nodes fields)
+    → AnswersFor (λ _. TakesLine u new had has s) r (step_by_sort s fields OfNode)
+nodes_taken t u grows old new had has s fields stands same keeps (Ok x) h = (
+  record s { nodes = h.0 },
+  nodes_made s fields h.0 h.1,
+  record {
+    stands = record {
+      nodes = h.2;
+      within = subst (IsIn u) (sym same) (IsIn-Grows grows old.globals stands.within);
+      globals = ap (meaning u) same ∙ meaning-Grows grows old.globals stands.within ∙ stands.globals;
+    };
+    taken = TakesUpTo-none had has s.rows s.rows refl keeps;
+  },
+)
+nodes_taken t u grows old new had has s fields stands same keeps (Err (end.Bad k)) h = nodes_faulty s fields k h
+nodes_taken t u grows old new had has s fields stands same keeps (Err end.OutOfMemory) h = tt
+
+pub globals_taken : (t : Tree) (new : Stream) (had has : List Rec → Type 0) (s : streams.Stream) (fields : List Field)
+    → ((rs : List Rec) → had rs → has rs) → (r : Result (Unit {0}) ends.LineEnd)
+    → AnswersFor (λ _ after. Stands t new after × (after.rows ≡ s.rows)) r (step_by_sort s fields OfGlobals)
+    → AnswersFor (λ _. TakesLine t new had has s) r (step_by_sort s fields OfGlobals)
+globals_taken t new had has s fields keeps (Ok x) h = (h.0, h.1, record { stands = h.2.0; taken = TakesUpTo-none had has s.rows h.0.rows h.2.1 keeps })
+globals_taken t new had has s fields keeps (Err (end.Bad k)) h = h
+globals_taken t new had has s fields keeps (Err end.OutOfMemory) h = tt
+
+pub blank_taken : (t : Tree) (held : Stream) (had : List Rec → Type 0) (s : streams.Stream) (line : List ℕ) → Stands t held s → length line ≡ 0
+    → (x : streams.Stream) × (step_by_text s line ≡ Ok x) × TakesLine t held had had s x
+blank_taken t held had s line stands none = (s, text_blank s line none, record { stands = stands; taken = TakesUpTo-none had had s.rows s.rows refl (λ rs h. h) })

@@ -142,10 +142,10 @@ fn has_content(old: &Held, ids: &NodeIds, value: &Variant, context: &Context) ->
         → (m.own.attribute ≡ ids.now.attribute) → (m.own.entry.value ≡ value.now)
         → (m.parent ≡ ids.now.parent) → result ≡ same_content m n }
 {
-    if !has_ids(old, ids) {
-        return false;
+    if has_ids(old, ids) {
+        return has_value(old, value, context);
     }
-    has_value(old, value, context)
+    false
 }
 
 fn has_ids(old: &Held, ids: &NodeIds) -> bool

@@ -58,13 +58,31 @@ impl Stream {
             (T.has_taken taker.old context.old) (T.has_taken taker.new context.new) s)
             result (streams.line_step s line.now) }
     {
-        let Ok(text) = std::str::from_utf8(line) else {
-            return Err(LineEnd::Bad(StreamKind::NotText));
-        };
-        if text.is_empty() {
+        match std::str::from_utf8(line) {
+            Ok(text) => self.read_str(alloc, splitter, text, context, taker),
+            Err(_) => Err(LineEnd::Bad(StreamKind::NotText)),
+        }
+    }
+
+    fn read_str<T: Taker>(
+        &mut self,
+        alloc: Global,
+        splitter: &mut Splitter,
+        line: &str,
+        context: &mut Context,
+        taker: &mut T,
+    ) -> Result<(), LineEnd>
+        requires { StandsForSome context.old self.old }
+        ensures grows { Grows context.old context.new }
+        ensures read { (s : streams.Stream) → Stands context.old self.old s → AnswersFor
+            (λ _. TakesLine context.new self.new
+            (T.has_taken taker.old context.old) (T.has_taken taker.new context.new) s)
+            result (streams.step_by_text s line.now) }
+    {
+        if line.is_empty() {
             return Ok(());
         }
-        self.read_text(alloc, splitter, text, context, taker)
+        self.read_text(alloc, splitter, line, context, taker)
     }
 
     fn read_text<T: Taker>(

@@ -10,5 +10,5 @@ returns-in-Err c =
 
 pub loop-place-preserved : goal.loop-place-preserved
 loop-place-preserved c =
-    subst (λ l. each id_of (take (c.loop-place.place + 1) c.args.field.now.values) ≡ Ok l) (sym c.in_ok-push.ensures.items)
+    subst (λ l. each id_of (take (c.loop-place.place + 1) c.args.field.now.values) ≡ Ok l) (sym c.in_ok-push-in-Ok.ensures.items)
     (each_at id_of c.args.field.now.values c.loop-place.place c.value.result c.value.ensures c.loop-place.ids.items c.loop-place.invariant c.in-Ok.id c.in-Ok.ensures)

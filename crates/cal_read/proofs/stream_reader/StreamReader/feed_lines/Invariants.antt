@@ -10,7 +10,7 @@ invariant-loop-line g l =
     × (l.piece ≡ consumed ++ l.rest)
     × ((bytes : List ℕ) → HasRead l.fn.self l.fn.context bytes → HasRead l.self l.context (bytes ++ consumed))
     × ((bytes : List ℕ) → HasRead l.fn.self l.fn.context bytes
-    → TakesBytes (g.T.has_taken l.fn.taker l.fn.context) (g.T.has_taken l.taker l.context) bytes (bytes ++ consumed)))
+    → TakesBytes (g.T.Taker.has_taken l.fn.taker l.fn.context) (g.T.Taker.has_taken l.taker l.context) bytes (bytes ++ consumed)))
 
 abbrev pub decreases-loop-line : goal.decreases-loop-line
 decreases-loop-line g l = length l.rest
