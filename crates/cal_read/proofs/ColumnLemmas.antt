@@ -8,7 +8,8 @@ use Rattle.indexmap.proofs.ReorderLemmas.{slice_get-zip_some}
 use Rattle.std.proofs.lemmas.List.{map-append}
 use Rattle.std.proofs.lemmas.List.Elements.{All-push}
 use Rattle.std.proofs.lemmas.Option.{slice_get-get_or, slice_get-map, slice_get_past}
-use Rattle.cal_context.specs.Snapshots.{IsBelowRoot}
+use Rattle.cal_context.specs.Snapshots.{IsBelowRoot, entry_of as imm_entry}
+use Rattle.cal_context.specs.declared.snapshot.Immediate.{Immediate}
 use Rattle.cal_context.specs.Tree.{Tree, attribute_at, path_at}
 use Rattle.cal_context.specs.declared.numbers.AttributeNumber.{AttributeNumber}
 use Rattle.cal_context.specs.declared.numbers.NodeNumber.{NodeNumber}
@@ -144,3 +145,17 @@ module _ (t : Tree) (numbers : List AttributeNumber) (texts : List (List ℕ)) (
 
 pub pairs_past : (t : Tree) (numbers : List AttributeNumber) (texts : List (List ℕ)) (i : ℕ) → length texts ≤ i → length (zip (map (attribute_at t) numbers) texts) ≤ i
 pairs_past t numbers texts i past = omega (arith, length-zip (map (attribute_at t) numbers) texts, past)
+
+module _ (t : Tree) (imms new : List Immediate) (number : AttributeNumber) (v : Variant) (items : new ≡ imms ++ record { attribute = number; value = v } ∷ []) where
+  pub imms_known : All (λ i. i.attribute.0 < length t.attributes) imms → number.0 < length t.attributes → All (λ i. i.attribute.0 < length t.attributes) new
+  imms_known known within =
+      subst (All (λ i. i.attribute.0 < length t.attributes)) (sym items)
+      (All-push (λ i. i.attribute.0 < length t.attributes) imms (record { attribute = number; value = v }) known within)
+
+  pub imms_read : (numbers : List AttributeNumber) (texts : List (List ℕ)) (i : ℕ) (text : List ℕ) → slice_get numbers i ≡ Some number → slice_get texts i ≡ Some text
+      → each entry_of (take i (zip (map (attribute_at t) numbers) texts)) ≡ Ok (map (imm_entry t) imms) → or_fault kind.BadValue (value_of (attribute_at t number).kind text) ≡ Ok v
+      → each entry_of (take (i + 1) (zip (map (attribute_at t) numbers) texts)) ≡ Ok (map (imm_entry t) new)
+  imms_read numbers texts i text there at read is =
+      each_at entry_of (zip (map (attribute_at t) numbers) texts) i (attribute_at t number, text) (pair_at t numbers texts i number text there at) (map (imm_entry t) imms) read
+      (record { attr = attribute_at t number; value = v }) (entry_made (attribute_at t number) text v is)
+      ∙ ap Ok (sym (ap (map (imm_entry t)) items ∙ map-append (imm_entry t) imms (record { attribute = number; value = v } ∷ [])))

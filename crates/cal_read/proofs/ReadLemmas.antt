@@ -2,13 +2,14 @@
 use Rattle.std.proofs.Common.{◌≡◌, ℕ, ◌+◌, ◌<◌, List, [], ◌∷◌, ◌++◌, length, Some, None, refl, sym, ap, ◌∙◌, subst, append_assoc, arith}
 use Rattle.std.specs.Prelude.{Result, Ok, Err, IsErr}
 use Rattle.std.proofs.lemmas.List.{length-append}
+use Rattle.cal_context.specs.Snapshots.{meaning}
 use Rattle.cal_context.specs.Tree.{Tree, Grows}
 use Rattle.cal_context.proofs.CallerLemmas.{IsIn-Grows, meaning-Grows, TakesMore-trans}
 use Rattle.cal_input.specs.FirstFault.{after_lines, IsFirstFault}
 use Rattle.cal_line.specs.Lines.{lines_of, HasNoNewline}
 use Rattle.cal_value.specs.declared.record.Rec.{Rec}
 use Rattle.cal_read.specs.Cuts.{ended_lines, IsCut}
-use Rattle.cal_read.specs.Reading.{HasRead, IsReady, IsReadyIf, IsRefusalOf, TakesBytes, TakesEnd, Ends, rows_made, rows_of_lines, rows_before}
+use Rattle.cal_read.specs.Reading.{HasEnded, HasRead, IsReady, IsReadyIf, IsRefusalOf, TakesBytes, TakesEnd, Ends, rows_made, rows_of_lines, rows_before}
 use Rattle.cal_read.specs.Standing.{Stands, TakesUpTo}
 use Rattle.cal_read.specs.Stream as streams
 use Rattle.cal_read.specs.Stream.{no_lines, line_step}
@@ -112,13 +113,23 @@ module _ (r : StreamReader) (t : Tree) (bytes : List ℕ) (h : HasRead r t bytes
   pub lines_none : r.begun.items ≡ [] → lines_of bytes ≡ ended_lines bytes
   lines_none none = cut-lines_none bytes h.lines r.begun.items h.cut none ∙ sym (cut-ended bytes h.lines r.begun.items h.cut)
 
-  -- the globals, where no line has begun
-  pub ends_none : (globals : Rec) → r.begun.items ≡ [] → globals ≡ h.stream.globals → Ends bytes globals
-  ends_none globals none are = record {
+  -- the end, where no line has begun, and where one has
+  pub ended_none : r.begun.items ≡ [] → HasEnded r t bytes
+  ended_none none = record {
     stream = h.stream;
     is = ap (after_lines line_step no_lines) (cut-lines_none bytes h.lines r.begun.items h.cut none) ∙ h.made;
-    globals_are = are;
+    stands = h.stands;
   }
+
+  pub ended_read : (new : StreamReader) (u : Tree) → 0 < length r.begun.items → HasRead new u (bytes ++ 10 ∷ []) → HasEnded new u bytes
+  ended_read new u some k = record {
+    stream = k.stream;
+    is = ap (after_lines line_step no_lines) (lines_ended some ∙ cut-ended (bytes ++ 10 ∷ []) k.lines new.begun.items k.cut) ∙ k.made;
+    stands = k.stands;
+  }
+
+pub ends_of : (r : StreamReader) (t : Tree) (bytes : List ℕ) (globals : Rec) → HasEnded r t bytes → globals ≡ meaning t r.stream.globals → Ends bytes globals
+ends_of r t bytes globals h same = record { stream = h.stream; is = h.is; globals_are = same ∙ h.stands.globals }
 
 -- two parts of what was taken
 pub TakesUpTo-trans : (had then has : List Rec → Type 0) (a b c : List Rec) → TakesUpTo had then a b → TakesUpTo then has b c → TakesUpTo had has a c

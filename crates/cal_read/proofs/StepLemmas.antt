@@ -1,7 +1,7 @@
 -- A step whose refusal is passed on.
 use Rattle.std.proofs.Common.{◌≡◌, refl, sym, ap, ◌∙◌, subst}
-use Rattle.std.specs.Prelude.{Result, Ok, Err, IsErr}
-use Rattle.std.specs.Result.{IsErrAnd}
+use Rattle.std.specs.Prelude.{Result, Ok, Err, IsErr, OnOk, false}
+use Rattle.std.specs.Result.{IsErrAnd, is_err}
 use Rattle.std.proofs.lemmas.Result.{err_from_is_err_and}
 use Rattle.cal_read.specs.Steps.{Answers, AnswersFor}
 use Rattle.cal_read.specs.declared.end.LineEnd as ends
@@ -31,3 +31,12 @@ answer_passes {A} {C} Q e one other falls is r h = subst (λ x. AnswersFor Q x o
     by : (f : ends.LineEnd) → Answers {A = A} (Err f) one → AnswersFor {A = C} Q (Err f) other
     by (end.Bad k) g = falls k g
     by end.OutOfMemory g = tt
+
+-- a refusal of this kind
+pub bad_refusal : {A B : Type 0} (P : A → B → Type 0) (e : ends.LineEnd) (k : StreamKind) (given : Result B StreamKind) → e ≡ end.Bad k → AnswersFor {A = A} P (Err e) given → given ≡ Err k
+bad_refusal {A} P e k given is h = subst (λ x. AnswersFor {A = A} P (Err x) given) is h
+
+-- what holds of an answer that is no refusal
+pub of_ok : {A E P : Type 0} (r : Result A E) → OnOk r P → false ≡ is_err r → P
+of_ok (Ok x) h e = h
+of_ok (Err y) h e = cc

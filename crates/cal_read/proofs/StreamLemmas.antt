@@ -126,6 +126,13 @@ nodes_taken t u grows old new had has s fields stands same keeps (Ok x) h = (
 nodes_taken t u grows old new had has s fields stands same keeps (Err (end.Bad k)) h = nodes_faulty s fields k h
 nodes_taken t u grows old new had has s fields stands same keeps (Err end.OutOfMemory) h = tt
 
+pub node_line_taken : (t u : Tree) → Grows t u → (old new : Stream) (had has : List Rec → Type 0) (s : streams.Stream) (fields : List Field) → Stands t old s → new.globals ≡ old.globals
+    → ((rs : List Rec) → had rs → has rs) → repeats_key fields ≡ false → sort_of fields ≡ Ok OfNode → (r : Result (Unit {0}) ends.LineEnd)
+    → AnswersFor (λ _. AreHeld u new.nodes) r (node_step s.nodes fields) → AnswersFor (λ _. TakesLine u new had has s) r (step_by_fields s fields)
+node_line_taken t u grows old new had has s fields stands same keeps once sorted r h =
+    subst (λ (o : Result streams.Stream StreamKind). AnswersFor (λ _. TakesLine u new had has s) r o) (sym (fields_sorted s fields OfNode once sorted))
+    (nodes_taken t u grows old new had has s fields stands same keeps r h)
+
 pub globals_taken : (t : Tree) (new : Stream) (had has : List Rec → Type 0) (s : streams.Stream) (fields : List Field)
     → ((rs : List Rec) → had rs → has rs) → (r : Result (Unit {0}) ends.LineEnd)
     → AnswersFor (λ _ after. Stands t new after × (after.rows ≡ s.rows)) r (step_by_sort s fields OfGlobals)

@@ -42,6 +42,12 @@ pub record HasRead (reader : StreamReader) (t : Tree) (bytes : List ℕ) : Type 
   pub made : after_lines line_step no_lines lines ≡ Ok stream
   pub stands : Stands t reader.stream stream
 
+-- the reader has read all of these bytes, which are a stream
+pub record HasEnded (reader : StreamReader) (t : Tree) (bytes : List ℕ) : Type 0 where
+  pub stream : Stream
+  pub is : IsStream bytes stream
+  pub stands : Stands t reader.stream stream
+
 -- the reader answers this refusal from now on
 abbrev pub IsRefused : StreamReader → ends.StreamEnd → Type 0
 IsRefused reader refusal = reader.refused ≡ Some refusal

@@ -29,8 +29,8 @@ pub struct StreamReader {
 
 impl StreamReader {
     ghost use Rattle.cal_read.specs.Cuts.{ended_lines};
-    ghost use Rattle.cal_read.specs.Reading.{Ends, HasRead, IsReady, IsRefusalOf, IsRefused};
-    ghost use Rattle.cal_read.specs.Reading.{TakesBytes, TakesEnd};
+    ghost use Rattle.cal_read.specs.Reading.{Ends, HasEnded, HasRead, IsReady, IsRefusalOf};
+    ghost use Rattle.cal_read.specs.Reading.{IsRefused, TakesBytes, TakesEnd};
     ghost use Rattle.cal_read.specs.Stream.{IsStream};
 
     /// The reader of no bytes, whose context has the built-in nodes.
@@ -105,11 +105,9 @@ impl StreamReader {
         if let Some(end) = self.refused {
             return Err(end);
         }
-        if !self.begun.is_empty() {
-            if let Err(end) = self.end_line(context, taker) {
-                self.refused = Some(end);
-                return Err(end);
-            }
+        if let Err(end) = self.end_last(context, taker) {
+            self.refused = Some(end);
+            return Err(end);
         }
         Ok(mem::replace(
             &mut self.stream.globals,
@@ -149,6 +147,28 @@ impl StreamReader {
         self.begin(rest)
     }
 
+    /// Ends the line that has begun, if one has.
+    fn end_last<T: Taker>(
+        &mut self,
+        context: &mut Context,
+        taker: &mut T,
+    ) -> Result<(), StreamEnd>
+        requires { (bytes : List ℕ) × HasRead self.old context.old bytes }
+        ensures grows { Grows context.old context.new }
+        ensures ended { OnOk result ((bytes : List ℕ) → HasRead self.old context.old bytes
+            → HasEnded self.new context.new bytes) }
+        ensures taken { OnOk result ((bytes : List ℕ) → HasRead self.old context.old bytes
+            → TakesEnd (T.has_taken taker.old context.old) (T.has_taken taker.new context.new)
+            bytes) }
+        ensures fault { IfErr result (λ end. (bytes : List ℕ) → HasRead self.old context.old bytes
+            → IsRefusalOf (lines_of bytes) end) }
+    {
+        if self.begun.as_slice().is_empty() {
+            return Ok(());
+        }
+        self.end_line(context, taker)
+    }
+
     /// Goes on with the line that has begun.
     fn begin(&mut self, part: &[u8]) -> Result<(), StreamEnd>
         requires { HasNoNewline part.now }
@@ -176,9 +196,10 @@ impl StreamReader {
         ensures fault { IfErr result (λ end. (bytes : List ℕ) → HasRead self.old context.old bytes
             → IsRefusalOf (ended_lines (bytes ++ 10 ∷ [])) end) }
     {
-        let Some(line) = self.lines.checked_add(1) else {
+        if self.lines == u64::MAX {
             return Err(StreamEnd::OutOfMemory);
-        };
+        }
+        let line = self.lines + 1;
         match self.stream.read_line(
             self.alloc,
             &mut self.splitter,

@@ -5,7 +5,7 @@ use Rattle.cal_read.proofs.record_line.push_ids.Goals as goal
 
 pub returns-in-Err : goal.returns-in-Err
 returns-in-Err c =
-    each_err id_of (λ _ found. c.loop-place.ids.items ≡ found) c.args.field.now.values c.loop-place.place c.value.result c.value.ensures c.loop-place.ids.items c.loop-place.invariant
+    each_err id_of {C = Unit {0}} (λ _ found. c.loop-place.ids.items ≡ found) c.args.field.now.values c.loop-place.place c.value.result c.value.ensures c.loop-place.ids.items c.loop-place.invariant
     c.in-Err.end c.in-Err.ensures
 
 pub loop-place-preserved : goal.loop-place-preserved
