@@ -60,7 +60,6 @@ found_push t (f ∷ found) (m ∷ nodes) number n are is = (are.0, found_push t 
 
 module _ (t : Tree) (c : Nodes) (named : List Named) (are : AreHeld t c named) (ids : List ℕ) (i : ℕ) (within : i < length ids) (nodes : List Node)
     (before : each (known named) (take i ids) ≡ Ok nodes) where
-
   at : slice_get ids i ≡ Some (get_or ids i 0)
   at = slice_get-get_or ids i 0 within
 
@@ -111,16 +110,18 @@ attribute_is_none t (Some a) h = absurd h
 
 module _ (t : Tree) (found : List (Option AttributeNumber)) (nodes : List Node) (are : AreFound t found nodes) (i : ℕ) (number : Option AttributeNumber)
     (at : slice_get found i ≡ Some number) (attributes : List Attribute) (before : each as_attribute (take i nodes) ≡ Ok attributes) where
-
   pub numbers_at : (numbers : List AttributeNumber) (n : AttributeNumber) → AreNumbers t numbers attributes → number ≡ Some n
       → (more : List Attribute) × (each as_attribute (take (i + 1) nodes) ≡ Ok more) × AreNumbers t (numbers ++ n ∷ []) more
   numbers_at numbers n so is =
       let it = found_there t found nodes i number are at in
-      let a = attribute_is t n (attribute_of it.0) (subst (λ x. IsNumberOf t x (attribute_of it.0)) is it.2) in
-      (attributes ++ attribute_at t n ∷ [], each_at as_attribute nodes i it.0 it.1 attributes before (attribute_at t n) a.1, record {
-        known = All-push (λ m. m.0 < length t.attributes) numbers n so.known a.0;
-        are = map-append (attribute_at t) numbers (n ∷ []) ∙ ap (λ r. r ++ attribute_at t n ∷ []) so.are;
-      })
+      let a = attribute_is t n (attribute_of it.0) (subst (λ x. IsNumberOf t x (attribute_of it.0)) is it.2) in (
+        attributes ++ attribute_at t n ∷ [],
+        each_at as_attribute nodes i it.0 it.1 attributes before (attribute_at t n) a.1,
+        record {
+          known = All-push (λ m. m.0 < length t.attributes) numbers n so.known a.0;
+          are = map-append (attribute_at t) numbers (n ∷ []) ∙ ap (λ r. r ++ attribute_at t n ∷ []) so.are;
+        },
+      )
 
   pub no_attribute_at : number ≡ None → each as_attribute nodes ≡ Err kind.NotAttribute
   no_attribute_at is =

@@ -96,4 +96,3 @@ front_byte false byte ended lines front = front_more byte ended lines front.0 fr
 pub ended-front : (bytes : List ℕ) → (more : List (List ℕ)) × (lines_of bytes ≡ ended_lines bytes ++ more)
 ended-front [] = ([], refl)
 ended-front (byte ∷ bytes) = front_byte (eqb byte 10) byte (ended_lines bytes) (lines_of bytes) (ended-front bytes)
-

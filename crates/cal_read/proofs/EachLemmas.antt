@@ -25,7 +25,7 @@ module _ {A B : Type 0} (f : A → Result B StreamKind) where
   each-append [] ys = alone (each f ys)
   each-append (z ∷ xs) ys =
       elim (f z) as (λ o. (o >>= (λ first. each f (xs ++ ys) >>= (λ more. Ok (first ∷ more))))
-          ≡ ((o >>= (λ first. each f xs >>= (λ more. Ok (first ∷ more)))) >>= (λ a. each f ys >>= (λ b. Ok (a ++ b))))) [
+      ≡ ((o >>= (λ first. each f xs >>= (λ more. Ok (first ∷ more)))) >>= (λ a. each f ys >>= (λ b. Ok (a ++ b))))) [
         | Err kind ↦ refl
         | Ok first ↦ ap (λ r. r >>= (λ more. Ok (first ∷ more))) (each-append xs ys) ∙ joins first (each f xs) (each f ys)
       ]

@@ -116,7 +116,6 @@ module _ (t child grown : Tree) (ids : NodeIds) (site : sites.Site) (v : Variant
     (kind : place.kind ≡ (if ids.attribute == 9 then kind_in v else site.above.kind))
     (props : place.props ≡ (if ids.attribute == 10 then unwrap_or (props_in v) 0 else site.above.props))
     (has : IsNumberOf grown number (if ids.attribute == 8 then attribute_named (text_in v) site.above.kind site.above.props else None)) where
-
   pub IsHeld-new : (n : Node) → IsToBe t ids site v n → IsHeld grown (record { place = place; attribute = ids.attribute; parent = ids.parent; number = number }) n
   IsHeld-new n be = record {
     below = subst (λ m. 0 < m.0) (sym is) (omega (arith, adds.child.later));

@@ -53,11 +53,12 @@ module _ (t : Tree) (c : Nodes) (named : List Named) (are : AreHeld t c named) w
         → (x : lines.Site) × (site_of named ids ≡ Ok x) × IsSite t (record { attribute = number; above = above }) x
     site_found number above p has there at =
         let it = known_held ids.attribute h is in
-        let a = attribute_is t number (attribute_of it.0) (subst (λ o. IsNumberOf t o (attribute_of it.0)) has it.2.number) in
-        (record { attribute = attribute_at t number; above = steps_down p },
-        joins it.0 it.1 ∙ ap (λ r. r >>= (λ q. as_attribute it.0 >>= (λ b. Ok (record { attribute = b; above = steps_down q })))) there
-        ∙ ap (λ r. r >>= (λ b. Ok (record { attribute = b; above = steps_down p }))) a.1,
-        record { known = a.0; attribute = refl; above = at })
+        let a = attribute_is t number (attribute_of it.0) (subst (λ o. IsNumberOf t o (attribute_of it.0)) has it.2.number) in (
+          record { attribute = attribute_at t number; above = steps_down p },
+          joins it.0 it.1 ∙ ap (λ r. r >>= (λ q. as_attribute it.0 >>= (λ b. Ok (record { attribute = b; above = steps_down q })))) there
+              ∙ ap (λ r. r >>= (λ b. Ok (record { attribute = b; above = steps_down p }))) a.1,
+          record { known = a.0; attribute = refl; above = at },
+        )
 
     pub site_no_attribute : (p : Option Node) → h.number ≡ None → if_there (known named) ids.parent ≡ Ok p → site_of named ids ≡ Err kind.NotAttribute
     site_no_attribute p has there =
@@ -77,7 +78,8 @@ module _ (t : Tree) (c : Nodes) (named : List Named) (are : AreHeld t c named) w
   pub put_new : (u : Tree) (new : Nodes) (id : ℕ) (h : Held) (n : Node) → Grows t u → None ≡ held_at c id → IsHeld u h n
       → ((other : ℕ) → held_at new other ≡ (if id == other then Some h else held_at c other))
       → (x : List Named) × (with_node named id n (node_at named id) ≡ Ok x) × AreHeld u new x
-  put_new u new id h n grows is held set =
-      (record { id = id; node = n } ∷ named,
-      ap (with_node named id n) (if_none t (held_at c id) (node_at named id) (are id) (sym is)),
-      AreHeld-insert u c new named id h n (AreHeld-Grows grows c named are) held set)
+  put_new u new id h n grows is held set = (
+    record { id = id; node = n } ∷ named,
+    ap (with_node named id n) (if_none t (held_at c id) (node_at named id) (are id) (sym is)),
+    AreHeld-insert u c new named id h n (AreHeld-Grows grows c named are) held set,
+  )

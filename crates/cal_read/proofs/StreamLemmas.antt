@@ -103,7 +103,7 @@ globals_more t held old new globals r in_old old_is in_held held_is nodes imms =
     paths = (ap (map (path_at t)) nodes ∙ map-append (path_at t) old.nodes.items held.nodes.items) j;
     imms = (ap (map (entry_of t)) imms ∙ map-append (entry_of t) old.imms.items held.imms.items) j;
   })
-  ∙ (λ j. with_record (old_is j) (held_is j)),
+      ∙ (λ j. with_record (old_is j) (held_is j)),
 )
 
 -- ---- what is taken with a line

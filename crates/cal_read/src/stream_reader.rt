@@ -109,10 +109,7 @@ impl StreamReader {
             self.refused = Some(end);
             return Err(end);
         }
-        Ok(mem::replace(
-            &mut self.stream.globals,
-            Snapshot::new(self.alloc),
-        ))
+        Ok(mem::replace(&mut self.stream.globals, Snapshot::new(self.alloc)))
     }
 
     /// Refuses from now on.
@@ -148,11 +145,7 @@ impl StreamReader {
     }
 
     /// Ends the line that has begun, if one has.
-    fn end_last<T: Taker>(
-        &mut self,
-        context: &mut Context,
-        taker: &mut T,
-    ) -> Result<(), StreamEnd>
+    fn end_last<T: Taker>(&mut self, context: &mut Context, taker: &mut T) -> Result<(), StreamEnd>
         requires { (bytes : List ℕ) × HasRead self.old context.old bytes }
         ensures grows { Grows context.old context.new }
         ensures ended { OnOk result ((bytes : List ℕ) → HasRead self.old context.old bytes
@@ -181,11 +174,7 @@ impl StreamReader {
     }
 
     /// Reads the line that has begun, which ends here.
-    fn end_line<T: Taker>(
-        &mut self,
-        context: &mut Context,
-        taker: &mut T,
-    ) -> Result<(), StreamEnd>
+    fn end_line<T: Taker>(&mut self, context: &mut Context, taker: &mut T) -> Result<(), StreamEnd>
         requires { (bytes : List ℕ) × HasRead self.old context.old bytes }
         ensures grows { Grows context.old context.new }
         ensures read { OnOk result ((bytes : List ℕ) → HasRead self.old context.old bytes

@@ -32,6 +32,6 @@ pub returns-clause-read : goal.returns-clause-read
 returns-clause-read c = (
   map (imm_entry c.args.context.now) c.loop-place.imms.items,
   each_all entry_of (zip (map (attribute_at c.args.context.now) c.args.numbers.now) c.args.texts.now.values) c.loop-place.place (map (imm_entry c.args.context.now) c.loop-place.imms.items)
-  (pairs_past c.args.context.now c.args.numbers.now c.args.texts.now.values c.loop-place.place (omega arith)) c.loop-place.invariant.read,
+      (pairs_past c.args.context.now c.args.numbers.now c.args.texts.now.values c.loop-place.place (omega arith)) c.loop-place.invariant.read,
   refl,
 )

@@ -15,7 +15,7 @@ pub loop-number-preserved : goal.loop-number-preserved
 loop-number-preserved c = λ t nodes are.
     let before = c.loop-number.invariant t nodes are in
     let now = numbers_at t c.args.found.now nodes are c.loop-number.number-index _ (slice_get-get_or c.args.found.now c.loop-number.number-index _ c.loop-number-test.true) before.0 before.1
-        c.loop-number.numbers.items c.in-Some.number before.2 c.in-Some.is in
+    c.loop-number.numbers.items c.in-Some.number before.2 c.in-Some.is in
     (now.0, now.1, subst (λ l. AreNumbers t l now.0) (sym c.in_ok-push.ensures.items) now.2)
 
 pub returns : goal.returns

@@ -28,18 +28,20 @@ loop-line-preserved g c =
     let turn = c.loop-line.invariant.1 in
     let had = g.T.Taker.has_taken c.args.taker.now c.args.context.now in
     let then = g.T.Taker.has_taken c.loop-line.taker c.loop-line.context in
-    let has = g.T.Taker.has_taken c.end_line.new.taker c.end_line.new.context in
-    (Grows-trans _ _ _ c.loop-line.invariant.0 c.in_ok-end_line.ensures.grows, (
-      turn.0 ++ (c.in-Some.line.now ++ 10 ∷ []),
-      piece_turn c.args.piece.now turn.0 c.loop-line.rest.now c.in-Some.line.now c.in-Some.after.now turn.1 c.in-Some.ensures.parts,
-      (λ bytes h. subst (HasRead c.end_line.new.self c.end_line.new.context) (turns bytes turn.0 c.in-Some.line.now)
-      (c.in_ok-end_line.ensures.read ((bytes ++ turn.0) ++ c.in-Some.line.now) (c.in_ok-begin.ensures.read c.loop-line.context (bytes ++ turn.0) (turn.2 bytes h)))),
-      (λ bytes h. subst (TakesBytes had has bytes) (turns bytes turn.0 c.in-Some.line.now)
-      (TakesUpTo-trans had then has (rows_before bytes) (rows_before (bytes ++ turn.0)) (rows_before (((bytes ++ turn.0) ++ c.in-Some.line.now) ++ 10 ∷ [])) (turn.3 bytes h)
-      (subst (λ rs. TakesUpTo then has rs (rows_before (((bytes ++ turn.0) ++ c.in-Some.line.now) ++ 10 ∷ [])))
-      (rows_begun c.loop-line.self c.loop-line.context (bytes ++ turn.0) (turn.2 bytes h) c.in-Some.line.now c.in-Some.ensures.line)
-      (c.in_ok-end_line.ensures.taken ((bytes ++ turn.0) ++ c.in-Some.line.now) (c.in_ok-begin.ensures.read c.loop-line.context (bytes ++ turn.0) (turn.2 bytes h)))))),
-    ))
+    let has = g.T.Taker.has_taken c.end_line.new.taker c.end_line.new.context in (
+      Grows-trans _ _ _ c.loop-line.invariant.0 c.in_ok-end_line.ensures.grows,
+      (
+        turn.0 ++ (c.in-Some.line.now ++ 10 ∷ []),
+        piece_turn c.args.piece.now turn.0 c.loop-line.rest.now c.in-Some.line.now c.in-Some.after.now turn.1 c.in-Some.ensures.parts,
+        (λ bytes h. subst (HasRead c.end_line.new.self c.end_line.new.context) (turns bytes turn.0 c.in-Some.line.now)
+            (c.in_ok-end_line.ensures.read ((bytes ++ turn.0) ++ c.in-Some.line.now) (c.in_ok-begin.ensures.read c.loop-line.context (bytes ++ turn.0) (turn.2 bytes h)))),
+        (λ bytes h. subst (TakesBytes had has bytes) (turns bytes turn.0 c.in-Some.line.now)
+            (TakesUpTo-trans had then has (rows_before bytes) (rows_before (bytes ++ turn.0)) (rows_before (((bytes ++ turn.0) ++ c.in-Some.line.now) ++ 10 ∷ [])) (turn.3 bytes h)
+            (subst (λ rs. TakesUpTo then has rs (rows_before (((bytes ++ turn.0) ++ c.in-Some.line.now) ++ 10 ∷ [])))
+            (rows_begun c.loop-line.self c.loop-line.context (bytes ++ turn.0) (turn.2 bytes h) c.in-Some.line.now c.in-Some.ensures.line)
+            (c.in_ok-end_line.ensures.taken ((bytes ++ turn.0) ++ c.in-Some.line.now) (c.in_ok-begin.ensures.read c.loop-line.context (bytes ++ turn.0) (turn.2 bytes h)))))),
+      ),
+    )
 
 pub returns-clause-read : goal.returns-clause-read
 returns-clause-read g c =
