@@ -19,7 +19,8 @@ abbrev pub AreFound : Tree → List (Option AttributeNumber) → List Node → T
 AreFound t [] [] = Unit {0}
 AreFound t [] (n ∷ nodes) = ⊥
 AreFound t (number ∷ found) [] = ⊥
-AreFound t (number ∷ found) (n ∷ nodes) = IsNumberOf t number (attribute_of n) × AreFound t found nodes
+AreFound t (number ∷ found) (n ∷ nodes) =
+    IsNumberOf t number (attribute_of n) × AreFound t found nodes
 
 -- numbers are those of attributes
 pub record AreNumbers (t : Tree) (numbers : List AttributeNumber) (attributes : List Attribute)

@@ -11,7 +11,8 @@ use Rattle.cal_value.specs.Reading.{value_of}
 use Rattle.cal_value.specs.declared.attribute.Attribute.{Attribute}
 use Rattle.cal_value.specs.declared.variant.Variant as variants
 use Rattle.cal_read.specs.Fields.{or_fault, if_there, values_of, only, id_of}
-use Rattle.cal_read.specs.Nodes.{Step, Node, Named, steps_to, kind_below, props_in, attribute_of, node_at}
+use Rattle.cal_read.specs.Nodes.{Step, Node, Named, steps_to, kind_below, props_in}
+use Rattle.cal_read.specs.Nodes.{attribute_of, node_at}
 use Rattle.cal_read.specs.declared.kind.StreamKind.{StreamKind}
 use Rattle.cal_read.specs.declared.kind.StreamKind.TheVariants as kind
 use Rattle.cal_read.specs.declared.node_texts.NodeIds.{NodeIds}

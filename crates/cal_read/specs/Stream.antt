@@ -1,5 +1,5 @@
--- What a stream means, line by line (the `.cali` format, with Giltmoth's table of faults: a line has
--- the first that applies).
+-- What a stream means, line by line (the `.cali` format, with Giltmoth's table of faults: a line
+-- has the first that applies).
 use Rattle.std.specs.Prelude.{◌≡◌, ℕ, List, [], ◌∷◌, ◌++◌, Result, Ok, Err, not, if◌then◌else◌}
 use Rattle.std.specs.Str.{is_utf8}
 use Rattle.cal_input.specs.FirstFault.{◌>>=◌, after_lines, IsFirstFault}

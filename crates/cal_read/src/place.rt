@@ -1,4 +1,5 @@
-ghost use Rattle.std.specs.Prelude.{◌≡◌, ◌==◌, ◌+◌, ◌<◌, [], List, Some, None, IfOk, unwrap_or, if◌then◌else◌};
+ghost use Rattle.std.specs.Prelude.{◌≡◌, ◌==◌, ◌+◌, ◌<◌, [], List, Some, None, IfOk, unwrap_or};
+ghost use Rattle.std.specs.Prelude.{if◌then◌else◌};
 ghost use Rattle.cal_context.specs.Tree.{Tree, Grows};
 ghost use Rattle.cal_read.specs.Held.{IsAt, IsNumberOf};
 ghost use Rattle.cal_read.specs.NodeLines.{misfit};

@@ -35,8 +35,8 @@ impl Reader {
         })
     }
 
-    /// Reads a further piece, and appends the rows of the lines that it ends. An `Err` leaves `out`,
-    /// and every later call answers it again.
+    /// Reads a further piece, and appends the rows of the lines that it ends. An `Err` leaves
+    /// `out`, and every later call answers it again.
     pub fn feed(&mut self, piece: &[u8], out: &mut Seq<Rec>) -> Result<(), StreamEnd>
         requires { IsOwnedReady self.old }
         ensures ready { IsOwnedReady self.new }

@@ -81,7 +81,8 @@ fn count_of(field: &Option<FieldPieces>) -> usize
 
 /// The ids that the values of a field are, in place of those that were there.
 fn read_ids(alloc: Global, field: &Option<FieldPieces>, ids: &mut Vec<u64>) -> Result<(), LineEnd>
-    ensures { AnswersFor (λ _ found. ids.new.items ≡ found) result (each id_of (values_in field.now)) }
+    ensures { AnswersFor (λ _ found. ids.new.items ≡ found) result
+        (each id_of (values_in field.now)) }
 {
     ids.clear();
     match field {

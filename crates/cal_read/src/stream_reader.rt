@@ -49,8 +49,8 @@ impl StreamReader {
         })
     }
 
-    /// Reads a further piece, and has the rows of the lines that it ends taken, in order. Time is in
-    /// the length of these lines. After a refusal every call answers that refusal again.
+    /// Reads a further piece, and has the rows of the lines that it ends taken, in order. Time is
+    /// in the length of these lines. After a refusal every call answers that refusal again.
     pub fn feed<T: Taker>(
         &mut self,
         piece: &[u8],
