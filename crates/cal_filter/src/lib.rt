@@ -1,0 +1,13 @@
+//! LET and WHERE: what a query makes of one record.
+//!
+//! `apply` gives the record with the entries that LET adds, or nothing where WHERE drops it, as
+//! `kept` says. A `Filter` is the same over snapshots by number, for a program that takes many: it
+//! keeps what it needs of nodes and attributes beside their numbers, and compares no name for a
+//! record. Nothing is promised of time.
+#![tactic(auto)]
+
+mod arithmetic;
+mod number;
+mod operation;
+
+pub use number::{number_in, value_of_number};
