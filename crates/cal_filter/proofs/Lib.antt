@@ -1,0 +1,13 @@
+mod Sums
+mod KindLemmas
+mod Last
+mod Seeking
+mod Finding
+mod Zips
+mod OperandLemmas
+mod Holding
+mod Growing
+mod SmallNumbers
+mod Applying
+mod ResultLemmas
+mod ReadyLemmas

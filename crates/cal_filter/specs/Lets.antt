@@ -1,12 +1,12 @@
 -- What a definition of LET gives on a record (CalQL; limits and rounding are Giltmoth's).
-use Rattle.std.specs.Prelude.{ℕ, ℤ, pos, ◌+ℤ◌, ◌*ℤ◌, ◌≤ℤ◌, ◌^◌, int_div, nat_le, unsigned_abs}
+use Rattle.std.specs.Prelude.{ℕ, ℤ, pos, ◌*ℤ◌, ◌≤ℤ◌, ◌^◌, int_div, nat_le, unsigned_abs}
 use Rattle.std.specs.Prelude.{List, [], ◌∷◌, map, slice_get, Option, Some, None, option_map}
 use Rattle.std.specs.Prelude.{option_and_then, if◌then◌else◌}
 use Rattle.std.specs.Int.{int_div_euclid}
 use Rattle.std.specs.List.{filter_map}
 use Rattle.std.specs.Ordering.{int_eq}
 use Rattle.cal_agg.specs.Numbers.{measure, nano_units, number}
-use Rattle.cal_agg.specs.Results.{found, together}
+use Rattle.cal_agg.specs.Results.{sum_of}
 use Rattle.cal_agg.specs.declared.num.Num.{Num}
 use Rattle.cal_agg.specs.declared.num.Num.TheVariants.{Whole, Fixed}
 use Rattle.cal_ql.specs.Lets.{least_number}
@@ -50,9 +50,9 @@ abbrev pub ratio_of : ℤ → Num → Num → Option Num
 ratio_of n (Whole a) (Whole b) = quotient (a *ℤ n) b
 ratio_of n a b = quotient_of_measures (measure a *ℤ n) (measure b)
 
--- sum(A,B,..): those numbers added that are there, fixed where one of them is; nothing of none
+-- sum(A,B,..): what the kernel `sum` gives of those numbers that are there
 abbrev pub total_of : List (Option Num) → Option Num
-total_of numbers = found (together ◌+ℤ◌) (filter_map (λ n. n) numbers)
+total_of numbers = sum_of (filter_map (λ n. n) numbers)
 
 -- What an operator gives of the last numbers of its names. One that is missing gives nothing, but
 -- in a sum.

@@ -3,3 +3,9 @@ pub mod Named
 pub mod Lets
 pub mod Conditions
 pub mod Kept
+pub mod Sought
+pub mod Known
+pub mod Results
+pub mod Ready
+pub mod Replaced
+pub mod Filtered

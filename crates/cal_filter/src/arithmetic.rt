@@ -1,4 +1,5 @@
 ghost use Rattle.std.specs.Prelude.{◌≡◌, ◌≤◌, ◌<ℤ◌, ◌*ℤ◌, ◌^◌, pos, unsigned_abs};
+ghost use Rattle.std.specs.Option.{ForSome};
 ghost use Rattle.cal_agg.specs.Numbers.{IsSmall, IsWithin, measure as measure_of};
 ghost use Rattle.cal_filter.specs.Lets.{floor_to as multiple_below, limited as limited_to};
 ghost use Rattle.cal_filter.specs.Lets.{quotient as quotient_of, quotient_of_measures};
@@ -42,9 +43,19 @@ pub(crate) fn scaled(n: i128, number: Num) -> Num
     ensures { result ≡ scaled_by n number }
 {
     match number {
-        Num::Whole(whole) => Num::Whole(whole * n),
-        Num::Fixed(fixed) => Num::Fixed(fixed * n),
+        Num::Whole(whole) => Num::Whole(product(whole, n)),
+        Num::Fixed(fixed) => Num::Fixed(product(fixed, n)),
     }
+}
+
+fn product(number: i128, n: i128) -> i128
+    requires small { IsWithin 86 number }
+    requires within { IsWithin 31 n }
+    ensures value { result ≡ number *ℤ n }
+    ensures within { IsWithin 117 result }
+{
+    let product = number * n;
+    product
 }
 
 /// `ratio`: `n` times one number over another, rounded towards 0.
@@ -55,7 +66,7 @@ pub(crate) fn ratio(n: i128, one: Num, other: Num) -> Option<Num>
     ensures { result ≡ ratio_of n one other }
 {
     match (one, other) {
-        (Num::Whole(one), Num::Whole(other)) => quotient(one * n, other),
+        (Num::Whole(one), Num::Whole(other)) => quotient(product(one, n), other),
         (one, other) => ratio_of_measures(n, measure(one), measure(other)),
     }
 }
@@ -97,7 +108,8 @@ fn quotient(product: i128, other: i128) -> Option<Num>
 
 /// A result within the limit of 2^86.
 pub(crate) fn limited(number: Num) -> Option<Num>
-    ensures { result ≡ limited_to number }
+    ensures value { result ≡ limited_to number }
+    ensures small { ForSome result IsSmall }
 {
     if number.is_small() { Some(number) } else { None }
 }

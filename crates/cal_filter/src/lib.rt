@@ -7,7 +7,18 @@
 #![tactic(auto)]
 
 mod arithmetic;
+mod condition;
+mod definition;
+mod filter;
+mod find;
+mod kinds;
 mod number;
+mod operands;
 mod operation;
+mod relation;
+mod results;
+mod seeker;
+mod wanted;
 
+pub use filter::Filter;
 pub use number::{number_in, value_of_number};

@@ -9,14 +9,22 @@ use crate::arithmetic::{limited, ratio, scaled, truncated};
 use cal_agg::{Kernel, Num, Sum};
 use cal_ql::Op;
 
+/// An operator with its number.
+#[derive(Clone, Copy, Debug)]
+pub(crate) struct Operator {
+    pub(crate) op: Op,
+    pub(crate) n: i64,
+    ghost factor: { IsFactor op n },
+}
+
 /// What an operator over numbers gives of the last numbers of its names, within its limit.
-pub(crate) fn let_number(op: Op, n: i64, numbers: &[Option<Num>]) -> Option<Num>
-    requires factor { IsFactor op n }
+pub(crate) fn let_number(operator: Operator, numbers: &[Option<Num>]) -> Option<Num>
     requires small { All (λ number. ForSome number IsSmall) numbers.now }
     requires few { length numbers.now ≤ 16 }
-    ensures { result ≡ option_and_then limited_to (result_of op n numbers.now) }
+    ensures { result
+        ≡ option_and_then limited_to (result_of operator.op operator.n numbers.now) }
 {
-    limited(operation(op, i128::from(n), numbers)?)
+    limited(operation(operator.op, i128::from(operator.n), numbers)?)
 }
 
 fn operation(op: Op, n: i128, numbers: &[Option<Num>]) -> Option<Num>
