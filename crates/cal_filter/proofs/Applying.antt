@@ -24,11 +24,11 @@ pub appended : (t : Tree) (s s' : Snapshot) (x : Immediate) (name : List ℕ)
     → meaning t s' ≡ with_result (meaning t s) name (Some x.value)
 appended t s s' x name nodes imms is =
     let entry : entry_of t x ≡ result_entry name x.value =
-        λ i. record { attr = is i; value = x.value } in
+    λ i. record { attr = is i; value = x.value } in
     let entries : map (entry_of t) s'.imms.items
-        ≡ map (entry_of t) s.imms.items ++ result_entry name x.value ∷ [] =
-        ap (map (entry_of t)) imms ∙ map-append (entry_of t) s.imms.items (x ∷ [])
-        ∙ ap (λ e. map (entry_of t) s.imms.items ++ e ∷ []) entry in
+    ≡ map (entry_of t) s.imms.items ++ result_entry name x.value ∷ [] =
+    ap (map (entry_of t)) imms ∙ map-append (entry_of t) s.imms.items (x ∷ [])
+    ∙ ap (λ e. map (entry_of t) s.imms.items ++ e ∷ []) entry in
     λ i. record { paths = map (path_at t) (nodes i); imms = entries i }
 
 -- and lies in the context

@@ -63,7 +63,7 @@ module _ (t : Tree) (s : Sought) where
   root_alone : IsContext t → (n : NodeNumber) → n.0 < length t.paths → path_at t n ≡ [] → n ≡ root
   root_alone context n within none =
       let same : n.0 ≡ 0 =
-          context.paths n.0 0 [] within (root_within context) (none ∙ sym (root_path context)) in
+      context.paths n.0 0 [] within (root_within context) (none ∙ sym (root_path context)) in
       λ i. record { 0 = same i }
 
   module _ (context : IsContext t) (nodes : List NodeNumber) (i : ℕ) (n near last : NodeNumber)

@@ -11,6 +11,7 @@ use Rattle.cal_ql.specs.declared.query.Query.{Query}
 use Rattle.cal_value.specs.Texts.{text_cmp}
 use Rattle.cal_filter.specs.Known.{Knows, IsNearest, nearest_at, sought}
 use Rattle.cal_filter.specs.Ready.{IsCondition, IsDefinition, IsFilter}
+use Rattle.cal_filter.specs.Results.{number_for}
 use Rattle.cal_filter.specs.Sought.{last_sought}
 use Rattle.cal_filter.specs.declared.condition.Condition.{Condition}
 use Rattle.cal_filter.specs.declared.definition.Definition.{Definition}
@@ -45,8 +46,9 @@ module _ {old new : Tree} (grows : Grows old new) where
       names = h.defined.names;
       attributes = λ k. let numbered = h.defined.attributes k in
           record {
-            within = within_attributes grows _ numbered.within;
-            is = attribute_at-Grows grows _ numbered.within ∙ numbered.is;
+            within = within_attributes grows (number_for d.attributes.items k).0 numbered.within;
+            is = attribute_at-Grows grows (number_for d.attributes.items k) numbered.within
+                ∙ numbered.is;
           };
     };
     knows = λ i d e. knows-Grows _ (h.knows i d e);

@@ -11,3 +11,5 @@ mod SmallNumbers
 mod Applying
 mod ResultLemmas
 mod ReadyLemmas
+mod FlatOnly
+mod InternedLemmas

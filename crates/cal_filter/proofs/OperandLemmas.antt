@@ -197,7 +197,7 @@ pub number_is : (t : Tree) (l : Let) (d : Definition) (r : Rec) (numbers : List 
 number_is t l d r numbers h not_first found =
     let other : l.op ≡ op.First → ⊥ = λ e. not_first (h.op ∙ e) in
     let all : numbers ≡ map (λ name. last_number name r) l.args =
-        found ∙ map_sought (λ w. number_sought w (flat r)) d.seekers.items
-        ∙ ap (map (λ w. number_sought w (flat r))) h.names ∙ numbers_found l.op other l.args r in
+    found ∙ map_sought (λ w. number_sought w (flat r)) d.seekers.items
+    ∙ ap (map (λ w. number_sought w (flat r))) h.names ∙ numbers_found l.op other l.args r in
     (λ i. option_map value_of_number (option_and_then limited (operation (h.op i) (h.n i) (all i))))
     ∙ sym (value_by_number l.op other l.n l.args r)

@@ -2,8 +2,10 @@
 use Rattle.std.proofs.Common.{◌≡◌, ℕ, ◌+◌, ◌<◌, List, [], ◌∷◌, ◌++◌, map, take, length, get_or}
 use Rattle.std.proofs.Common.{Result, Ok, Err, refl, sym, ◌∙◌, ap, subst, arith}
 use Rattle.std.specs.List.{All, AllZip}
-use Rattle.std.specs.Result.{IfOk}
-use Rattle.std.proofs.lemmas.List.{map-append, take_more}
+use Rattle.std.specs.Result.{IfOk, OnOk}
+use Rattle.std.specs.Vec.{with_items}
+use Rattle.std.specs.declared.vec.Vec.{Vec}
+use Rattle.std.proofs.lemmas.List.{map-append, take_more, with_items_is}
 use Rattle.cal_context.specs.Tree.{Tree}
 use Rattle.cal_ql.specs.declared.names.Op as ops
 use Rattle.cal_ql.specs.declared.query.Cond.{Cond}
@@ -112,3 +114,20 @@ pub weaker : {T E : Type 0} (P Q : T → Type 0) (r : Result T E) → ((v : T) �
     → IfOk r P → IfOk r Q
 weaker P Q (Ok v) f h = f v h
 weaker P Q (Err e) f h = h
+
+pub on_ok : {T E : Type 0} (P Q : Type 0) (r : Result T E) → (P → Q) → OnOk r P → OnOk r Q
+on_ok P Q (Ok v) f h = f h
+on_ok P Q (Err e) f h = h
+
+pub on_both : {T E : Type 0} (P Q R : Type 0) (r : Result T E) → (P → Q → R) → OnOk r P → OnOk r Q
+    → OnOk r R
+on_both P Q R (Ok v) f h g = f h g
+on_both P Q R (Err e) f h g = h
+
+-- a list that was written back
+pub written : {A Z : Type 0} (R : A → A → Type 0) (v : Vec A Z) (old ws : List A) → old ≡ v.items
+    → length old ≡ v.len → AllZip R old ws → AllZip R v.items (with_items v ws).items
+written R v old ws is counted zip =
+    let long : length ws ≡ v.len = sym (zip_length R old ws zip) ∙ counted in
+    subst (AllZip R v.items) (sym (with_items_is v ws long))
+    (subst (λ xs. AllZip R xs ws) is zip)

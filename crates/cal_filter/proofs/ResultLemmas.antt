@@ -27,15 +27,15 @@ kind_at kind.Ptr d = refl
 none : AttributeNumber
 none = record { 0 = 0 }
 
-pub numbered_next : (t t' : Tree) (name : List ℕ) (kinds : List kinds.Kind) (d : kinds.Kind)
+pub numbered_next : (t t' : Tree) (name : List ℕ) (ks : List kinds.Kind) (d : kinds.Kind)
     (numbers numbers' : List AttributeNumber) (i : ℕ) (n : AttributeNumber) → Grows t t'
-    → kinds ≡ every_kind → length numbers ≡ i → numbers' ≡ numbers ++ n ∷ []
-    → IsNumbered t' (result_attribute name (get_or kinds i d)) n
+    → ks ≡ every_kind → length numbers ≡ i → numbers' ≡ numbers ++ n ∷ []
+    → IsNumbered t' (result_attribute name (get_or ks i d)) n
     → ((k : kinds.Kind) → kind_place k < i
     → IsNumbered t (result_attribute name k) (number_for numbers k))
     → (k : kinds.Kind) → kind_place k < i + 1
     → IsNumbered t' (result_attribute name k) (number_for numbers' k)
-numbered_next t t' name kinds d numbers numbers' i n grows all counted more here before k below =
+numbered_next t t' name ks d numbers numbers' i n grows all counted more here before k below =
     by (cases_lt (kind_place k) i)
   where
     by : ((kind_place k < i) ⊎ (i ≤ kind_place k))
@@ -43,8 +43,8 @@ numbered_next t t' name kinds d numbers numbers' i n grows all counted more here
     by (inl less) =
         let old = before k less in
         let same : number_for numbers k ≡ number_for numbers' k =
-            sym (ap (λ ns. get_or ns (kind_place k) (record { 0 = 0 })) more
-            ∙ get_or_append_left numbers (n ∷ []) (record { 0 = 0 }) (kind_place k) (omega arith)) in
+        sym (ap (λ ns. get_or ns (kind_place k) (record { 0 = 0 })) more
+        ∙ get_or_append_left numbers (n ∷ []) (record { 0 = 0 }) (kind_place k) (omega arith)) in
         subst (IsNumbered t' (result_attribute name k)) same
         (record {
           within = within_attributes grows (number_for numbers k).0 old.within;
@@ -52,10 +52,10 @@ numbered_next t t' name kinds d numbers numbers' i n grows all counted more here
         })
     by (inr over) =
         let place : kind_place k ≡ i = omega arith in
-        let kind_is : get_or kinds i d ≡ k =
-            ap (λ ks. get_or ks i d) all ∙ ap (λ j. get_or every_kind j d) (sym place) ∙ kind_at k d in
+        let kind_is : get_or ks i d ≡ k =
+        ap (λ xs. get_or xs i d) all ∙ ap (λ j. get_or every_kind j d) (sym place) ∙ kind_at k d in
         let number_is : n ≡ number_for numbers' k =
-            sym (ap (λ ns. get_or ns (kind_place k) (record { 0 = 0 })) more
-            ∙ get_or_push numbers n (record { 0 = 0 }) (kind_place k) (counted ∙ sym place)) in
+        sym (ap (λ ns. get_or ns (kind_place k) (record { 0 = 0 })) more
+        ∙ get_or_push numbers n (record { 0 = 0 }) (kind_place k) (counted ∙ sym place)) in
         subst (IsNumbered t' (result_attribute name k)) number_is
         (subst (λ j. IsNumbered t' (result_attribute name j) n) kind_is here)

@@ -101,7 +101,7 @@ attribute_next t s s' a b same nodes more next within named k = record {
         }
     by x (inr long) h =
         let counted : length s'.named.items ≡ length s.named.items + 1 =
-            ap length more ∙ length-append s.named.items (b ∷ []) in
+        ap length more ∙ length-append s.named.items (b ∷ []) in
         let e : x.0 ≡ length s.named.items = omega arith in
         let is : x ≡ a = known x (e ∙ sym next) in
         record {
@@ -147,7 +147,7 @@ node_next t s s' n m same attributes more next near k = record {
         (k.nodes x short)
     by x (inr long) h =
         let counted : length s'.nearest.items ≡ length s.nearest.items + 1 =
-            ap length more ∙ length-append s.nearest.items (m ∷ []) in
+        ap length more ∙ length-append s.nearest.items (m ∷ []) in
         let e : x.0 ≡ length s.nearest.items = omega arith in
         let is : n ≡ x = λ i. record { 0 = (next ∙ sym e) i } in
         like x m

@@ -59,10 +59,10 @@ module _ (xs : List (Option Num)) (i : ℕ) (x : Option Num) (sum : Parts)
   total_room small few =
       let front = take (i + 1) xs in
       let smalls : All IsSmall (there front) =
-          All-from_recursion IsSmall (there front)
-          (there_small front
-          (recursion_from_All (λ n. ForSome n IsSmall) front
-          (All-take (λ n. ForSome n IsSmall) (i + 1) xs small))) in
+      All-from_recursion IsSmall (there front)
+      (there_small front
+      (recursion_from_All (λ n. ForSome n IsSmall) front
+      (All-take (λ n. ForSome n IsSmall) (i + 1) xs small))) in
       let short_front : length front ≤ length xs = simp length-take (omega arith) in
       let bound = length-there front in
       subst (AreWithin 126) (sym total_next) (sum_over-within (there front) smalls (omega arith))

@@ -42,7 +42,10 @@ module _ {A B : Type 0} (R : A → B → Type 0) where
   pub zip_more : (xs : List A) (ys ys' : List B) (i : ℕ) (x : A) (y : B) → AllZip R (take i xs) ys
       → i < length xs → x ≡ get_or xs i x → ys' ≡ ys ++ y ∷ [] → R x y → AllZip R (take (i + 1) xs) ys'
   zip_more xs ys ys' i x y h short read more r =
-      rw (more, take_more xs i x short, ← read) (zip_push (take i xs) ys x y h r)
+      let front : take (i + 1) xs ≡ take i xs ++ x ∷ [] =
+      take_more xs i x short ∙ ap (λ z. take i xs ++ z ∷ []) (sym read) in
+      subst (λ zs. AllZip R zs ys') (sym front)
+      (subst (AllZip R (take i xs ++ x ∷ [])) (sym more) (zip_push (take i xs) ys x y h r))
 
   -- what goes together with the item at a place
   pub record Partner (xs : List A) (i : ℕ) (y : B) : Type 0 where
@@ -124,16 +127,16 @@ replace_next {A} R old now now' i x x' h short read write r = record {
     here j d e is =
         let before : x ≡ get_or old j d = at d ∙ ap (λ k. get_or old k d) (sym is) in
         let after : x' ≡ get_or now' j e =
-            sym (get_or-set_same now i x' e short) ∙ ap (λ zs. get_or zs i e) (sym write)
-            ∙ ap (λ k. get_or now' k e) (sym is) in
+        sym (get_or-set_same now i x' e short) ∙ ap (λ zs. get_or zs i e) (sym write)
+        ∙ ap (λ k. get_or now' k e) (sym is) in
         subst (λ y. R y (get_or now' j e)) before (subst (R x) after r)
 
     by : (j : ℕ) (d e : A) → j < length old → ((j < i) ⊎ (i ≤ j)) → j < i + 1
         → R (get_or old j d) (get_or now' j e)
     by j d e within (inl less) below =
         let stays : get_or now j e ≡ get_or now' j e =
-            sym (get_or-set_other now i j x' e (λ same. absurd (omega arith)))
-            ∙ ap (λ zs. get_or zs j e) (sym write) in
+        sym (get_or-set_other now i j x' e (λ same. absurd (omega arith)))
+        ∙ ap (λ zs. get_or zs j e) (sym write) in
         subst (R (get_or old j d)) stays (h.done j d e less within)
     by j d e within (inr more) below = here j d e (omega arith)
 

@@ -9,3 +9,4 @@ pub mod Results
 pub mod Ready
 pub mod Replaced
 pub mod Filtered
+pub mod Interned

@@ -111,5 +111,9 @@ pub(crate) fn limited(number: Num) -> Option<Num>
     ensures value { result ≡ limited_to number }
     ensures small { ForSome result IsSmall }
 {
-    if number.is_small() { Some(number) } else { None }
+    if number.is_small() {
+        Some(number)
+    } else {
+        None
+    }
 }

@@ -34,13 +34,9 @@ pub struct Filter {
 }
 
 impl Filter {
-    /// A filter for a query. The attributes that LET's entries may have are added to the context now,
-    /// so that it needn't grow later.
-    pub fn new(
-        alloc: Global,
-        query: &Query,
-        context: &mut Context,
-    ) -> Result<Filter, OutOfMemory>
+    /// A filter for a query. The attributes that LET's entries may have are added to the context
+    /// now, so that it needn't grow later.
+    pub fn new(alloc: Global, query: &Query, context: &mut Context) -> Result<Filter, OutOfMemory>
         requires { IsValidQuery query.now }
         ensures ready { IfOk result (IsFilter context.new query.now) }
         ensures grows { Grows context.old context.new }
@@ -58,11 +54,7 @@ impl Filter {
     /// Appends the immediates of LET to a snapshot, and answers whether WHERE keeps it. After an
     /// `Err` nothing is promised of the filter and the snapshot. Numbers of a magnitude above 2^86
     /// are no numbers to it.
-    pub fn apply(
-        &mut self,
-        context: &Context,
-        snapshot: &mut Snapshot,
-    ) -> Result<bool, OutOfMemory>
+    pub fn apply(&mut self, context: &Context, snapshot: &mut Snapshot) -> Result<bool, OutOfMemory>
         requires { IsIn context.now snapshot.old }
         ensures within { OnOk result (IsIn context.now snapshot.new) }
         ensures nodes { OnOk result (snapshot.new.nodes.items ≡ snapshot.old.nodes.items) }
@@ -97,7 +89,13 @@ impl Filter {
             → meaning context.now snapshot.new
             ≡ with_lets q.lets (meaning context.now snapshot.old)) }
     {
-        apply_all(self.alloc, &self.definitions, context, snapshot, &mut self.numbers)
+        apply_all(
+            self.alloc,
+            &self.definitions,
+            context,
+            snapshot,
+            &mut self.numbers,
+        )
     }
 }
 

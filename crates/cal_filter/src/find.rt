@@ -13,7 +13,8 @@ use cal_context::{Context, Immediate, NodeNumber, Snapshot};
 use cal_value::Variant;
 
 impl Seeker {
-    /// The value of the last entry of a record that is sought, in time for its nodes and immediates.
+    /// The value of the last entry of a record that is sought. It takes time for its nodes and
+    /// immediates.
     pub(crate) fn find<'a>(
         &self,
         context: &'a Context,

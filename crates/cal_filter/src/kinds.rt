@@ -60,10 +60,7 @@ pub(crate) fn kind_of(value: &Variant) -> Kind
 }
 
 /// What a text writes as each kind, by the kinds' places.
-pub(crate) fn values_of(
-    alloc: Global,
-    text: &str,
-) -> Result<Vec<Option<Variant>>, OutOfMemory>
+pub(crate) fn values_of(alloc: Global, text: &str) -> Result<Vec<Option<Variant>>, OutOfMemory>
     ensures { IfOk result (λ values. values.items ≡ map (λ k. value_of k text.now) every_kind) }
 {
     let kinds = all_kinds();

@@ -12,13 +12,17 @@ mod definition;
 mod filter;
 mod find;
 mod kinds;
+mod laws;
 mod number;
 mod operands;
 mod operation;
+mod record;
 mod relation;
 mod results;
 mod seeker;
 mod wanted;
 
 pub use filter::Filter;
+pub use laws::{filters_stay, numbers_stay_small};
 pub use number::{number_in, value_of_number};
+pub use record::apply;

@@ -22,11 +22,7 @@ use cal_value::{OutOfMemory, Text, TryCopy, Variant};
 use std::alloc::Global;
 
 /// What an operator seeks by its names.
-pub(crate) fn seekers_of(
-    alloc: Global,
-    op: Op,
-    names: &[Text],
-) -> Result<Vec<Seeker>, OutOfMemory>
+pub(crate) fn seekers_of(alloc: Global, op: Op, names: &[Text]) -> Result<Vec<Seeker>, OutOfMemory>
     ensures sought { IfOk result (λ seekers.
         map sought seekers.items ≡ map (sought_by op) names.now) }
     ensures knows { IfOk result (λ seekers. (t : Tree) → All (Knows t) seekers.items) }

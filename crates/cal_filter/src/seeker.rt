@@ -104,19 +104,27 @@ impl Seeker {
             (record { attr = attribute_at context.now attribute; value = value.now }) }
     {
         self.is_named(attribute)
-            && self.wanted.passes(context.attribute_at(attribute).kind, value)
+            && self
+                .wanted
+                .passes(context.attribute_at(attribute).kind, value)
     }
 
     fn is_named(&self, attribute: AttributeNumber) -> bool
         ensures { result ≡ named_at self.now attribute }
     {
-        self.named.get(attribute.0 as usize).copied().unwrap_or(false)
+        self.named
+            .get(attribute.0 as usize)
+            .copied()
+            .unwrap_or(false)
     }
 
     /// The nearest node at or above a node that is known.
     pub(crate) fn nearest(&self, node: NodeNumber) -> NodeNumber
         ensures { result ≡ nearest_at self.now node }
     {
-        self.nearest.get(node.0 as usize).copied().unwrap_or(NodeNumber::ROOT)
+        self.nearest
+            .get(node.0 as usize)
+            .copied()
+            .unwrap_or(NodeNumber::ROOT)
     }
 }

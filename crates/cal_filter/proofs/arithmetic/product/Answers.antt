@@ -28,6 +28,6 @@ returns-clause-value c =
 pub returns-clause-within : goal.returns-clause-within
 returns-clause-within c =
     let same = read_back c.args.number c.args.n c.ranges.number c.ranges.n
-        c.requires.small c.requires.within in
+    c.requires.small c.requires.within in
     subst (IsWithin 117) (sym same)
     (product_within c.args.number c.args.n c.requires.small c.requires.within)

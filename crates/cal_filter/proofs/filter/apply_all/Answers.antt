@@ -19,7 +19,7 @@ loop-definition-preserved c = record {
       let i = c.loop-definition.definition-index in
       let before = c.loop-definition.invariant.adds lets zip small in
       let p = partner (IsReadyDefinition t) lets c.args.definitions.now i c.definition-item.result
-          zip (omega arith) c.definition-item.is in
+      zip (omega arith) c.definition-item.is in
       let now_small = subst HasSmallNumbers (sym before) (with_lets_small (take i lets) r small) in
       let next : i + 1 ≡ suc i = omega arith in
       c.in_ok-apply.ensures.adds p.item p.together now_small

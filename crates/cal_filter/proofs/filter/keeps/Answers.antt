@@ -13,7 +13,7 @@ returns-then-not-holds c = λ conds zip.
     let r = meaning c.args.context.now c.args.snapshot.now in
     let i = c.loop-condition.condition-index in
     let p = partner (IsReadyCondition c.args.context.now) conds c.args.conditions.now i
-        c.condition-item.result zip (omega arith) c.condition-item.is in
+    c.condition-item.result zip (omega arith) c.condition-item.is in
     let fails : c.holds.result ≡ false = search rules in
     sym (all_false (λ d. cond_holds d r) conds (suc i)
     (all_next (λ d. cond_holds d r) (take (suc i) conds) (take i conds) p.item true false p.front
@@ -24,7 +24,7 @@ loop-condition-preserved c = λ conds zip.
     let r = meaning c.args.context.now c.args.snapshot.now in
     let i = c.loop-condition.condition-index in
     let p = partner (IsReadyCondition c.args.context.now) conds c.args.conditions.now i
-        c.condition-item.result zip (omega arith) c.condition-item.is in
+    c.condition-item.result zip (omega arith) c.condition-item.is in
     let holds : c.holds.result ≡ true = search rules in
     let next : i + 1 ≡ suc i = omega arith in
     ap (λ n. list_all (λ d. cond_holds d r) (take n conds)) next

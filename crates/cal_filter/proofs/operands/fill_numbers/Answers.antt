@@ -24,7 +24,7 @@ loop-seeker-preserved c =
           c.number_found-number.ensures.small);
       found = λ k small.
           let knows = subst (KnowsAll c.args.context.now) (sym c.seeker-item.is)
-              (k i c.seeker-item.result short) in
+          (k i c.seeker-item.result short) in
           c.in_ok-push.ensures.items
           ∙ (λ j. c.loop-seeker.invariant.found k small j
           ++ c.number_found-number.ensures.found knows small j ∷ [])

@@ -11,8 +11,8 @@ returns-in-Some c = λ k.
     let i = c.loop-seeker.seeker-index in
     let short : i < length c.args.seekers.now = omega arith in
     let knows = subst (KnowsAll c.args.context.now) (sym c.seeker-item.is)
-        (k i c.seeker-item.result short) in
-    ap Some c.in_ok-copy.ensures
+    (k i c.seeker-item.result short) in
+    ap Some c.in_ok-copy-in-Some.ensures
     ∙ sym (first_at (λ s. value_sought (sought s)
     (flat (meaning c.args.context.now c.args.snapshot.now))) c.args.seekers.now i
     c.seeker-item.result c.in-Some.value.now short c.seeker-item.is (c.loop-seeker.invariant k)
@@ -23,7 +23,7 @@ loop-seeker-preserved c = λ k.
     let i = c.loop-seeker.seeker-index in
     let short : i < length c.args.seekers.now = omega arith in
     let knows = subst (KnowsAll c.args.context.now) (sym c.seeker-item.is)
-        (k i c.seeker-item.result short) in
+    (k i c.seeker-item.result short) in
     none_next (λ s. value_sought (sought s)
     (flat (meaning c.args.context.now c.args.snapshot.now))) c.args.seekers.now i
     c.seeker-item.result short c.seeker-item.is (c.loop-seeker.invariant k)

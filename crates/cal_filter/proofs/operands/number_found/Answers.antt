@@ -9,5 +9,5 @@ pub returns-in-Some-clause-found : goal.returns-in-Some-clause-found
 returns-in-Some-clause-found c = λ k small.
     let is = c.in-Some.ensures k in
     let fits = sought_small (sought c.args.seeker.now)
-        (meaning c.args.context.now c.args.snapshot.now) small c.in-Some.value.now (sym is) in
+    (meaning c.args.context.now c.args.snapshot.now) small c.in-Some.value.now (sym is) in
     c.small_number.ensures.number fits ∙ ap (option_and_then number_in) is

@@ -16,14 +16,14 @@ add-requires-clause-room c =
 pub loop-number-preserved : goal.loop-number-preserved
 loop-number-preserved c =
     elim c.match-number.branch [
-      in-Some w ↦
-        w.sum-is ∙ w.add.ensures
-        ∙ total_next c.args.numbers.now c.loop-number.number-index (Some w.in-Some.number)
-        c.loop-number.sum c.loop-number.invariant (omega arith) (search rules)
-    | in_default w ↦
-        w.sum-is ∙ sym (sum_same c.loop-number.sum)
-        ∙ total_next c.args.numbers.now c.loop-number.number-index None
-        c.loop-number.sum c.loop-number.invariant (omega arith) (search rules)
+      | in-Some w ↦
+          w.sum-is ∙ w.add.ensures
+          ∙ total_next c.args.numbers.now c.loop-number.number-index (Some w.in-Some.number)
+          c.loop-number.sum c.loop-number.invariant (omega arith) (search rules)
+      | in_default w ↦
+          w.sum-is ∙ sym (sum_same c.loop-number.sum)
+          ∙ total_next c.args.numbers.now c.loop-number.number-index None
+          c.loop-number.sum c.loop-number.invariant (omega arith) (search rules)
     ]
 
 pub returns : goal.returns

@@ -14,11 +14,11 @@ returns-in-Some c = λ k.
     let s = sought c.args.self.now in
     let imms = c.args.snapshot.now.imms.items in
     let found = ap (λ xs. last_sought s (map (entry_of t) xs)) (sym c.deref.ensures.value)
-        ∙ c.in-Some.ensures.last k in
+    ∙ c.in-Some.ensures.last k in
     let short : c.in-Some.place < length imms = rw (← c.deref.ensures.value) c.in-Some.ensures.within in
     let at = ap (λ xs. slice_get xs c.in-Some.place) c.deref.ensures.value
-        ∙ slice_get-get_or imms c.in-Some.place c.index.result.now short
-        ∙ ap Some (sym c.index.ensures) in
+    ∙ slice_get-get_or imms c.in-Some.place c.index.result.now short
+    ∙ ap Some (sym c.index.ensures) in
     sym (found_immediate t s c.args.snapshot.now c.index.result.now
     (found ∙ ap (option_map (entry_of t)) at))
 

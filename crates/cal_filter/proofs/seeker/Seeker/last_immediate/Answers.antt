@@ -13,7 +13,7 @@ later (Some x) n h = omega arith
 pub loop-place-preserved : goal.loop-place-preserved
 loop-place-preserved c =
     elim c.if-seeks.branch [
-      then-seeks w ↦ record {
+      | then-seeks w ↦ record {
         within = rw w.last-is (omega arith);
         last = λ k.
             immediate_here c.args.context.now (sought c.args.self.now) c.args.imms.now
@@ -23,7 +23,7 @@ loop-place-preserved c =
             ∙ sym (ap (λ o. option_map (entry_of c.args.context.now)
             (option_and_then (slice_get c.args.imms.now) o)) w.last-is);
       }
-    | else-seeks w ↦ record {
+      | else-seeks w ↦ record {
         within = rw w.last-is (later c.loop-place.last c.loop-place.place c.loop-place.invariant.within);
         last = λ k.
             immediate_other c.args.context.now (sought c.args.self.now) c.args.imms.now

@@ -26,11 +26,11 @@ loop-node-preserved c =
     let n = get_or c.args.nodes.now c.loop-node.node-index root in
     let short : c.loop-node.node-index < length c.args.nodes.now = omega arith in
     let near = λ (k : KnowsAll c.args.context.now c.args.self.now).
-        subst (IsNearest c.args.context.now (sought c.args.self.now) n) (sym c.nearest-nearest.ensures)
-        (k.knows.nodes n
-        (omega (arith, (c.requires c.loop-node.node-index root short).within, k.nodes))) in
+    subst (IsNearest c.args.context.now (sought c.args.self.now) n) (sym c.nearest-nearest.ensures)
+    (k.knows.nodes n
+    (omega (arith, (c.requires c.loop-node.node-index root short).within, k.nodes))) in
     elim c.if-ne.branch [
-      then-ne w ↦ record {
+      | then-ne w ↦ record {
         within = λ k. subst (λ (m : NodeNumber). m.0 < length c.args.context.now.paths)
             (sym w.last-is) (near k).other_within;
         last = λ k.
@@ -41,7 +41,7 @@ loop-node-preserved c =
             (isnt_root c.nearest-nearest.result c.ne.result c.ne.ensures w.if-ne.true)
             ∙ sym (ap (λ m. last_or None (path_at c.args.context.now m)) w.last-is);
       }
-    | else-ne w ↦ record {
+      | else-ne w ↦ record {
         within = λ k. subst (λ (m : NodeNumber). m.0 < length c.args.context.now.paths)
             (sym w.last-is) (c.loop-node.invariant.within k);
         last = λ k.
