@@ -1,7 +1,7 @@
 -- What is put at the end of a snapshot.
-use Rattle.std.proofs.Common.{◌≡◌, ℕ, suc, ◌+◌, ◌<◌, ◌≤◌, Bool, true, false, List, [], ◌∷◌, ◌++◌, map, take, drop}
-use Rattle.std.proofs.Common.{Option, None, Some, fold, refl, sym, ◌∙◌, ap, length, get_or, slice_get}
-use Rattle.std.specs.List.{All, filter_map, list_all}
+use Rattle.std.proofs.Common.{◌≡◌, ℕ, suc, ◌+◌, ◌<◌, Bool, true, false, List, [], ◌∷◌, ◌++◌, map, take, drop}
+use Rattle.std.proofs.Common.{Option, None, Some, refl, sym, ◌∙◌, ap, length, get_or, slice_get}
+use Rattle.std.specs.List.{filter_map, list_all}
 use Rattle.std.specs.Prelude.{◌&&◌}
 use Rattle.std.proofs.lemmas.Grind.{fold-append}
 use Rattle.std.proofs.lemmas.List.{map-append, take-append-drop, take_more}
@@ -14,7 +14,6 @@ use Rattle.cal_context.specs.declared.snapshot.Snapshot.{Snapshot}
 use Rattle.cal_ql.specs.declared.query.Let.{Let}
 use Rattle.cal_value.specs.Values.{kind_of}
 use Rattle.cal_value.specs.declared.record.Rec.{Rec}
-use Rattle.cal_value.specs.declared.variant.Variant.{Variant}
 use Rattle.cal_filter.specs.Kept.{result_attribute, result_entry, with_let, with_lets, with_result}
 
 -- one immediate more is one entry more

@@ -1,6 +1,6 @@
 -- The last entry that is sought in a record by number, one node or immediate at a time.
 use Rattle.std.proofs.Common.{◌≡◌, ℕ, ◌+◌, ◌<◌, true, false, List, [], ◌∷◌, ◌++◌, length, take, map}
-use Rattle.std.proofs.Common.{Option, None, Some, option_map, refl, sym, ◌∙◌, ap, subst, arith}
+use Rattle.std.proofs.Common.{None, Some, option_map, refl, sym, ◌∙◌, ap}
 use Rattle.std.proofs.Common.{slice_index_or, slice_get}
 use Rattle.std.specs.List.{last_or}
 use Rattle.std.specs.Option.{option_or}

@@ -1,5 +1,5 @@
 -- What a query makes of a record hangs on its entries alone, and not on which stand in paths.
-use Rattle.std.proofs.Common.{◌≡◌, ℕ, ℤ, Bool, List, [], ◌∷◌, ◌++◌, map, drop, refl, sym, ◌∙◌, ap, length}
+use Rattle.std.proofs.Common.{◌≡◌, ℕ, ℤ, List, [], ◌∷◌, ◌++◌, map, refl, sym, ◌∙◌, ap}
 use Rattle.std.proofs.Common.{Option, None, Some, option_map, slice_get, option_and_then}
 use Rattle.std.specs.List.{filter, filter_map, last_or, list_all, list_any}
 use Rattle.std.specs.Prelude.{not, if◌then◌else◌}

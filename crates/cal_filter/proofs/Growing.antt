@@ -1,15 +1,15 @@
 -- What a filter keeps stays right while the context grows.
-use Rattle.std.proofs.Common.{◌≡◌, ◌<◌, sym, subst, ◌∙◌, ap, length, None}
-use Rattle.std.specs.List.{All, AllZip, last_or}
+use Rattle.std.proofs.Common.{sym, ◌∙◌, ap, None}
+use Rattle.std.specs.List.{last_or}
 use Rattle.std.specs.Ordering.{eq_by_cmp}
-use Rattle.cal_context.specs.Tree.{Tree, Grows, attribute_at}
+use Rattle.cal_context.specs.Tree.{Tree, Grows}
 use Rattle.cal_context.proofs.CallerLemmas.{path_at-Grows, attribute_at-Grows}
 use Rattle.cal_context.proofs.CallerLemmas.{within_paths, within_attributes}
 use Rattle.cal_ql.specs.declared.query.Cond.{Cond}
 use Rattle.cal_ql.specs.declared.query.Let.{Let}
 use Rattle.cal_ql.specs.declared.query.Query.{Query}
 use Rattle.cal_value.specs.Texts.{text_cmp}
-use Rattle.cal_filter.specs.Known.{Knows, IsNearest, nearest_at, sought}
+use Rattle.cal_filter.specs.Known.{Knows, nearest_at, sought}
 use Rattle.cal_filter.specs.Ready.{IsCondition, IsDefinition, IsFilter}
 use Rattle.cal_filter.specs.Results.{number_for}
 use Rattle.cal_filter.specs.Sought.{last_sought}

@@ -1,12 +1,11 @@
 -- A condition holds where its seeker finds something.
-use Rattle.std.proofs.Common.{◌≡◌, ℕ, Bool, true, false, List, [], ◌∷◌, refl, sym, ◌∙◌, ap, subst}
+use Rattle.std.proofs.Common.{◌≡◌, Bool, true, false, List, [], ◌∷◌, refl, ◌∙◌, ap}
 use Rattle.std.proofs.Common.{Option, None, Some, option_map, is_some}
 use mathlib.Core.Bool.{beq}
 use Rattle.std.proofs.Common.{Bor}
 use Rattle.std.specs.Option.{option_copied}
 use Rattle.std.specs.List.{filter, last_or, list_any}
-use Rattle.std.specs.Prelude.{◌&&◌, ◌||◌, not, if◌then◌else◌}
-use Rattle.cal_context.specs.Tree.{Tree}
+use Rattle.std.specs.Prelude.{◌&&◌, not, if◌then◌else◌}
 use Rattle.cal_ql.specs.declared.query.Cond.{Cond}
 use Rattle.cal_value.specs.Flat.{flat}
 use Rattle.cal_value.specs.declared.attribute.Entry.{Entry}
@@ -15,7 +14,7 @@ use Rattle.cal_filter.specs.Conditions.{cond_holds, test_holds}
 use Rattle.cal_filter.specs.Known.{sought}
 use Rattle.cal_filter.specs.Named.{entries_named, is_named}
 use Rattle.cal_filter.specs.Ready.{IsAsked}
-use Rattle.cal_filter.specs.Sought.{Sought, last_sought, passes, seeks, value_sought}
+use Rattle.cal_filter.specs.Sought.{last_sought, passes, value_sought}
 use Rattle.cal_filter.specs.declared.condition.Condition.{Condition}
 
 last_is_some : (x : Entry) (es : List Entry) → is_some (last_or (Some x) es) ≡ true

@@ -1,5 +1,5 @@
 -- What is kept for each kind.
-use Rattle.std.proofs.Common.{◌≡◌, ◌∙◌, ℕ, List, map, Option, Some, false, refl, ap}
+use Rattle.std.proofs.Common.{◌≡◌, ◌∙◌, ℕ, List, map, Option, false, refl, ap}
 use Rattle.std.specs.Option.{option_map_or}
 use Rattle.cal_value.specs.Kinds.{every_kind}
 use Rattle.cal_value.specs.Order.{value_cmp}
@@ -9,7 +9,7 @@ use Rattle.cal_value.specs.declared.kind.Kind as kinds
 use Rattle.cal_value.specs.declared.kind.Kind.TheVariants as kind
 use Rattle.cal_value.specs.declared.variant.Variant.{Variant}
 use Rattle.cal_filter.specs.Conditions.{compares}
-use Rattle.cal_filter.specs.Sought.{kind_place, passes, stands, value_for}
+use Rattle.cal_filter.specs.Sought.{passes, stands, value_for}
 use Rattle.cal_filter.specs.declared.wanted.Compared.{Compared}
 use Rattle.cal_filter.specs.declared.wanted.Wanted.TheVariants as wanted
 

@@ -1,9 +1,8 @@
 -- The last item of a list that passes a test.
-use Rattle.std.proofs.Common.{◌≡◌, ℕ, ◌+◌, ◌<◌, Bool, true, false, List, [], ◌∷◌, ◌++◌, length, take}
-use Rattle.std.proofs.Common.{Option, None, Some, map, refl, sym, ◌∙◌, ap, slice_index_or}
-use Rattle.std.specs.List.{filter, filter_map, last_or}
+use Rattle.std.proofs.Common.{◌≡◌, ◌+◌, true, false, List, [], ◌∷◌, ◌++◌}
+use Rattle.std.proofs.Common.{Option, None, Some, refl, sym, ◌∙◌, ap}
+use Rattle.std.specs.List.{filter, last_or}
 use Rattle.std.specs.Option.{option_or}
-use Rattle.std.proofs.lemmas.List.{map-append, take_more}
 use Rattle.std.proofs.lemmas.List.Elements.{filter-append}
 use Rattle.cal_value.specs.declared.attribute.Entry.{Entry}
 use Rattle.cal_filter.specs.Sought.{Sought, last_sought, seeks}

@@ -1,7 +1,7 @@
 -- What seekers of the names of an operator find, as its definition says it.
 use Rattle.std.proofs.Common.{◌≡◌, ℕ, ℤ, Bool, true, false, List, [], ◌∷◌, map, refl, sym, ◌∙◌, ap, subst}
-use Rattle.std.proofs.Common.{Option, None, Some, option_map, is_some, slice_get, option_and_then}
-use Rattle.std.specs.List.{All, AllByRecursion, cons_option, filter, filter_map, last_or}
+use Rattle.std.proofs.Common.{Option, None, Some, option_map, slice_get, option_and_then}
+use Rattle.std.specs.List.{AllByRecursion, cons_option, filter, filter_map, last_or}
 use Rattle.std.specs.Option.{ForSome}
 use Rattle.std.specs.Prelude.{◌&&◌}
 use Rattle.std.proofs.lemmas.List.Elements.{recursion_from_All}
@@ -14,7 +14,6 @@ use Rattle.cal_value.specs.Flat.{flat}
 use Rattle.cal_value.specs.Reading.{IsSmall}
 use Rattle.cal_value.specs.declared.attribute.Entry.{Entry}
 use Rattle.cal_value.specs.declared.record.Rec.{Rec}
-use Rattle.cal_value.specs.declared.variant.Variant.{Variant}
 use Rattle.cal_filter.specs.Known.{sought}
 use Rattle.cal_filter.specs.Lets.{first_value, let_number, let_value, limited, operation, value_by}
 use Rattle.cal_filter.specs.Named.{is_named, last_entry, last_number, HasSmallNumbers}

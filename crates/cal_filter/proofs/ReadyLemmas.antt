@@ -8,8 +8,6 @@ use Rattle.std.specs.declared.vec.Vec.{Vec}
 use Rattle.std.proofs.lemmas.List.{map-append, take_more, with_items_is}
 use Rattle.cal_context.specs.Tree.{Tree}
 use Rattle.cal_ql.specs.declared.names.Op as ops
-use Rattle.cal_ql.specs.declared.query.Cond.{Cond}
-use Rattle.cal_ql.specs.declared.query.Let.{Let}
 use Rattle.cal_ql.specs.declared.query.Query.{Query}
 use Rattle.cal_value.specs.declared.attribute.Entry.{Entry}
 use Rattle.cal_filter.specs.Conditions.{test_holds}

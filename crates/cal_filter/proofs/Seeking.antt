@@ -1,6 +1,6 @@
 -- What is kept beside the numbers of nodes and attributes, one more at a time.
-use Rattle.std.proofs.Common.{◌≡◌, ℕ, ◌+◌, ◌<◌, ◌≤◌, Bool, true, false, List, [], ◌∷◌, ◌++◌, ◌⊎◌, inl, inr}
-use Rattle.std.proofs.Common.{length, Option, None, Some, refl, sym, ◌∙◌, ap, subst, arith, slice_index_or}
+use Rattle.std.proofs.Common.{◌≡◌, ◌+◌, ◌<◌, ◌≤◌, Bool, true, false, [], ◌∷◌, ◌++◌, ◌⊎◌, inl, inr}
+use Rattle.std.proofs.Common.{length, None, refl, sym, ◌∙◌, ap, subst, arith, slice_index_or}
 use Rattle.std.specs.List.{last_or}
 use Rattle.std.specs.Ordering.{eq_by_cmp}
 use Rattle.std.proofs.lemmas.Bool.{cases_lt}
@@ -12,8 +12,8 @@ use Rattle.cal_context.specs.declared.numbers.Link.{Link}
 use Rattle.cal_context.specs.declared.numbers.NodeNumber.{NodeNumber}
 use Rattle.cal_value.specs.Texts.{text_cmp}
 use Rattle.cal_value.specs.declared.attribute.Entry.{Entry}
-use Rattle.cal_filter.specs.Known.{IsKnownAttribute, IsNearest, Knows, KnowsAll, KnowsAttributes}
-use Rattle.cal_filter.specs.Known.{named_at, nearest_at, sought}
+use Rattle.cal_filter.specs.Known.{IsKnownAttribute, IsNearest, Knows}
+use Rattle.cal_filter.specs.Known.{nearest_at, sought}
 use Rattle.cal_filter.specs.Sought.{Sought, last_sought, seeks}
 use Rattle.cal_filter.specs.declared.seeker.Seeker.{Seeker}
 use Rattle.cal_filter.proofs.Last.{last-end, sought_end, other_end}

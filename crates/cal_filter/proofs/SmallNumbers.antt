@@ -1,12 +1,12 @@
 -- LET keeps numbers small.
-use Rattle.std.proofs.Common.{◌≡◌, ℕ, ◌^◌, ◌≤◌, Bool, true, false, List, [], ◌∷◌, ◌++◌, fold, map, refl, sym, ◌∙◌, ap, subst}
-use Rattle.std.proofs.Common.{Option, None, Some, option_map, slice_get, option_and_then, arith}
-use Rattle.std.specs.List.{All, AllByRecursion, filter, filter_map, last_or}
+use Rattle.std.proofs.Common.{◌≡◌, ℕ, ◌^◌, ◌≤◌, Bool, true, false, List, [], ◌∷◌, map, refl, subst}
+use Rattle.std.proofs.Common.{Option, None, Some, option_map, option_and_then, arith}
+use Rattle.std.specs.List.{All}
 use Rattle.std.specs.Option.{ForSome}
 use Rattle.std.specs.Prelude.{nat_le, unsigned_abs, if◌then◌else◌}
 use Rattle.std.proofs.lemmas.Bool.Decides.{nat_tests}
 use Rattle.std.proofs.lemmas.List.{append_assoc}
-use Rattle.std.proofs.lemmas.List.Elements.{All-push, recursion_from_All}
+use Rattle.std.proofs.lemmas.List.Elements.{All-push}
 use Rattle.cal_agg.specs.Numbers.{number}
 use Rattle.cal_agg.specs.declared.num.Num.{Num}
 use Rattle.cal_agg.specs.declared.num.Num.TheVariants.{Whole, Fixed}
@@ -19,7 +19,7 @@ use Rattle.cal_value.specs.declared.attribute.Entry.{Entry}
 use Rattle.cal_value.specs.declared.record.Rec.{Rec}
 use Rattle.cal_value.specs.declared.variant.Variant.{Variant}
 use Rattle.cal_filter.specs.Kept.{result_entry, with_let, with_lets, with_result}
-use Rattle.cal_filter.specs.Lets.{first_value, let_number, let_value, limited, operation, value_by}
+use Rattle.cal_filter.specs.Lets.{first_value, let_value, limited, operation, value_by}
 use Rattle.cal_filter.specs.Named.{last_entry, last_number, HasSmallNumbers}
 use Rattle.cal_filter.specs.Numbers.{value_of_number}
 use Rattle.cal_filter.proofs.OperandLemmas.{last_entry_small}

@@ -1,7 +1,7 @@
 -- Two lists whose items go together, place by place.
 use Rattle.std.proofs.Common.{◌≡◌, ℕ, suc, zero, ◌+◌, ◌<◌, ◌≤◌, List, [], ◌∷◌, ◌++◌, ◌⊎◌, inl, inr}
-use Rattle.std.proofs.Common.{length, take, map, refl, sym, ◌∙◌, ap, subst, arith, add-one, get_or}
-use Rattle.std.specs.List.{All, AllZip}
+use Rattle.std.proofs.Common.{length, take, refl, sym, ◌∙◌, ap, subst, arith, get_or}
+use Rattle.std.specs.List.{AllZip}
 use Rattle.std.proofs.Common.{slice_set}
 use Rattle.std.proofs.lemmas.Bool.{cases_lt}
 use Rattle.std.proofs.lemmas.List.{get_or-set_same, get_or-set_other, length-set, take_more}

@@ -1,5 +1,5 @@
 -- What a seeker keeps beside the numbers of a context, and when that is right.
-use Rattle.std.specs.Prelude.{◌≡◌, ℕ, ◌<◌, ◌≤◌, Bool, false, length, slice_index_or, None}
+use Rattle.std.specs.Prelude.{◌≡◌, ◌<◌, ◌≤◌, Bool, false, length, slice_index_or, None}
 use Rattle.std.specs.List.{last_or}
 use Rattle.std.specs.Ordering.{eq_by_cmp}
 use Rattle.cal_context.specs.Tree.{Tree, attribute_at, path_at}

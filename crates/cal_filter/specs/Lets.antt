@@ -1,6 +1,6 @@
 -- What a definition of LET gives on a record (CalQL; limits and rounding are Giltmoth's).
 use Rattle.std.specs.Prelude.{ℕ, ℤ, pos, ◌*ℤ◌, ◌≤ℤ◌, ◌^◌, int_div, nat_le, unsigned_abs}
-use Rattle.std.specs.Prelude.{List, [], ◌∷◌, map, slice_get, Option, Some, None, option_map}
+use Rattle.std.specs.Prelude.{List, ◌∷◌, map, slice_get, Option, Some, None, option_map}
 use Rattle.std.specs.Prelude.{option_and_then, if◌then◌else◌}
 use Rattle.std.specs.Int.{int_div_euclid}
 use Rattle.std.specs.List.{filter_map}

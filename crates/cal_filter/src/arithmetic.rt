@@ -1,4 +1,4 @@
-ghost use Rattle.std.specs.Prelude.{◌≡◌, ◌≤◌, ◌<ℤ◌, ◌*ℤ◌, ◌^◌, pos, unsigned_abs};
+ghost use Rattle.std.specs.Prelude.{◌≡◌, ◌<ℤ◌, ◌*ℤ◌, ◌^◌, pos, unsigned_abs};
 ghost use Rattle.std.specs.Option.{ForSome};
 ghost use Rattle.cal_agg.specs.Numbers.{IsSmall, IsWithin, measure as measure_of};
 ghost use Rattle.cal_filter.specs.Lets.{floor_to as multiple_below, limited as limited_to};

@@ -2,20 +2,17 @@ ghost use Rattle.std.specs.Prelude.{◌≡◌, Some, option_and_then, option_map
 ghost use Rattle.std.specs.Option.{ForSome};
 ghost use Rattle.cal_agg.specs.Numbers.{IsSmall};
 ghost use Rattle.cal_filter.specs.Numbers.{value_of_number as value_of};
-ghost use Rattle.std.specs.List.{All, filter_map};
+ghost use Rattle.std.specs.List.{All};
 ghost use Rattle.cal_context.specs.Snapshots.{IsIn, meaning};
 ghost use Rattle.cal_filter.specs.Kept.{with_let, with_result};
-ghost use Rattle.cal_filter.specs.Known.{KnowsAll, sought};
 ghost use Rattle.cal_filter.specs.Lets.{let_value, limited, operation};
 ghost use Rattle.cal_filter.specs.Named.{HasSmallNumbers};
 ghost use Rattle.cal_filter.specs.Ready.{IsDefinition, IsReadyDefinition};
 ghost use Rattle.cal_filter.specs.Replaced.{DefinitionCatchesUp};
 ghost use Rattle.cal_filter.specs.Results.{number_for};
-ghost use Rattle.cal_filter.specs.Sought.{value_sought};
 ghost use Rattle.cal_ql.specs.declared.query.Let.{Let as LetOf};
 ghost use Rattle.cal_ql.specs.Valid.{IsLet};
 ghost use Rattle.cal_context.specs.Tree.{Grows};
-ghost use Rattle.cal_value.specs.Flat.{flat};
 
 use crate::kinds::{kind_of, kind_place};
 use crate::operands::{catch_up_all, fill_numbers, first_found, seekers_of};

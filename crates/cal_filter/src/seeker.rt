@@ -1,4 +1,4 @@
-ghost use Rattle.std.specs.Prelude.{◌≡◌, ◌<◌, ◌≤◌, [], length, IfOk, OnOk};
+ghost use Rattle.std.specs.Prelude.{◌≡◌, ◌<◌, length, OnOk};
 ghost use Rattle.cal_context.specs.Tree.{Tree, attribute_at};
 ghost use Rattle.cal_filter.specs.Known.{IsNearest, Knows, KnowsAll, KnowsAttributes, named_at};
 ghost use Rattle.cal_filter.specs.Known.{nearest_at, sought};

@@ -1,6 +1,6 @@
-ghost use Rattle.std.specs.Prelude.{◌≡◌, ℕ, IfOk};
+ghost use Rattle.std.specs.Prelude.{◌≡◌, IfOk};
 ghost use Rattle.cal_filter.specs.Conditions.{compares, test_holds};
-ghost use Rattle.cal_filter.specs.Sought.{passes as is_wanted, stands, wanted_by, value_for};
+ghost use Rattle.cal_filter.specs.Sought.{passes as is_wanted, stands, wanted_by};
 ghost use Rattle.cal_value.specs.declared.attribute.Entry.{Entry};
 
 use crate::kinds::{kind_place, values_of};

@@ -1,4 +1,4 @@
-use Rattle.std.proofs.Common.{◌≡◌, ◌+◌, suc, sym, ◌∙◌, ap, subst, arith, take, length}
+use Rattle.std.proofs.Common.{◌≡◌, ◌+◌, suc, sym, ◌∙◌, ap, subst, arith, take}
 use Rattle.std.proofs.lemmas.List.{take_all}
 use Rattle.cal_context.specs.Snapshots.{meaning}
 use Rattle.cal_filter.specs.Kept.{with_let, with_lets}

@@ -1,7 +1,5 @@
-use Rattle.std.proofs.Common.{rules, refl, sym, ◌∙◌, ap, subst, arith, Some, None, ◌≡◌}
-use Rattle.std.proofs.Common.{ℕ, Option, List, take, length}
+use Rattle.std.proofs.Common.{rules, sym, ◌∙◌, ap, arith, Some, None}
 use Rattle.std.proofs.lemmas.List.{take_all}
-use Rattle.cal_agg.specs.declared.num.Num.{Num}
 use Rattle.cal_agg.specs.Parts.{sum_over}
 use Rattle.cal_filter.proofs.Sums.{there, sum_same, total_next, total_room}
 use Rattle.cal_filter.proofs.operation.total.Goals as goal

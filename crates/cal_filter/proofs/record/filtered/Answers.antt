@@ -1,4 +1,4 @@
-use Rattle.std.proofs.Common.{◌≡◌, ◌++◌, true, false, ap, sym, ◌∙◌, subst, rules, map, drop, length}
+use Rattle.std.proofs.Common.{◌≡◌, ◌++◌, true, false, sym, ◌∙◌, subst, rules, map, drop, length}
 use Rattle.cal_context.specs.Snapshots.{entry_of}
 use Rattle.cal_filter.specs.Named.{HasSmallNumbers}
 use Rattle.cal_filter.proofs.InternedLemmas.{kept_full, kept_none}

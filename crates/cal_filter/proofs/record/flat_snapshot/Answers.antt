@@ -1,4 +1,4 @@
-use Rattle.std.proofs.Common.{[], ◌++◌}
+use Rattle.std.proofs.Common.{[]}
 use Rattle.cal_context.specs.declared.snapshot.Snapshot.{Snapshot}
 use Rattle.cal_value.specs.Flat.{joined}
 use Rattle.cal_filter.proofs.InternedLemmas.{entries_none, flat_means}

@@ -1,4 +1,4 @@
-use Rattle.std.proofs.Common.{ap, ◌∙◌, ◌+◌, [], ◌∷◌, length, sym}
+use Rattle.std.proofs.Common.{ap, ◌∙◌, ◌+◌, [], ◌∷◌, length}
 use Rattle.std.proofs.lemmas.List.{length-append}
 use Rattle.cal_context.proofs.CallerLemmas.{Grows-trans}
 use Rattle.cal_filter.proofs.ResultLemmas.{numbered_next}

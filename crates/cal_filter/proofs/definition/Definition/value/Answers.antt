@@ -1,9 +1,8 @@
-use Rattle.std.proofs.Common.{◌≡◌, Option, ap, map, subst, sym, ◌∙◌, option_map, option_and_then, slice_get}
+use Rattle.std.proofs.Common.{◌≡◌, ap, map, subst, sym, ◌∙◌, option_map, option_and_then, slice_get}
 use Rattle.std.specs.List.{All, filter_map}
 use Rattle.cal_context.specs.Snapshots.{meaning}
 use Rattle.cal_ql.specs.declared.query.Let.{Let}
 use Rattle.cal_value.specs.Flat.{flat}
-use Rattle.cal_value.specs.declared.variant.Variant.{Variant}
 use Rattle.cal_filter.specs.Known.{KnowsAll, sought}
 use Rattle.cal_filter.specs.Lets.{let_value, limited, operation}
 use Rattle.cal_filter.specs.Named.{HasSmallNumbers}

@@ -1,4 +1,4 @@
-use Rattle.std.proofs.Common.{ap, sym, ◌∙◌, arith, Some, map, option_map, slice_get, length, ◌<◌}
+use Rattle.std.proofs.Common.{ap, sym, ◌∙◌, Some, map, option_map, slice_get, length, ◌<◌}
 use Rattle.std.proofs.lemmas.Option.{slice_get-get_or}
 use Rattle.cal_context.specs.Snapshots.{entry_of}
 use Rattle.cal_context.specs.Tree.{path_at}

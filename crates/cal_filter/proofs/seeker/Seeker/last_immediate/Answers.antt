@@ -1,7 +1,7 @@
 use Rattle.std.proofs.Common.{ap, sym, ◌∙◌, arith, ℕ, ◌+◌, ◌<◌, Option, None, Some, option_map, option_and_then, slice_get}
 use Rattle.std.specs.Option.{IfSome}
 use Rattle.cal_context.specs.Snapshots.{entry_of}
-use Rattle.cal_filter.specs.Known.{KnowsAll, KnowsAttributes, sought}
+use Rattle.cal_filter.specs.Known.{sought}
 use Rattle.cal_filter.proofs.Finding.{immediate_here, immediate_other}
 use Rattle.cal_filter.proofs.seeker.Seeker.last_immediate.Goals as goal
 use Rattle.cal_filter.proofs.seeker.Seeker.last_immediate.Goals.{then-seeks, else-seeks}

@@ -1,12 +1,11 @@
-use Rattle.std.proofs.Common.{◌≡◌, ◌<◌, ℕ, Bool, true, false, ap, sym, subst, ◌∙◌, arith, length, None}
-use Rattle.std.proofs.Common.{eq-eqb, get_or, slice_index_or}
+use Rattle.std.proofs.Common.{◌≡◌, ◌<◌, Bool, true, false, ap, sym, subst, ◌∙◌, arith, length, None}
+use Rattle.std.proofs.Common.{get_or}
 use Rattle.std.specs.List.{last_or}
 use Rattle.std.specs.Prelude.{not, ◌==◌}
 use Rattle.std.proofs.lemmas.Bool.Decides.{nat_tests}
 use Rattle.cal_context.specs.Tree.{path_at}
-use Rattle.cal_context.specs.Snapshots.{IsBelowRoot}
 use Rattle.cal_context.specs.declared.numbers.NodeNumber.{NodeNumber}
-use Rattle.cal_filter.specs.Known.{IsNearest, KnowsAll, nearest_at, sought}
+use Rattle.cal_filter.specs.Known.{IsNearest, KnowsAll, sought}
 use Rattle.cal_filter.proofs.Finding.{node_none, node_some}
 use Rattle.cal_filter.proofs.Seeking.{root}
 use Rattle.cal_filter.proofs.Zips.{get_or-inside}
