@@ -51,14 +51,17 @@ module _ {S : Type 0} where
   other_later v w place words more h = record {
     slot = h.slot;
     known = more (place + 1) h.slot h.known;
-    differs = ⊎_elim inl (λ t. let d = t.1 in inr (t.0, record {
-      size = d.size;
-      inside = d.inside;
-      before = λ j l. more (start_in h.slot + j) (get_or words j 0) (d.before j l);
-      word = d.word;
-      here = more (start_in h.slot + t.0) d.word d.here;
-      differs = d.differs;
-    })) h.differs;
+    differs = ⊎_elim inl (λ t. let d = t.1 in inr (
+      t.0,
+      record {
+        size = d.size;
+        inside = d.inside;
+        before = λ j l. more (start_in h.slot + j) (get_or words j 0) (d.before j l);
+        word = d.word;
+        here = more (start_in h.slot + t.0) d.word d.here;
+        differs = d.differs;
+      },
+    )) h.differs;
   }
 
   pub begins_later : (v w : View S) (place : ℕ) (front : List ℕ) → KnowsMore v w → Begins v place front → Begins w place front

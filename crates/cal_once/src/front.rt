@@ -45,13 +45,7 @@ impl<S: RecSort> Rows<S> {
     }
 
     // Writes the first words of the record of a place, whose slot's word is `slot`, over `words`.
-    fn first_words(
-        &self,
-        seat: &mut Seat<u8, View<S>>,
-        place: u64,
-        slot: u64,
-        words: &mut [u64],
-    )
+    fn first_words(&self, seat: &mut Seat<u8, View<S>>, place: u64, slot: u64, words: &mut [u64])
         requires seat { IsAt self.now seat.old }
         requires place { place < (plan_of self.now).shape.slots }
         requires known { Saw seat.old.me.0.seen (place + 1) slot }

@@ -14,7 +14,7 @@ use Rattle.cal_value.specs.declared.variant.Variant as variants
 use Rattle.cal_value.specs.declared.variant.Variant.TheVariants as variant
 use Rattle.cal_words.specs.Back.{kind_from, byte_of, text_of, number_of, double_of, value_of}
 use Rattle.cal_words.specs.Records.{IsValue}
-use Rattle.cal_words.specs.Words.{number_words, text_words, value_words, text_length}
+use Rattle.cal_words.specs.Words.{node_words, number_words, text_words, value_words, text_length}
 use Rattle.cal_words.proofs.Bytes.{AreBytes, get_or-text_word, get_or-text_words}
 
 kind_from-kind_node : (k : kinds.Kind) → kind_from (kind_node k) ≡ k
@@ -92,3 +92,17 @@ equal_values v w is_v is_w shape words =
     let lengths : text_length v ≡ text_length w = omega arith in
     sym (value_of-value_words v is_v) ∙ (λ i. value_of (kinds i) (lengths i) (words i))
     ∙ value_of-value_words w is_w
+
+-- nodes with equal words are equal
+pub equal_words :
+    (p q d e a b : ℕ) (v w : variants.Variant) → IsValue v → IsValue w
+    → node_words p d a v ≡ node_words q e b w → (p ≡ q) × (d ≡ e) × (a ≡ b) × (v ≡ w)
+equal_words p q d e a b v w is_v is_w same =
+    let parents : p ≡ q = cc in
+    let depths : d ≡ e = cc in
+    let attrs : a ≡ b = cc in
+    let shapes :
+    kind_node (kind_of v) * 2 ^ 32 + text_length v
+    ≡ kind_node (kind_of w) * 2 ^ 32 + text_length w = cc in
+    let words : value_words v ≡ value_words w = cc in
+    (parents, depths, attrs, equal_values v w is_v is_w shapes words)

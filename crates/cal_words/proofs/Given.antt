@@ -13,8 +13,9 @@ use Rattle.cal_words.proofs.Decoded.{text_of-text_words, text_length_below, valu
 -- what the words of a node give
 pub record IsGiven (words : List ℕ) : Type 0 where
   pub long : 4 ≤ length words
-  pub small : (get_or words 0 0 < 2 ^ 32) × (get_or words 1 0 < 2 ^ 32) × (get_or words 2 0 < 2 ^ 32)
+  pub small : (get_or words 0 0 < 2 ^ 32) × (get_or words 1 0 ≤ 128) × (get_or words 2 0 < 2 ^ 32)
   pub text : IsUtf8 (text_of (get_or words 3 0 % 2 ^ 32) (drop 4 words))
+  pub is_value : IsValue (value_of (get_or words 3 0 / 2 ^ 32) (get_or words 3 0 % 2 ^ 32) (drop 4 words))
   pub whole : words ≡ node_words (get_or words 0 0) (get_or words 1 0) (get_or words 2 0) (value_of (get_or words 3 0 / 2 ^ 32) (get_or words 3 0 % 2 ^ 32) (drop 4 words))
 
 no_text : IsUtf8 []
@@ -59,5 +60,6 @@ node_back words node = subst (λ (ws : List ℕ). IsGiven ws) (sym node.spelled)
       long = omega arith;
       small = node.small;
       text = subst (λ (n : ℕ). IsUtf8 (text_of n (value_words v))) (sym count) (value_text_back v node.is_value);
+      is_value = subst (λ (x : variants.Variant). IsValue x) (sym back) node.is_value;
       whole = ap (node_words node.parent node.depth node.attr) (sym back);
     }

@@ -27,13 +27,14 @@ IsValue (variant.Real t) = IsText t
 IsValue (variant.Usr t) = IsText t
 IsValue (variant.Ptr t) = IsText t
 
--- the words of some node
+-- the words of some node, which lies at most 128 below the root (Giltmoth's rule: a slot of a
+-- blackboard holds so many values)
 pub record IsNode (words : List ℕ) : Type 0 where
   pub parent : ℕ
   pub depth : ℕ
   pub attr : ℕ
   pub value : variants.Variant
-  pub small : (parent < 2 ^ 32) × (depth < 2 ^ 32) × (attr < 2 ^ 32)
+  pub small : (parent < 2 ^ 32) × (depth ≤ 128) × (attr < 2 ^ 32)
   pub is_value : IsValue value
   pub spelled : words ≡ node_words parent depth attr value
 

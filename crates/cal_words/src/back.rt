@@ -1,6 +1,6 @@
 ghost use Rattle.std.specs.Prelude.{◌≡◌, ◌<◌, ◌^◌, ◌+◌, ◌*◌, length, slice_index, IfOk, IsUtf8};
 ghost use Rattle.cal_words.specs.Back.{kind_from, number_of, text_of, value_of};
-ghost use Rattle.cal_words.specs.Records.{IsNode};
+ghost use Rattle.cal_words.specs.Records.{IsNode, IsValue};
 ghost use Rattle.cal_words.specs.Words.{node_words};
 
 use crate::NodeId;
@@ -19,8 +19,9 @@ pub struct Node {
 /// The node whose words these are. It takes time and memory in their number.
 pub fn read_node(alloc: Global, words: &[u64]) -> Result<Node, OutOfMemory>
     requires { IsNode words.now }
-    ensures { IfOk result (λ node.
+    ensures words { IfOk result (λ node.
         words.now ≡ node_words node.parent.0 node.depth node.attr node.value) }
+    ensures value { IfOk result (λ node. IsValue node.value) }
 {
     let shape = words[3];
     let value = read_value(alloc, shape / (1 << 32), shape % (1 << 32), &words[4..])?;
