@@ -48,6 +48,13 @@ module _ {S : Type 0} where
     pub reached_later : (v w : View S) (place distance : ℕ) → KnowsMore v w → IsReached ask v place distance → IsReached ask w place distance
     reached_later v w place distance more r = record { is_place = r.is_place; near = r.near; at = r.at; before = λ e h. other_later v w (place_at ask e) ask.words more (r.before e h) }
 
+    -- one slot more was passed
+    pub passes_more : (v w : View S) (n : ℕ) → KnowsMore v w → PassesOthers ask v n → HoldsOther w (place_at ask n) ask.words → PassesOthers ask w (n + 1)
+    passes_more v w n more before here e less = ⊎_elim
+        (λ (l : e < n). other_later v w (place_at ask e) ask.words more (before e l))
+        (λ (m : n ≤ e). let same : n ≡ e = omega arith in subst (λ (k : ℕ). HoldsOther w (place_at ask k) ask.words) same here)
+        (cases_lt e n)
+
     -- every slot was passed
     pub all_others : (v w : View S) → ask.home < ask.plan.shape.slots → KnowsMore v w → PassesOthers ask v ask.plan.shape.slots → AllHoldOthers ask w
     all_others v w h more before place p =
@@ -57,7 +64,11 @@ module _ {S : Type 0} where
     -- what an answer tells of the seat as it was before it learned something
     pub answers_then : (u v w : View S) → Learns u v → (answer : Put) → Answers ask v w answer → Answers ask u w answer
     answers_then u v w l (Placed place false) (is, b) = (is, learns_then u v w l b)
-    answers_then u v w l (Placed place true) (is, b) = (is, learns_then (publishing ask.words place u) (publishing ask.words place v) w record { same = ap (publishing ask.words place) l.same; more = l.more } b)
+    answers_then u v w l (Placed place true) (is, b, empty) = (
+      is,
+      learns_then (publishing ask.words place u) (publishing ask.words place v) w record { same = ap (publishing ask.words place) l.same; more = l.more } b,
+      was_empty_before ask.plan u v place l empty,
+    )
     answers_then u v w l RowsFull (all, b) = (all, learns_then u v w l b)
     answers_then u v w l (ArenaFull used need) lacks = record {
       used_is = lacks.used_is ∙ ap (λ (x : View S). x.used) l.same;
@@ -76,13 +87,13 @@ module _ {S : Type 0} where
 
     pub answers_later : (v w : View S) (answer : Put) → Answers ask v w answer → IsLater v w
     answers_later v w (Placed place false) (is, l) = learns_later v w l
-    answers_later v w (Placed place true) (is, l) = learns_later (publishing ask.words place v) w l
+    answers_later v w (Placed place true) (is, l, empty) = learns_later (publishing ask.words place v) w l
     answers_later v w RowsFull (all, l) = learns_later v w l
     answers_later v w (ArenaFull used need) lacks = learns_later (noting lacks.place v) w lacks.learns
 
     -- the draft was published
-    pub published_here : (v w : View S) (place distance start found : ℕ) → w ≡ offered place (slot_for (length ask.words) start) found (record v { draft = ask.words }) → found ≡ 0 → start < 2 ^ 32 → IsReached ask v place distance → Answers ask v w (Placed place true)
-    published_here v w place distance start found is none small reached =
+    pub published_here : (v w : View S) (place distance start found : ℕ) → w ≡ offered place (slot_for (length ask.words) start) found (record v { draft = ask.words }) → found ≡ 0 → start < 2 ^ 32 → IsReached ask v place distance → WasEmpty ask.plan v place → Answers ask v w (Placed place true)
+    published_here v w place distance start found is none small reached empty =
         let word : ℕ = slot_for (length ask.words) start in
         let new : List (ℕ × ℕ) = (place + 1, word) ∷ placed (start_in word) ask.words in
         let after : View S = record (publishing ask.words place v) { draft = []; seen = new ++ v.seen } in
@@ -95,6 +106,7 @@ module _ {S : Type 0} where
             holds = record { slot = word; known = here (place + 1) word (inl (refl, refl)); size = size-slot_for (length ask.words) start small; each = λ i h. here (start_in word + i) (get_or ask.words i 0) (inr (Saw_placed (start_in word) ask.words i h)) };
           },
           record { same = refl; more = more },
+          empty,
         )
 
     -- the slot was filled by another seat

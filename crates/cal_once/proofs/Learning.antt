@@ -5,7 +5,7 @@ use native.Mathlib.Decide.{ℕ_discrete}
 use Rattle.std.proofs.lemmas.Bool.{ne_eqb}
 use Rattle.cal_once.specs.declared.view.View.{View}
 use Rattle.cal_once.specs.Layout.{start_in}
-use Rattle.cal_once.specs.Views.{Saw, Holds, HoldsOther, Knows, KnowsMore, KnowsParent, IsLater, Learns, looked, noting}
+use Rattle.cal_once.specs.Views.{Saw, Begins, Holds, HoldsOther, Knows, KnowsMore, KnowsParent, IsLater, Learns, looked, noting}
 use Rattle.cal_once.proofs.Seen.{seen_to_be, was_seen_from}
 
 module _ {S : Type 0} where
@@ -51,8 +51,21 @@ module _ {S : Type 0} where
   other_later v w place words more h = record {
     slot = h.slot;
     known = more (place + 1) h.slot h.known;
-    differs = ⊎_elim inl (λ t. inr (t.0, t.1, t.2, more (start_in h.slot + t.0) t.1 t.3, t.4)) h.differs;
+    differs = ⊎_elim inl (λ t. let d = t.1 in inr (
+      t.0,
+      record {
+        size = d.size;
+        inside = d.inside;
+        before = λ j l. more (start_in h.slot + j) (get_or words j 0) (d.before j l);
+        word = d.word;
+        here = more (start_in h.slot + t.0) d.word d.here;
+        differs = d.differs;
+      },
+    )) h.differs;
   }
+
+  pub begins_later : (v w : View S) (place : ℕ) (front : List ℕ) → KnowsMore v w → Begins v place front → Begins w place front
+  begins_later v w place front more h = record { slot = h.slot; known = more (place + 1) h.slot h.known; short = h.short; each = λ i l. more (start_in h.slot + i) (get_or front i 0) (h.each i l) }
 
   pub parent_later : (v w : View S) (slots : ℕ) (words : List ℕ) → KnowsMore v w → KnowsParent v slots words → KnowsParent w slots words
   parent_later v w slots words more = ⊎_elim inl (λ t. inr (t.0, t.1, t.2, t.3, t.4, more (t.0 + 1) t.1 t.5, more (start_in t.1 + 1) t.2 t.6, t.7))

@@ -15,11 +15,11 @@ use Rattle.cal_once.specs.Views.{placed, offered}
 use Rattle.cal_once.specs.Sound.{IsSound}
 use Rattle.cal_once.specs.Rule.{Own, HasParent, HoldsAnother, IsFixed, Stands, IsLaid, Sits}
 use Rattle.cal_once.specs.Puts.{MayOffer}
-use Rattle.cal_once.specs.Steps.{Offered, offers}
+use Rattle.cal_once.specs.Steps.{WasEmpty, Offered, offers}
 use Rattle.cal_once.proofs.Seen.{Saw_either, at_below, placed_at, times-append}
 use Rattle.cal_once.proofs.Regions.{part_is, get_or-part, arena_inside, beside, size-slot_for, start-slot_for, probe_below}
 use Rattle.cal_once.proofs.Sounds.{inside, seen_slot, held_other}
-use Rattle.cal_once.proofs.Moves.{Rule, sits_again, sits_of, met, moved, unmoved, told, of_plan}
+use Rattle.cal_once.proofs.Moves.{Rule, sits_again, sits_of, met, moved, unmoved, told, of_plan, empty_in}
 use Rattle.cal_once.proofs.Stores.{KeepsRecords, record_at-set, stands_kept}
 
 -- one number's value is another
@@ -266,6 +266,7 @@ module _ {S : Type 0} (law : RecSort S) (plan : Plan S) where
         λ there is. let same : place ≡ there = omega arith in subst (λ (p : ℕ). Offered law p word me found (w, me.1)) same record {
           view = ap (λ (x : ℕ). (offered place word x v, me.1)) (sym empty);
           sound = of_plan law plan (λ (p : Plan S). IsSound law p w) v live (told law plan s (set s.words (place + 1) word) id v w kept at live);
+          empty = of_plan law plan (λ (p : Plan S). found ≡ 0 → WasEmpty p v place) v live (λ _. empty_in law plan s k id v place at live may.reached.is_place empty);
         },
       ))
       (λ ne.
@@ -278,5 +279,6 @@ module _ {S : Type 0} (law : RecSort S) (plan : Plan S) where
         λ there is. let same : place ≡ there = omega arith in subst (λ (p : ℕ). Offered law p word me found (w, me.1)) same record {
           view = ap (λ (x : View S). (x, me.1)) (sym (offered_miss place word found v ne));
           sound = of_plan law plan (λ (p : Plan S). IsSound law p w) v live (told law plan s (set s.words (place + 1) found) id v w kept at live);
+          empty = λ _ _ none. absurd (ne none);
         },
       ))

@@ -8,11 +8,11 @@ use Rattle.cal_once.specs.declared.view.View.{View}
 use Rattle.cal_once.specs.declared.view.Plan.{Plan}
 use Rattle.cal_once.specs.Layout.{IsWithin, AreApart, size_in, start_in, slot_of, record_at, probe, times}
 use Rattle.cal_once.specs.Views.{Saw, Knows, Holds, HoldsOther, AllJoined, all_published, gathered, none_away}
-use Rattle.cal_once.specs.Sound.{IsLawful, IsBelow, IsSound}
+use Rattle.cal_once.specs.Sound.{IsListed, IsLawful, IsThere, IsBelow, IsSound}
 use Rattle.cal_once.specs.Rule.{Own, HoldsAnother, IsFixed, Stands, IsLaid, Sits, told}
 use Rattle.cal_once.specs.Steps.{WasEmpty}
 use Rattle.cal_once.proofs.Seen.{seen_to_be, times-append}
-use Rattle.cal_once.proofs.Told.{others-told, told-none, told-one}
+use Rattle.cal_once.proofs.Told.{others-told, told_places, told-none, told-one}
 use Rattle.cal_once.proofs.Regions.{part_is, length-part, get_or-part, arena_inside, one_region}
 
 module _ {S : Type 0} (law : RecSort S) where
@@ -56,7 +56,7 @@ module _ {S : Type 0} (law : RecSort S) where
           let long = length-part words (size_in (slot_of words place)) (start_in (slot_of words place)) bound in (
             s.1,
             λ e. ⊎_elim (λ differ. differ (sym size ∙ sym long ∙ ap length e))
-                (λ t. t.4 (sym (sits.seen (start_in k.slot + t.0) t.1 t.3).here ∙ ap (λ (n : ℕ). get_or words (n + t.0) 0) (sym start) ∙ sym (get_or-part words (size_in (slot_of words place)) (start_in (slot_of words place)) t.0 (subst (λ (n : ℕ). t.0 < n) (sym size) t.2)) ∙ ap (λ (l : List ℕ). get_or l t.0 0) e)) k.differs,
+                (λ t. let d = t.1 in d.differs (sym (sits.seen (start_in k.slot + t.0) d.word d.here).here ∙ ap (λ (n : ℕ). get_or words (n + t.0) 0) (sym start) ∙ sym (get_or-part words (size_in (slot_of words place)) (start_in (slot_of words place)) t.0 (subst (λ (n : ℕ). t.0 < n) (sym size) d.inside)) ∙ ap (λ (l : List ℕ). get_or l t.0 0) e)) k.differs,
           )
 
       -- the first two words of a record that were seen are there
@@ -94,17 +94,6 @@ module _ {S : Type 0} (law : RecSort S) where
           (cases_lt y.distance x.distance))
           (cases_lt x.distance y.distance)
 
-      is_lawful : (place : ℕ) (ws : List ℕ) → place < plan.shape.slots → Holds v place ws → IsLawful law plan v place ws
-      is_lawful place ws h k =
-          let a = held place ws h k in
-          let st = laid.stands place h a.0 in
-          record {
-            is_record = subst (λ (l : List ℕ). law.is_record plan.sort l) a.1 st.is_record;
-            number = st.number;
-            may_publish = subst (λ (l : List ℕ). law.may_publish plan.sort st.number l) a.1 st.may_publish;
-            own = λ mine. ap (λ (l : List ℕ). times place l) (sits.published_is ∙ ap (λ n. (own n).published) (sym sits.number_is ∙ sym mine)) ∙ st.listed;
-          }
-
       module _ (leads : number ≡ 0 → told (λ n. (own n).published) views ≡ None ∷ v.others) (unmade : (n : ℕ) → length views ≤ n → own n ≡ record { used = 0; published = [] }) where
         -- how often a place stands in the first seat's own list, and in those of the others
         all_times : AllJoined v → (place : ℕ) → (ws : List (View S)) × (length ws + 1 ≡ length views) × (none_away (told (λ n. (own (suc n)).published) ws) ≡ true)
@@ -139,6 +128,42 @@ module _ {S : Type 0} (law : RecSort S) where
             let index : st.number ≡ suc (st.number - 1) = omega arith in
             let one = told-one (λ n. (own (suc n)).published) t.0 place (st.number - 1) (omega arith) (ap (λ (m : ℕ). times place (own m).published) (sym index) ∙ st.listed) (λ n ne. others (suc n) (λ e. ne (omega arith))) t.2 in t.3 ∙ omega arith)
 
+        -- the record of a filled slot is one that its number published
+        lawful_there : (place : ℕ) → place < plan.shape.slots → slot_of words place ≢ 0 → IsLawful law plan v place (record_at words place)
+        lawful_there place h filled =
+            let st = laid.stands place h filled in
+            let Listed : ℕ → List ℕ → Type 0 = λ n places. IsListed st.number n place places in
+            let list_of : (n : ℕ) → Listed n (own n).published = λ n. ((λ same. ap (λ (m : ℕ). times place (own m).published) (sym same) ∙ st.listed), (λ other. one_list place h filled st n (λ e. other (sym e)))) in
+            record {
+              is_record = st.is_record;
+              number = st.number;
+              may_publish = st.may_publish;
+              own = subst (λ (z : ℕ × List ℕ). Listed z.0 z.1) (λ i. (sym sits.number_is i, sym sits.published_is i)) (list_of number);
+              joined = λ first n places is.
+                  let zero_number : number ≡ 0 = sym sits.number_is ∙ first in
+                  let theirs : places ≡ (own (suc n)).published = told_places (λ m. (own m).published) views v.others n places (leads zero_number) is in
+                  let next : suc n ≡ n + 1 = omega arith in
+                  subst (λ (z : ℕ × List ℕ). Listed z.0 z.1) (λ i. (next i, sym theirs i)) (list_of (suc n));
+            }
+
+        is_lawful : (place : ℕ) (ws : List ℕ) → place < plan.shape.slots → Holds v place ws → IsLawful law plan v place ws
+        is_lawful place ws h k = let a = held place ws h k in subst (λ (l : List ℕ). IsLawful law plan v place l) a.1 (lawful_there place h a.0)
+
+        -- the record behind a slot that was seen
+        is_there : (place slot : ℕ) → place < plan.shape.slots → Saw v.seen (place + 1) slot → IsThere law plan v place slot
+        is_there place slot h known =
+            let s = seen_slot place slot h (sits.seen (place + 1) slot known) in
+            let st = laid.stands place h s.1 in
+            let size : ℕ = size_in (slot_of words place) in
+            let start : ℕ = start_in (slot_of words place) in
+            let long : length (record_at words place) ≡ size = length-part words size start (inside place st) in
+            record {
+              words = record_at words place;
+              size = ap size_in (sym s.0) ∙ sym long;
+              seen = λ i x l saw. get_or-part words size start i (subst (λ (n : ℕ). i < n) long l) ∙ ap (λ (n : ℕ). get_or words (start_in n + i) 0) s.0 ∙ (sits.seen (start_in slot + i) x saw).here;
+              lawful = lawful_there place h s.1;
+            }
+
         pub is_sound : number < plan.shape.arenas → IsSound law plan v
         is_sound is_arena = record {
           own_arena = subst (λ (n : ℕ). n < plan.shape.arenas) (sym sits.number_is) is_arena;
@@ -150,6 +175,7 @@ module _ {S : Type 0} (law : RecSort S) where
               subst (λ (z : ℕ × ℕ). AreApart z.0 z.1) (λ i. (s.0 i, t.0 i)) (laid.apart p q hp hq other s.1 t.1);
           one_place = one_place;
           one_record = λ place a b h k l. sym (held place a h k).1 ∙ (held place b h l).1;
+          there = is_there;
           lawful = is_lawful;
           below = is_below;
           once = λ all place. (known_once all place, λ past. none_times all place (λ n. dite (ℕ_discrete (times place (own n).published) 0) (λ z. z) (λ some_times. let l = (laid.listed n place (omega arith)).0 in absurd (omega arith))));

@@ -1,5 +1,5 @@
 -- What the first seat is told of the others.
-use Rattle.std.proofs.Common.{◌≡◌, ◌≢◌, ℕ, zero, suc, ◌+◌, ◌<◌, true, Option, Some, None, List, [], ◌∷◌, ◌++◌, length, set, sym, refl, ap, ◌∙◌, ⊎_elim, arith, length-set}
+use Rattle.std.proofs.Common.{◌≡◌, ◌≢◌, ℕ, zero, suc, ◌+◌, ◌<◌, true, Option, Some, None, List, [], ◌∷◌, ◌++◌, length, set, slice_get, sym, refl, ap, ◌∙◌, ⊎_elim, arith, length-set}
 use mathlib.Core.Option.{some}
 use lib.ListN.{get_elem?}
 use Rattle.atomic_table.proofs.Lists.{at_set}
@@ -43,6 +43,19 @@ module _ {S : Type 0} where
   pub others-told : (f : ℕ → List ℕ) (vs : List (View S)) (others : List (Option (List ℕ))) → told f vs ≡ None ∷ others → (ws : List (View S)) × (length ws + 1 ≡ length vs) × (told (λ n. f (suc n)) ws ≡ others)
   others-told f [] others e = absurd cc
   others-told f (v ∷ vs) others e = (vs, omega arith, cc)
+
+  -- the places of a joined seat
+  places_of : (o : Option (Plan S)) (l places : List ℕ) → told_by o l ≡ Some places → places ≡ l
+  places_of None l places e = cc
+  places_of (Some plan) l places e = absurd cc
+
+  told_at : (f : ℕ → List ℕ) (vs : List (View S)) (n : ℕ) (places : List ℕ) → slice_get (told f vs) n ≡ Some (Some places) → places ≡ f n
+  told_at f [] n places e = absurd cc
+  told_at f (v ∷ vs) zero places e = places_of v.plan (f 0) places cc
+  told_at f (v ∷ vs) (suc n) places e = told_at (λ m. f (suc m)) vs n places e
+
+  pub told_places : (f : ℕ → List ℕ) (vs : List (View S)) (others : List (Option (List ℕ))) (n : ℕ) (places : List ℕ) → told f vs ≡ None ∷ others → slice_get others n ≡ Some (Some places) → places ≡ f (suc n)
+  told_places f vs others n places e is = told_at f vs (suc n) places (ap (λ (os : List (Option (List ℕ))). slice_get os (suc n)) e ∙ is)
 
   -- a place that a list doesn't have adds nothing
   passed_over : (o : Option (Plan S)) (l : List ℕ) (os : List (Option (List ℕ))) (p : ℕ) → times p l ≡ 0 → times p (gathered (told_by o l ∷ os)) ≡ times p (gathered os)

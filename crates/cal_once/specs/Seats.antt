@@ -1,4 +1,4 @@
-use Rattle.std.specs.Prelude.{◌≡◌, ℕ, ◌+◌, ◌<◌, Some}
+use Rattle.std.specs.Prelude.{◌≡◌, ℕ, ◌+◌, ◌<◌, ◌≤◌, Some}
 use Rattle.atomic_table.specs.declared.shared.Seat.{Seat}
 use Rattle.cal_once.specs.declared.rows.Rows.{Rows}
 use Rattle.cal_once.specs.declared.seat.RowSeat.{RowSeat}
@@ -32,6 +32,10 @@ module _ {S : Type 0} where
   -- i is below the length of the known record
   abbrev pub IsBelowSize : View S → ℕ → ℕ → Type 0
   IsBelowSize v place i = (slot : ℕ) → Saw v.seen (place + 1) slot → i < size_in slot
+
+  -- the known record has so many words at least
+  abbrev pub HasFront : View S → ℕ → ℕ → Type 0
+  HasFront v place n = (slot : ℕ) → Saw v.seen (place + 1) slot → n ≤ size_in slot
 
   -- the first word of the seat's arena that isn't used yet
   abbrev pub next_word : Rows S → View S → ℕ

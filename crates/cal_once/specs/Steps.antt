@@ -51,6 +51,8 @@ module _ {S : Type 0} (law : RecSort S) where
   pub record Offered (place word : ℕ) (before : Mine S) (found : ℕ) (after : Mine S) : Type 0 where
     pub view : after ≡ (offered place word found before.0, before.1)
     pub sound : (plan : Plan S) → before.0.plan ≡ Some plan → IsSound law plan after.0
+    pub empty : (plan : Plan S) → before.0.plan ≡ Some plan → found ≡ 0
+        → WasEmpty plan before.0 place
 
   abbrev pub offers : Step ℕ → Mine S → ℕ → Mine S → Type 0
   offers step before found after = (place : ℕ) → step.word ≡ place + 1

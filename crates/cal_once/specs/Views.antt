@@ -1,4 +1,4 @@
-use Rattle.std.specs.Prelude.{◌≡◌, ◌≢◌, ℕ, zero, suc, ◌+◌, ◌-◌, ◌<◌, ◌⊎◌, Bool, true, false, ◌||◌}
+use Rattle.std.specs.Prelude.{◌≡◌, ◌≢◌, ℕ, zero, suc, ◌+◌, ◌-◌, ◌<◌, ◌≤◌, ◌⊎◌, Bool, true, false, ◌||◌}
 use Rattle.std.specs.Prelude.{◌&&◌, ◌==◌, if◌then◌else◌, Option, Some, None, List, [], ◌∷◌, ◌++◌}
 use Rattle.std.specs.Prelude.{length, take, slice_index, IsTrue}
 use Rattle.cal_once.specs.declared.view.View.{View}
@@ -49,14 +49,29 @@ module _ {S : Type 0} where
     pub size : size_in slot ≡ length words
     pub each : (i : ℕ) → i < length words → Saw v.seen (start_in slot + i) (slice_index words i)
 
-  -- the place holds another record than this one, as the seat knows by its length or by one of its
-  -- words
+  -- Word i of the record that a slot names is the first one that differs from these words, as the
+  -- seat knows: it has seen the words before it, and they are equal.
+  pub record DiffersFirst (v : View S) (slot i : ℕ) (words : List ℕ) : Type 0 where
+    pub size : size_in slot ≡ length words
+    pub inside : i < size_in slot
+    pub before : (j : ℕ) → j < i → Saw v.seen (start_in slot + j) (slice_index words j)
+    pub word : ℕ
+    pub here : Saw v.seen (start_in slot + i) word
+    pub differs : word ≢ slice_index words i
+
+  -- the place holds another record than this one, as the seat knows by its length or by the first
+  -- word that differs
   pub record HoldsOther (v : View S) (place : ℕ) (words : List ℕ) : Type 0 where
     pub slot : ℕ
     pub known : Saw v.seen (place + 1) slot
-    pub differs : (size_in slot ≢ length words)
-        ⊎ ((i : ℕ) × (x : ℕ) × (i < size_in slot) × Saw v.seen (start_in slot + i) x
-        × (x ≢ slice_index words i))
+    pub differs : (size_in slot ≢ length words) ⊎ ((i : ℕ) × DiffersFirst v slot i words)
+
+  -- the record at the place begins with these words, as the seat has seen
+  pub record Begins (v : View S) (place : ℕ) (front : List ℕ) : Type 0 where
+    pub slot : ℕ
+    pub known : Saw v.seen (place + 1) slot
+    pub short : length front ≤ size_in slot
+    pub each : (i : ℕ) → i < length front → Saw v.seen (start_in slot + i) (slice_index front i)
 
   -- the record's parent is the root and its depth 1, or the seat knows the parent, and its depth is
   -- one less

@@ -10,6 +10,7 @@
 mod answer;
 mod compare;
 mod filled;
+mod front;
 mod laws;
 mod load;
 mod look;
@@ -20,6 +21,7 @@ mod room;
 mod rows;
 mod rule;
 mod seat;
+mod settle;
 mod shape;
 mod split;
 mod view;

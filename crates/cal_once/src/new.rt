@@ -2,6 +2,7 @@ ghost use Rattle.std.specs.Prelude.{◌≡◌, IfOk, replicate};
 ghost use Rattle.cal_once.specs.Layout.{IsShape};
 ghost use Rattle.cal_once.specs.Views.{first_seat};
 ghost use Rattle.cal_once.specs.Seats.{IsSeatOf, plan_of, view};
+ghost use Rattle.cal_once.specs.Sound.{IsSound};
 
 use crate::{Plan, RowSeat, Rows, Shape};
 use atomic_table::Table;
@@ -23,6 +24,7 @@ impl<S: RecSort> Rows<S> {
         requires { IsShape shape }
         ensures plan { IfOk result (λ r. plan_of r.0 ≡ record { shape = shape; sort = sort }) }
         ensures seat { IfOk result (λ r. IsSeatOf r.0 r.1 × (view r.1 ≡ first_seat (plan_of r.0))) }
+        ensures sound { IfOk result (λ r. IsSound S.RecSort (plan_of r.0) (view r.1)) }
     {
         let count = 1 + shape.slots + shape.arenas * shape.arena;
         let words = zeros(alloc, count as usize)?;

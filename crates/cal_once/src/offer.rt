@@ -12,7 +12,7 @@ use cal_words::{Packed, RecSort};
 
 impl<S: RecSort> Rows<S> {
     // Stores word k of a draft, which begins at the word `start` of the table.
-    fn store(&self, seat: &mut Seat<u8, View<S>>, start: u64, k: u64, word: u64)
+    pub(crate) fn store(&self, seat: &mut Seat<u8, View<S>>, start: u64, k: u64, word: u64)
         requires seat { IsAt self.now seat.old }
         requires arena { seat.old.me.0.number < (plan_of self.now).shape.arenas }
         requires start { start ≡ next_word self.now seat.old.me.0 }

@@ -12,16 +12,10 @@ use Rattle.cal_value.specs.declared.kind.Kind as kinds
 use Rattle.cal_value.specs.declared.kind.Kind.TheVariants as kind
 use Rattle.cal_value.specs.declared.variant.Variant as variants
 use Rattle.cal_value.specs.declared.variant.Variant.TheVariants as variant
+use Rattle.cal_words.specs.Back.{kind_from, byte_of, text_of, number_of, double_of, value_of}
 use Rattle.cal_words.specs.Records.{IsValue}
-use Rattle.cal_words.specs.Words.{number_words, text_words, value_words, text_length}
+use Rattle.cal_words.specs.Words.{node_words, number_words, text_words, value_words, text_length}
 use Rattle.cal_words.proofs.Bytes.{AreBytes, get_or-text_word, get_or-text_words}
-
--- the kind of a node
-abbrev kind_from : ℕ → kinds.Kind
-kind_from n =
-    cond (eqb n 1) kind.Int (cond (eqb n 2) kind.Uint (cond (eqb n 3) kind.Str
-    (cond (eqb n 4) kind.Addr (cond (eqb n 5) kind.Double (cond (eqb n 6) kind.Bool
-    (cond (eqb n 7) kind.TypeName (cond (eqb n 11) kind.Ptr kind.Usr)))))))
 
 kind_from-kind_node : (k : kinds.Kind) → kind_from (kind_node k) ≡ k
 kind_from-kind_node kind.Usr = refl
@@ -33,13 +27,6 @@ kind_from-kind_node kind.Double = refl
 kind_from-kind_node kind.Bool = refl
 kind_from-kind_node kind.TypeName = refl
 kind_from-kind_node kind.Ptr = refl
-
--- the text of so many bytes that these words hold: byte k is byte k % 8 of word k / 8
-abbrev byte_of : List ℕ → ℕ → ℕ
-byte_of words k = get_or (to_le_bytes w64 (get_or words (k / 8) 0)) (k % 8) 0
-
-abbrev pub text_of : ℕ → List ℕ → List ℕ
-text_of count words = map (byte_of words) (range_with_len 0 count)
 
 byte_of-text_words :
     (text : List ℕ) (k : ℕ) → AreBytes text → k < length text
@@ -55,40 +42,17 @@ text_of-text_words text each =
     sym (fill_by_all (byte_of (text_words text)) text (length text) 0 refl
     (λ k h. sym (byte_of-text_words text k each h)))
 
--- the number of these halves
-abbrev number_of : List ℕ → ℤ
-number_of words = cast_signed w128 (get_or words 1 0 * 2 ^ 64 + get_or words 0 0)
-
 number_of-number_words : (n : ℤ) → FitsSigned w128 n → number_of (number_words n) ≡ n
 number_of-number_words n fits =
     let bits : ℕ = cast_unsigned w128 n in
     let whole : bits / 2 ^ 64 * 2 ^ 64 + bits % 2 ^ 64 ≡ bits = omega arith in
     ap (λ (b : ℕ). cast_signed w128 b) whole ∙ to_z-of_z w128 n fits
 
--- of the kind `double` a text has a length or no word, and a decimal no length and two words
-abbrev double_of : ℕ → List ℕ → variants.Variant
-double_of zero [] = variant.Real []
-double_of zero (word ∷ words) = variant.Fixed (number_of (word ∷ words))
-double_of (suc count) words = variant.Real (text_of (suc count) words)
-
 double_of-text : (t : List ℕ) → AreBytes t → double_of (length t) (text_words t) ≡ variant.Real t
 double_of-text [] each = refl
 double_of-text (c ∷ cs) each = ap variant.Real (text_of-text_words (c ∷ cs) each)
 
--- the value of this kind, text length and words
-abbrev value_of : ℕ → ℕ → List ℕ → variants.Variant
-value_of kind count words =
-    cond (eqb kind 1) (variant.Int (number_of words))
-    (cond (eqb kind 2) (variant.Uint (get_or words 0 0))
-    (cond (eqb kind 3) (variant.Text (text_of count words))
-    (cond (eqb kind 4) (variant.Addr (get_or words 0 0))
-    (cond (eqb kind 5) (double_of count words)
-    (cond (eqb kind 6) (variant.Bool (eqb (get_or words 0 0) 1))
-    (cond (eqb kind 7) (variant.Kind (kind_from (get_or words 0 0)))
-    (cond (eqb kind 11) (variant.Ptr (text_of count words))
-    (variant.Usr (text_of count words)))))))))
-
-value_of-value_words :
+pub value_of-value_words :
     (v : variants.Variant) → IsValue v
     → value_of (kind_node (kind_of v)) (text_length v) (value_words v) ≡ v
 value_of-value_words (variant.Int n) is = ap variant.Int (number_of-number_words n is)
@@ -103,7 +67,7 @@ value_of-value_words (variant.Real t) is = double_of-text t is.each_byte
 value_of-value_words (variant.Usr t) is = ap variant.Usr (text_of-text_words t is.each_byte)
 value_of-value_words (variant.Ptr t) is = ap variant.Ptr (text_of-text_words t is.each_byte)
 
-text_length_below : (v : variants.Variant) → IsValue v → text_length v < 2 ^ 32
+pub text_length_below : (v : variants.Variant) → IsValue v → text_length v < 2 ^ 32
 text_length_below (variant.Text t) is = is.short
 text_length_below (variant.Real t) is = is.short
 text_length_below (variant.Usr t) is = is.short
@@ -128,3 +92,17 @@ equal_values v w is_v is_w shape words =
     let lengths : text_length v ≡ text_length w = omega arith in
     sym (value_of-value_words v is_v) ∙ (λ i. value_of (kinds i) (lengths i) (words i))
     ∙ value_of-value_words w is_w
+
+-- nodes with equal words are equal
+pub equal_words :
+    (p q d e a b : ℕ) (v w : variants.Variant) → IsValue v → IsValue w
+    → node_words p d a v ≡ node_words q e b w → (p ≡ q) × (d ≡ e) × (a ≡ b) × (v ≡ w)
+equal_words p q d e a b v w is_v is_w same =
+    let parents : p ≡ q = cc in
+    let depths : d ≡ e = cc in
+    let attrs : a ≡ b = cc in
+    let shapes :
+    kind_node (kind_of v) * 2 ^ 32 + text_length v
+    ≡ kind_node (kind_of w) * 2 ^ 32 + text_length w = cc in
+    let words : value_words v ≡ value_words w = cc in
+    (parents, depths, attrs, equal_values v w is_v is_w shapes words)

@@ -2,3 +2,4 @@ pub mod Words
 pub mod Homes
 pub mod Records
 pub mod Nodes
+pub mod Back

@@ -27,20 +27,27 @@ IsValue (variant.Real t) = IsText t
 IsValue (variant.Usr t) = IsText t
 IsValue (variant.Ptr t) = IsText t
 
--- the words of some node
+-- the words of some node, which lies at most 128 below the root (Giltmoth's rule: a slot of a
+-- blackboard holds so many values)
 pub record IsNode (words : List ℕ) : Type 0 where
   pub parent : ℕ
   pub depth : ℕ
   pub attr : ℕ
   pub value : variants.Variant
-  pub small : (parent < 2 ^ 32) × (depth < 2 ^ 32) × (attr < 2 ^ 32)
+  pub small : (parent < 2 ^ 32) × (depth ≤ 128) × (attr < 2 ^ 32)
   pub is_value : IsValue value
   pub spelled : words ≡ node_words parent depth attr value
+
+-- an operation whose numbers are in the ranges of their types
+abbrev pub IsOpRec : OpRec → Type 0
+IsOpRec op =
+    (op.thread < 2 ^ 32) × (op.line < 2 ^ 32) × (op.attr < 2 ^ 32) × (op.value < 2 ^ 32)
 
 -- the words of one of these operations
 pub record IsOp (ops : List OpRec) (words : List ℕ) : Type 0 where
   pub op : OpRec
   pub among : Contains ops op
+  pub small : IsOpRec op
   pub spelled : words ≡ op_words op
 
 -- a seat publishes the operations of the thread below its own number (Giltmoth's rule)

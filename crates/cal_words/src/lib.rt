@@ -6,6 +6,7 @@
 //! memory. That a hash spreads well isn't promised.
 #![tactic(auto)]
 
+mod back;
 mod laws;
 mod node;
 mod op;
@@ -13,8 +14,9 @@ mod packed;
 mod sort;
 mod value;
 
+pub use back::{Node, read_node};
 pub use laws::{equal_nodes, equal_ops};
 pub use node::{NodeId, NodeRec, know_node};
-pub use op::{OpCode, OpRec};
+pub use op::{OpCode, OpRec, know_op, read_op};
 pub use packed::Packed;
 pub use sort::{NodeSort, OpSort, RecSort};

@@ -1,7 +1,7 @@
-ghost use Rattle.std.specs.Prelude.{◌≡◌, ◌<◌, ◌^◌};
+ghost use Rattle.std.specs.Prelude.{◌≡◌, ◌<◌, ◌≤◌, ◌^◌};
 ghost use Rattle.cal_words.specs.Homes.{words_hash};
 ghost use Rattle.cal_words.specs.Nodes.{words_of};
-ghost use Rattle.cal_words.specs.Records.{IsNode};
+ghost use Rattle.cal_words.specs.Records.{IsNode, IsValue};
 ghost use Rattle.cal_words.specs.Words.{text_length};
 
 use crate::value::{kind_word, know_value, value_len, value_word};
@@ -61,11 +61,13 @@ fn hash(node: &NodeRec<'_>) -> u64
     hash
 }
 
-/// The words of a node are a record of `NodeSort`, where its text has fewer than 2^32 bytes. It
-/// costs nothing.
+/// The words of a node are a record of `NodeSort`, where its depth is at most 128 and its text has
+/// fewer than 2^32 bytes; and its value is one. It costs nothing.
 pub fn know_node(node: &NodeRec<'_>)
-    requires { text_length node.now.value.now < 2 ^ 32 }
-    ensures { IsNode (words_of node.now) }
+    requires depth { node.now.depth ≤ 128 }
+    requires text { text_length node.now.value.now < 2 ^ 32 }
+    ensures node { IsNode (words_of node.now) }
+    ensures value { IsValue node.now.value.now }
 {
     let NodeRec {
         parent: NodeId(_parent),

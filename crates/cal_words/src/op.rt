@@ -1,5 +1,7 @@
-ghost use Rattle.std.specs.Prelude.{◌≡◌};
+ghost use Rattle.std.specs.Prelude.{◌≡◌, ◌<◌};
+ghost use Rattle.cal_words.specs.Records.{IsOpRec};
 ghost use Rattle.cal_words.specs.Words.{code_number, op_words};
+ghost use Rattle.cal_words.specs.declared.op.OpRec.{OpRec};
 
 use crate::{OpSort, Packed};
 
@@ -30,6 +32,44 @@ fn code_word(code: OpCode) -> u64
         OpCode::End => 1,
         OpCode::Set => 2,
     }
+}
+
+/// The operation whose words these are.
+pub fn read_op(words: &[u64; 7]) -> OpRec
+    requires { (op : OpRec) × IsOpRec op × (words.now ≡ op_words op) }
+    ensures { words.now ≡ op_words result }
+{
+    OpRec {
+        thread: words[2] as u32,
+        line: words[3] as u32,
+        code: read_code(words[4]),
+        attr: words[5] as u32,
+        value: words[6] as u32,
+    }
+}
+
+fn read_code(word: u64) -> OpCode
+    requires { word < 3 }
+    ensures { code_number result ≡ word }
+{
+    match word {
+        0 => OpCode::Begin,
+        1 => OpCode::End,
+        _ => OpCode::Set,
+    }
+}
+
+/// The words of one of these operations are a record of `OpSort`. It costs nothing.
+pub fn know_op(op: &OpRec)
+    ensures { IsOpRec op.now }
+{
+    let OpRec {
+        thread: _thread,
+        line: _line,
+        code: _code,
+        attr: _attr,
+        value: _value,
+    } = *op;
 }
 
 impl Packed<OpSort> for OpRec {

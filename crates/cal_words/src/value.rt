@@ -30,12 +30,17 @@ fn text_part(text: &Text, i: u64) -> u64
     word_at(text.as_str().as_bytes(), 8 * i as usize)
 }
 
-// The number of eight bytes from a place on.
+// The number of eight bytes from a place on: one load, where so many are left.
 fn word_at(bytes: &[u8], start: usize) -> u64
     requires { start < length bytes.now }
     ensures { result ≡ from_le_bytes w64 (drop start bytes.now) }
 {
     let bytes = &bytes[start..];
+    if bytes.len() >= 8 {
+        return u64::from_le_bytes([
+            bytes[0], bytes[1], bytes[2], bytes[3], bytes[4], bytes[5], bytes[6], bytes[7],
+        ]);
+    }
     u64::from_le_bytes([
         byte_at(bytes, 0),
         byte_at(bytes, 1),

@@ -20,9 +20,10 @@ invariant_of-seat g c =
     let e = c.join_seat.ensures.2 in
     let old = c.args.seat.now in
     let long = length-joined old.seat.me.0.others (c.into_seat.result.me.0.number - 1) c.into_seat.result.me.0.published in
+    let settled = c.settle.ensures.learns.same in
     record {
-      number_is = old.number_is ∙ sym (ap (λ m. m.0.number) e);
-      used_is = old.used_is ∙ sym (ap (λ m. m.0.used) e);
-      made_is = old.made_is ∙ ap (λ n. n + 1) (sym (ap (λ m. length m.0.others) e ∙ long));
-      bare = ap (λ m. m.1) e ∙ old.bare;
+      number_is = old.number_is ∙ sym (ap (λ v. v.number) settled ∙ ap (λ m. m.0.number) e);
+      used_is = old.used_is ∙ sym (ap (λ v. v.used) settled ∙ ap (λ m. m.0.used) e);
+      made_is = old.made_is ∙ ap (λ n. n + 1) (sym (ap (λ v. length v.others) settled ∙ ap (λ m. length m.0.others) e ∙ long));
+      bare = c.settle.ensures.seat.1 ∙ ap (λ m. m.1) e ∙ old.bare;
     }

@@ -1,0 +1,4 @@
+pub mod Paths
+pub mod Seats
+pub mod Children
+pub mod Snapshots
