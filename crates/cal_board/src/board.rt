@@ -2,13 +2,14 @@ ghost use Rattle.std.specs.Prelude.{◌≡◌, ◌<◌, [], ◌∷◌, ◌++◌,
 ghost use Rattle.cal_board.specs.Blackboard.{begin_reply, begun, depth_at, end_reply, ended};
 ghost use Rattle.cal_board.specs.Blackboard.{is_top, nothing_open, opened_instead, reply_to};
 ghost use Rattle.cal_board.specs.Blackboard.{slot_number, top_at, with_values};
+ghost use Rattle.cal_board.specs.PathBoards.{last_at};
 ghost use Rattle.cal_board.specs.Slots.{front, last_attribute, last_value, opened_in};
 ghost use Rattle.cal_board.specs.Standing.{StandsForSome, StandsThen, Steps, immediate_of};
 ghost use Rattle.cal_board.specs.Standing.{last_immediates, last_nodes};
 ghost use Rattle.cal_words.specs.declared.op.OpCode.TheVariants as code;
 
 use crate::slots::Slots;
-use crate::{AttrRef, BoardReply, NodeMaker, Opened};
+use crate::{AttrRef, BoardReply, NodeMaker, Opened, Slot};
 use cal_context::{AttributeNumber, Immediate};
 use cal_value::{OutOfMemory, TryCopy, Variant};
 use cal_words::OpCode;
@@ -188,6 +189,20 @@ impl<N> Board<N> {
         last_value(self.as_values.opened(attr.slot()))
     }
 
+    /// The reference slots that hold values.
+    pub(crate) fn references(&self) -> &[Slot<N>]
+        ensures { result.now ≡ self.now.references }
+    {
+        self.references.as_slice()
+    }
+
+    /// The as-value slots that hold values.
+    pub(crate) fn as_values(&self) -> &[Slot<Variant>]
+        ensures { result.now ≡ self.now.as_values }
+    {
+        self.as_values.as_slice()
+    }
+
     fn begin_reply(&self, attr: AttrRef) -> BoardReply
         ensures { result ≡ begin_reply self.now attr }
     {
@@ -286,6 +301,19 @@ impl<N> Board<N> {
                 .replace(attr.slot(), Opened { attribute, value });
         }
         Ok(())
+    }
+}
+
+impl Board<Variant> {
+    /// The last value in an attribute's slot.
+    pub(crate) fn last_plain(&self, attr: AttrRef) -> Option<&Opened<Variant>>
+        ensures { option_copied result ≡ last_at self.now attr }
+    {
+        if attr.as_value {
+            self.as_values.opened(attr.slot()).last()
+        } else {
+            self.references.opened(attr.slot()).last()
+        }
     }
 }
 

@@ -8,6 +8,7 @@
 
 mod attr;
 mod board;
+mod entries;
 mod maker;
 mod opened;
 mod path_board;

@@ -1,13 +1,19 @@
-ghost use Rattle.std.specs.Prelude.{◌≡◌, IfOk, OnOk, OnErr};
+ghost use Rattle.std.specs.Prelude.{◌≡◌, ◌<◌, ◌++◌, length, All, IfOk, OnOk, OnErr, Some};
+ghost use Rattle.std.specs.Prelude.{option_map};
 ghost use Rattle.cal_board.specs.Blackboard.{board_after, ended, nothing_open, reply_to};
-ghost use Rattle.cal_board.specs.PathBoards.{IsLastValue};
+ghost use Rattle.cal_board.specs.PathBoards.{AreKnown, IsLastValue, entries_of, entry_in};
+ghost use Rattle.cal_board.specs.PathBoards.{last_at, last_entries};
+ghost use Rattle.cal_board.specs.declared.opened.Opened as opened;
+ghost use Rattle.cal_value.specs.declared.variant.Variant as variants;
 ghost use Rattle.cal_words.specs.declared.op.OpCode.TheVariants as code;
 
+use crate::entries::{add_last_entries, add_paths, entry_of};
 use crate::{AttrRef, Board, BoardReply, NodeMaker};
-use cal_value::{OutOfMemory, TryCopy, Variant};
+use cal_value::{Attribute, Entry, OutOfMemory, Seq, TryCopy, Variant};
 use cal_words::OpCode;
 use std::alloc::Global;
 use std::marker::Model;
+use std::mem::replace;
 
 /// A board over plain values: what it keeps for an open value is a copy of it.
 #[derive(Drop)]
@@ -105,5 +111,67 @@ impl PathBoard {
         ensures after { self.new ≡ ended self.old attr }
     {
         self.board.end(attr)
+    }
+
+    /// Adds the open values of each reference slot as a path, in the order of the slots. An `Err`
+    /// leaves the list.
+    pub fn paths(
+        &self,
+        attrs: &Seq<Attribute>,
+        out: &mut Seq<Seq<Entry>>,
+    ) -> Result<(), OutOfMemory>
+        requires { All (λ slot. AreKnown attrs.now slot.opened) self.now.references }
+        ensures ok { OnOk result (out.new ≡ out.old ++ entries_of attrs.now self.now.references) }
+        ensures err { OnErr result (out.new ≡ out.old) }
+    {
+        let mut items = replace(out, Seq::new(self.alloc)).into_vec();
+        let count = items.len();
+        let slots = self.board.references();
+        let added = add_paths(self.alloc, attrs.as_slice(), slots, &mut items);
+        if added.is_err() {
+            items.truncate(count);
+        }
+        *out = Seq::from_vec(items);
+        added
+    }
+
+    /// Adds the last value of each as-value slot, in the order of the slots. An `Err` leaves the
+    /// list.
+    pub fn immediates(
+        &self,
+        attrs: &Seq<Attribute>,
+        out: &mut Seq<Entry>,
+    ) -> Result<(), OutOfMemory>
+        requires { All (λ slot. AreKnown attrs.now slot.opened) self.now.as_values }
+        ensures ok { OnOk result (out.new ≡ out.old ++ last_entries attrs.now self.now.as_values) }
+        ensures err { OnErr result (out.new ≡ out.old) }
+    {
+        let mut items = replace(out, Seq::new(self.alloc)).into_vec();
+        let count = items.len();
+        let slots = self.board.as_values();
+        let added = add_last_entries(self.alloc, attrs.as_slice(), slots, &mut items);
+        if added.is_err() {
+            items.truncate(count);
+        }
+        *out = Seq::from_vec(items);
+        added
+    }
+
+    /// The last value in an attribute's slot.
+    pub fn last(
+        &self,
+        alloc: Global,
+        attrs: &Seq<Attribute>,
+        attr: AttrRef,
+    ) -> Result<Entry, OutOfMemory>
+        requires { (o : opened.Opened variants.Variant) × (last_at self.now attr ≡ Some o)
+            × (o.attribute < length attrs.now) }
+        ensures { IfOk result (λ entry.
+            option_map (entry_in attrs.now) (last_at self.now attr) ≡ Some entry) }
+    {
+        match self.board.last_plain(attr) {
+            Some(last) => entry_of(alloc, attrs.as_slice(), last),
+            None => unreachable!(),
+        }
     }
 }
