@@ -1,0 +1,6 @@
+pub mod Slots
+pub mod Blackboard
+pub mod Standing
+pub mod Contexts
+pub mod ContextGrowth
+pub mod PathBoards

@@ -1,0 +1,23 @@
+//! Blackboards: the values that are open in a thread or in the process, slot by slot.
+//!
+//! A `Board` keeps, for each open value, what a maker of nodes made for it; contracts see which
+//! board of open values that stands for, and that each call does what the table of boards says. A
+//! `PathBoard` is that board over plain values. Opening a value is one call of the maker, and
+//! closing one none. Nothing is promised of how a slot is found.
+#![tactic(auto)]
+
+mod attr;
+mod board;
+mod entries;
+mod maker;
+mod opened;
+mod path_board;
+mod reply;
+mod slots;
+
+pub use attr::AttrRef;
+pub use board::Board;
+pub use maker::NodeMaker;
+pub use opened::{Opened, Slot};
+pub use path_board::PathBoard;
+pub use reply::BoardReply;
