@@ -1,0 +1,4 @@
+pub mod Texts
+pub mod Hierarchy
+pub mod Cells
+pub mod Names
