@@ -3,14 +3,14 @@ use Rattle.std.proofs.Common.{◌≡◌, ℕ, ◌<◌, ◌≤◌, Bool, true, fa
 use Rattle.std.specs.List.{list_any}
 use Rattle.std.proofs.lemmas.Bool.{cases_eq, cases_lt, cond-true, cond-false}
 use Rattle.std.proofs.lemmas.List.{append-nil, get_or_default, get_or_read, get_or_append_left, get_or_push, get_or-set_same, get_or-set_other, map-append, length_push}
-use Rattle.std.proofs.lemmas.List.Elements.{All-head, All-tail, All-map, All-cons, All-push, All-weaker, All-nil, Contains-append_left, Contains-push, Contains-push_cases, filter-append}
+use Rattle.std.proofs.lemmas.List.Elements.{All-head, All-tail, All-map, All-cons, All-push, All-weaker, All-nil, Contains-append_left, Contains-push, Contains-append_cases, filter-append}
 use Rattle.std.proofs.lemmas.Option.{get_or_from_slice_get, slice_get_within}
 use Rattle.cal_value.specs.declared.attribute.Entry.{Entry}
 use Rattle.cal_value.specs.declared.variant.Variant.{Variant}
 use Rattle.cal_context.specs.Lists.{Adds, Interns}
 use Rattle.cal_context.proofs.ListLemmas.{AreApart-push, map-alike}
 use Rattle.cal_rowset.specs.Cells.{values, values_with}
-use Rattle.cal_rowset.specs.Filling.{Shows, HoldsIn, ClearedIf, is_nothing, nth_cell, nth_name, no_cell, with_use}
+use Rattle.cal_rowset.specs.Filling.{Shows, HoldsIn, AreCleared, is_nothing, nth_cell, nth_name, no_cell, with_use}
 use Rattle.cal_rowset.specs.Texts.{is_same, first_seen}
 use Rattle.cal_rowset.specs.declared.cell.Cell.{Cell}
 use Rattle.cal_rowset.proofs.Seen.{either_way, same_text, is_same-refl, is_same-other, first_seen-push, All-first_seen}
@@ -230,7 +230,7 @@ module _ (names : List (List ℕ)) (cells : List Cell) (used : List ℕ) (es : L
 
 -- the places that were used are cleared
 pub Holds-cleared : (names : List (List ℕ)) (cells new : List Cell) (used : List ℕ) (es : List Entry) → HoldsIn names cells used es → length new ≡ length cells
-    → ((place : ℕ) → place < length cells → ClearedIf (Contains used place) (nth_cell cells place) (nth_cell new place)) → HoldsIn names new [] []
+    → AreCleared cells new used → HoldsIn names new [] []
 Holds-cleared names cells new used es holds counted cleared = record {
   counted = counted ∙ holds.counted;
   apart = holds.apart;
@@ -245,9 +245,7 @@ Holds-cleared names cells new used es holds counted cleared = record {
         let here = cleared place (omega (arith, l, holds.counted)) in
         elim (holds.idle place l) [ inl there ↦ here.cleared there | inr is ↦ here.stays is ]
 
--- the cells at these places are cleared
-abbrev pub AreCleared : List Cell → List Cell → List ℕ → Type 0
-AreCleared old new used = (place : ℕ) → place < length old → ClearedIf (Contains used place) (nth_cell old place) (nth_cell new place)
+-- ---- cleared cells
 
 pub AreCleared-none : (cells : List Cell) → AreCleared cells cells []
 AreCleared-none cells place l = record {
@@ -255,22 +253,15 @@ AreCleared-none cells place l = record {
   stays = λ is. is;
 }
 
-pub AreCleared-more : (old new : List Cell) (used : List ℕ) (here : ℕ) (cell : Cell) → AreCleared old new used → length new ≡ length old → Shows cell []
-    → AreCleared old (set new here cell) (used ++ here ∷ [])
-AreCleared-more old new used here cell cleared counted empty place l =
-    elim (cases_eq place here) [
-      | inl is ↦ (
-          let now : Shows (nth_cell (set new here cell) place) [] =
-          subst (λ (q : ℕ). Shows (nth_cell (set new here cell) q) []) (sym is) (rw (get_or-set_same new here cell no_cell (omega (arith, l, is, counted))) empty) in
-          record { cleared = λ there. now; stays = λ was. now })
-      | inr apart ↦ (
-          let before = cleared place l in
-          let same : nth_cell (set new here cell) place ≡ nth_cell new place = get_or-set_other new here place cell no_cell apart in
-          record {
-            cleared = λ there. rw same (elim (Contains-push_cases used here place there) [
-              | inl was ↦ before.cleared was
-              | inr is ↦ absurd (apart (sym is))
-            ]);
-            stays = λ was. rw same (before.stays was);
-          })
-    ]
+-- in two steps
+pub AreCleared-append : (old then new : List Cell) (used more : List ℕ) → length then ≡ length old → AreCleared old then used → AreCleared then new more → AreCleared old new (used ++ more)
+AreCleared-append old then new used more counted before after place l =
+    let first = before place l in
+    let next = after place (omega (arith, l, counted)) in
+    record {
+      cleared = λ there. elim (Contains-append_cases used more place there) [
+        | inl was ↦ next.stays (first.cleared was)
+        | inr is ↦ next.cleared is
+      ];
+      stays = λ was. next.stays (first.stays was);
+    }

@@ -54,9 +54,9 @@ names c = c.names
 abbrev pub used : Cells → List ℕ
 used c = c.used.items
 
--- the cell at a place
-abbrev pub cell_at : Cells → ℕ → Cell
-cell_at c place = nth_cell c.cells.items place
+-- the cells by the places of their names
+abbrev pub cells : Cells → List Cell
+cells c = c.cells.items
 
 -- the cells hold these entries of a row
 abbrev pub Holds : Cells → List Entry → Type 0
@@ -75,3 +75,7 @@ with_use false places place = places
 pub record ClearedIf (P : Type 0) (old new : Cell) : Type 0 where
   pub cleared : P → Shows new []
   pub stays : Shows old [] → Shows new []
+
+abbrev pub AreCleared : List Cell → List Cell → List ℕ → Type 0
+AreCleared old new places = (place : ℕ) → place < length old
+    → ClearedIf (Contains places place) (nth_cell old place) (nth_cell new place)

@@ -1,9 +1,9 @@
 ghost use Rattle.std.specs.Prelude.{◌≡◌, ℕ, ◌<◌, List, [], ◌∷◌, ◌++◌};
 ghost use Rattle.std.specs.Prelude.{length, slice_get, IfNone, IfOk, IfSome, OnOk, Some};
-ghost use Rattle.std.specs.List.{All, Contains};
+ghost use Rattle.std.specs.List.{Contains};
 ghost use Rattle.cal_value.specs.declared.attribute.Entry.{Entry};
 ghost use Rattle.cal_context.specs.Lists.{Interns};
-ghost use Rattle.cal_rowset.specs.Filling.{ClearedIf, Holds, HoldsSome, cell_at, is_nothing, names};
+ghost use Rattle.cal_rowset.specs.Filling.{AreCleared, Holds, cells, is_nothing, names};
 ghost use Rattle.cal_rowset.specs.Filling.{nth_cell, used, with_use};
 
 use crate::{Cell, Names};
@@ -48,15 +48,16 @@ impl Cells {
         Ok(place)
     }
 
-    /// Adds an entry of the name at a place.
+    /// Adds the value of an entry of the name at a place; a place without a name takes nothing.
     pub fn add(&mut self, place: usize, value: &Variant) -> Result<(), OutOfMemory>
-        requires holds { HoldsSome self.old }
-        requires known { place < length (names self.old) }
         ensures names { names self.new ≡ names self.old }
         ensures added { OnOk result ((entries : List Entry) (e : Entry) → Holds self.old entries
             → slice_get (names self.old) place ≡ Some e.attr.name → e.value ≡ value.now
             → Holds self.new (entries ++ e ∷ [])) }
     {
+        if place >= self.cells.len() {
+            return Ok(());
+        }
         self.note_use(place)?;
         self.cells[place].push(value)
     }
@@ -66,7 +67,7 @@ impl Cells {
         requires { place < length self.old.cells.items }
         ensures cells { self.new.cells.items ≡ self.old.cells.items }
         ensures names { self.new.names ≡ self.old.names }
-        ensures used { OnOk result (used self.new ≡ with_use (is_nothing (cell_at self.old place).content)
+        ensures used { OnOk result (used self.new ≡ with_use (is_nothing (nth_cell (cells self.old) place).content)
             (used self.old) place) }
     {
         if self.cells[place].is_empty() {
@@ -75,13 +76,11 @@ impl Cells {
         Ok(())
     }
 
-    /// The cell at a place.
-    pub fn cell(&self, place: usize) -> &Cell
-        requires holds { HoldsSome self.now }
-        requires known { place < length (names self.now) }
-        ensures { result.now ≡ cell_at self.now place }
+    /// The cells by the places of their names.
+    pub fn cells(&self) -> &[Cell]
+        ensures { result.now ≡ cells self.now }
     {
-        &self.cells[place]
+        &self.cells
     }
 
     /// The places of the cells that aren't empty, in the order in which they were first filled.
@@ -108,9 +107,8 @@ impl Cells {
 
     /// Takes all entries away, and keeps the names.
     pub fn clear(&mut self)
-        requires { HoldsSome self.old }
         ensures names { names self.new ≡ names self.old }
-        ensures cleared { Holds self.new [] }
+        ensures cleared { (entries : List Entry) → Holds self.old entries → Holds self.new [] }
     {
         clear_used(&mut self.cells, &self.used);
         self.used.clear();
@@ -119,12 +117,19 @@ impl Cells {
 
 // clears the cells at these places
 fn clear_used(cells: &mut Vec<Cell>, used: &[usize])
-    requires { All (λ place. place < length cells.old.items) used.now }
     ensures counted { length cells.new.items ≡ length cells.old.items }
-    ensures cleared { (place : ℕ) → place < length cells.old.items
-        → ClearedIf (Contains used.now place) (nth_cell cells.old.items place) (nth_cell cells.new.items place) }
+    ensures cleared { AreCleared cells.old.items cells.new.items used.now }
 {
     for place in used {
-        cells[*place].clear();
+        clear_at(cells, *place);
+    }
+}
+
+fn clear_at(cells: &mut Vec<Cell>, place: usize)
+    ensures counted { length cells.new.items ≡ length cells.old.items }
+    ensures cleared { AreCleared cells.old.items cells.new.items (place ∷ []) }
+{
+    if place < cells.len() {
+        cells[place].clear();
     }
 }

@@ -1,5 +1,5 @@
 use Rattle.std.proofs.Common.{◌≡◌, length, take}
-use Rattle.cal_rowset.proofs.Filling.{AreCleared}
+use Rattle.cal_rowset.specs.Filling.{AreCleared}
 use Rattle.cal_rowset.proofs.cells.clear_used.Given as goal
 
 -- the places so far are cleared
