@@ -7,6 +7,8 @@ use Rattle.cal_context.proofs.ListLemmas.{Adds-insert_key, number_of_equal, numb
 use Rattle.cal_context.specs.Lists.{Interns}
 use Rattle.indexmap.specs.IndexSet.{insert_key}
 use Rattle.cal_value.specs.Texts.{text_cmp}
+use Rattle.cal_rowset.specs.Known.{is_known}
+use Rattle.cal_rowset.proofs.Seen.{is_same-refl, is_same-other}
 use Rattle.cal_value.specs.ExactOrder.{exact_equiv, exact_tells, text_exact}
 
 -- the place that is found is the name's
@@ -30,3 +32,20 @@ name_learned names new name copied place is keys stored =
       number = number_of_equal (exact_equiv text_exact) (exact_tells text_exact) new place copied stored.0 stored.1 stored.2;
       adds = Adds-insert_key (exact_equiv text_exact) (exact_tells text_exact) names copied new keys;
     })
+
+-- a name that has a place is known, and one that none has isn't
+pub known_at : (names : List (List ℕ)) (name : List ℕ) (place : ℕ) → slice_get names place ≡ Some name → is_known names name ≡ true
+known_at [] name place at = cc
+known_at (n ∷ names) name zero at =
+    let same : n ≡ name = cc in
+    rw (same, is_same-refl name) refl
+known_at (n ∷ names) name (suc place) at = rw (known_at names name place at) (either_true (is_same name n))
+  where
+    either_true : (b : Bool) → (b || true) ≡ true
+    either_true true = refl
+    either_true false = refl
+
+pub unknown_none : (names : List (List ℕ)) (name : List ℕ) → ¬ Contains names name → is_known names name ≡ false
+unknown_none [] name new = refl
+unknown_none (n ∷ names) name new =
+    rw (is_same-other name n (λ same. new (zero, omega arith, sym same)), unknown_none names name (λ there. new (suc there.0, omega (arith, there.1), there.2))) refl

@@ -3,3 +3,4 @@ pub mod Hierarchy
 pub mod Cells
 pub mod Names
 pub mod Filling
+pub mod Known

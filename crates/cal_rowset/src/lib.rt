@@ -9,10 +9,11 @@ mod cell;
 mod cells;
 mod hierarchy;
 mod names;
+mod row_cells;
 mod rowset;
 
 pub use cell::{Cell, Content};
 pub use cells::Cells;
 pub use hierarchy::is_of_hierarchy;
-pub use names::Names;
+pub use names::{Names, is_path};
 pub use rowset::{Column, Rowset};

@@ -1,6 +1,7 @@
 ghost use Rattle.std.specs.Prelude.{◌≡◌, [], ◌∷◌, length, slice_get, IfNone, IfOk, IfSome, OnErr, Some};
 ghost use Rattle.std.specs.List.{Contains};
 ghost use Rattle.cal_context.specs.Lists.{AreApart, Interns};
+ghost use Rattle.cal_rowset.specs.Cells.{is_path};
 
 use cal_value::{OutOfMemory, Text, TryCopy};
 use indexmap::IndexSet;
@@ -59,4 +60,11 @@ impl Names {
         let (place, _) = self.set.insert_full(name.copy(alloc)?)?;
         Ok(place)
     }
+}
+
+/// Whether a name is the hierarchy's.
+pub fn is_path(name: &Text) -> bool
+    ensures { result ≡ is_path name.now }
+{
+    name.as_str() == "path"
 }
