@@ -1,6 +1,7 @@
 ghost use Rattle.std.specs.Prelude.{◌≡◌, Some};
 ghost use Rattle.caliper.specs.Faults.{input_kind_name, status_of};
 
+use cal_read::StreamKind;
 use cal_script::ScriptKind;
 
 /// Why a call wrote less than it was asked for.
@@ -22,6 +23,7 @@ pub enum Fault {
 #[derive(Clone, Copy, Debug, PartialEq, Eq)]
 pub enum InputKind {
     Script(ScriptKind),
+    Stream(StreamKind),
 }
 
 impl InputKind {
@@ -31,6 +33,7 @@ impl InputKind {
     {
         match self {
             InputKind::Script(kind) => kind.name(),
+            InputKind::Stream(kind) => kind.name(),
         }
     }
 }

@@ -1,0 +1,19 @@
+-- Snapshots that are kept mean the same records while the context grows.
+use Rattle.std.proofs.Common.{◌≡◌, ◌<◌, List, length, get_or, map, ◌∙◌}
+use Rattle.std.specs.List.{All}
+use Rattle.cal_value.specs.declared.record.Rec.{Rec}
+use Rattle.cal_context.specs.Snapshots.{IsIn, meaning}
+use Rattle.cal_context.specs.Tree.{Tree, Grows}
+use Rattle.cal_context.proofs.CallerLemmas.{IsIn-Grows, meaning-Grows}
+use Rattle.cal_context.proofs.ListLemmas.{map-alike}
+use Rattle.cal_query.specs.Joining.{HasKept}
+use Rattle.cal_query.specs.declared.joining.Kept.{Kept}
+
+pub HasKept-stays : (kept : Kept) (old new : Tree) (rs : List Rec) → HasKept kept old rs
+    → Grows old new → HasKept kept new rs
+HasKept-stays kept old new rs has grows = record {
+  are_in = λ k d l. IsIn-Grows grows (get_or kept.snapshots.items k d) (has.are_in k d l);
+  mean =
+  map-alike (meaning new) (meaning old) kept.snapshots.items
+  (λ k d l. meaning-Grows grows (get_or kept.snapshots.items k d) (has.are_in k d l)) ∙ has.mean;
+}
