@@ -9,7 +9,7 @@ use Rattle.cal_context.specs.Children.{AddsAttribute, AddsValue}
 use Rattle.cal_context.specs.Tree.{Tree, Grows, no_attribute, no_value}
 use Rattle.cal_context.specs.declared.numbers.AttributeNumber.{AttributeNumber}
 use Rattle.cal_context.specs.declared.numbers.ValueNumber.{ValueNumber}
-use Rattle.cal_script.specs.declared.script.Script.{Script}
+use Rattle.cal_first_form.specs.declared.script.Script.{Script}
 use Rattle.cal_value.specs.declared.attribute.Attribute.{Attribute}
 use Rattle.cal_value.specs.declared.variant.Variant.{Variant}
 use Rattle.cal_core.specs.Kept.{StandFor, AttributesStand, ValuesStand, AreNumbered}

@@ -4,8 +4,8 @@ use Rattle.std.proofs.lemmas.Grind.{flat_map-append}
 use Rattle.std.proofs.lemmas.List.{take_more}
 use Rattle.cal_context.proofs.CallerLemmas.{TakesMore-trans}
 use Rattle.cal_context.specs.Taking.{TakesMore}
-use Rattle.cal_script.specs.declared.script.Line.{Line}
-use Rattle.cal_script.specs.declared.script.Script.{Script}
+use Rattle.cal_first_form.specs.declared.script.Line.{Line}
+use Rattle.cal_first_form.specs.declared.script.Script.{Script}
 use Rattle.cal_value.specs.declared.record.Rec.{Rec}
 use Rattle.cal_core.specs.Board.{Board, board_after}
 use Rattle.cal_core.specs.Runs.{snapshots_at, snapshots_from}

@@ -3,9 +3,9 @@ use Rattle.std.specs.Prelude.{ℕ, ◌-◌, List, [], ◌∷◌, ◌++◌, lengt
 use Rattle.std.specs.Option.{option_map, option_and_then}
 use Rattle.cal_value.specs.declared.attribute.Entry.{Entry}
 use Rattle.cal_value.specs.declared.record.Rec.{Rec}
-use Rattle.cal_script.specs.declared.script.Script.{Script}
-use Rattle.cal_script.specs.declared.script.Line as lines
-use Rattle.cal_script.specs.declared.script.Line.TheVariants as line
+use Rattle.cal_first_form.specs.declared.script.Script.{Script}
+use Rattle.cal_first_form.specs.declared.script.Line as lines
+use Rattle.cal_first_form.specs.declared.script.Line.TheVariants as line
 
 -- The blackboard of a thread: its open values, each with its attribute. All nested attributes share one stack, here the
 -- outermost value first (Caliper's data model).

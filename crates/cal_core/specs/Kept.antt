@@ -5,7 +5,7 @@ use Rattle.cal_context.specs.Tree.{Tree, attribute_at, value_at, path_at}
 use Rattle.cal_context.specs.declared.numbers.AttributeNumber.{AttributeNumber}
 use Rattle.cal_context.specs.declared.numbers.NodeNumber.{NodeNumber}
 use Rattle.cal_context.specs.declared.numbers.ValueNumber.{ValueNumber}
-use Rattle.cal_script.specs.declared.script.Script.{Script}
+use Rattle.cal_first_form.specs.declared.script.Script.{Script}
 use Rattle.cal_value.specs.declared.attribute.Attribute.{Attribute}
 use Rattle.cal_value.specs.declared.variant.Variant.{Variant}
 use Rattle.cal_core.specs.Board.{Board}

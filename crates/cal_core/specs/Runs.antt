@@ -2,9 +2,9 @@
 use Rattle.std.specs.Prelude.{ℕ, List, [], ◌∷◌, ◌++◌}
 use Rattle.std.specs.List.{flat_map}
 use Rattle.cal_value.specs.declared.record.Rec.{Rec}
-use Rattle.cal_script.specs.declared.script.Script.{Script}
-use Rattle.cal_script.specs.declared.script.Line as lines
-use Rattle.cal_script.specs.declared.script.Line.TheVariants as line
+use Rattle.cal_first_form.specs.declared.script.Script.{Script}
+use Rattle.cal_first_form.specs.declared.script.Line as lines
+use Rattle.cal_first_form.specs.declared.script.Line.TheVariants as line
 use Rattle.cal_core.specs.Board.{Board, no_values, board_after, snapshot_of}
 
 -- the snapshots that a line takes: `snapshot` one of the board that it finds, another line none

@@ -2,14 +2,14 @@ ghost use Rattle.std.specs.Prelude.{◌≡◌, ◌<◌, ◌-◌, length, take, I
 ghost use Rattle.cal_context.specs.Snapshots.{IsIn, meaning};
 ghost use Rattle.cal_context.specs.Taking.{TakesMore};
 ghost use Rattle.cal_context.specs.Tree.{Grows, path_at};
-ghost use Rattle.cal_script.specs.Shape.{IsPlaced};
+ghost use Rattle.cal_first_form.specs.Shape.{IsPlaced};
 ghost use Rattle.cal_core.specs.Board.{board_after, snapshot_of};
 ghost use Rattle.cal_core.specs.Kept.{AreNumbered, board_at};
 ghost use Rattle.cal_core.specs.Runs.{snapshots_at};
 
 use crate::Numbers;
 use cal_context::{Context, Link, NodeNumber, Snapshot, Taker};
-use cal_script::{Line, Script};
+use cal_first_form::{Line, Script};
 use cal_value::OutOfMemory;
 
 /// Hands the snapshot that a line takes to a taker, if it takes one.

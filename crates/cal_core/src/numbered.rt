@@ -3,7 +3,7 @@ ghost use Rattle.cal_context.specs.Tree.{Grows};
 ghost use Rattle.cal_core.specs.Kept.{AreNumbered, AttributesStand, ValuesStand};
 
 use cal_context::{AttributeNumber, Context, ValueNumber};
-use cal_script::Script;
+use cal_first_form::Script;
 use cal_value::{Attribute, OutOfMemory, Variant};
 use std::alloc::Global;
 

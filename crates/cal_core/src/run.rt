@@ -1,14 +1,14 @@
 ghost use Rattle.std.specs.Prelude.{◌<◌, length, All, IfOk, OnOk};
 ghost use Rattle.cal_context.specs.Taking.{TakesMore};
 ghost use Rattle.cal_context.specs.Tree.{Grows};
-ghost use Rattle.cal_script.specs.Shape.{IsPlaced, IsScript};
+ghost use Rattle.cal_first_form.specs.Shape.{IsPlaced, IsScript};
 ghost use Rattle.cal_core.specs.Kept.{AreNumbered};
 ghost use Rattle.cal_core.specs.Runs.{channel_records, records_of, snapshots};
 
 use crate::Numbers;
 use crate::lines::{run_line, take_snapshot};
 use cal_context::{Context, NodeNumber, Snapshot, Taker};
-use cal_script::{Line, Script};
+use cal_first_form::{Line, Script};
 use cal_value::OutOfMemory;
 use std::alloc::Global;
 

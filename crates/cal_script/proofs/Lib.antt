@@ -1,5 +1,3 @@
 pub mod Cuts
+pub mod Registers
 pub mod Values
-pub mod Threads
-pub mod Runs
-pub mod Forms

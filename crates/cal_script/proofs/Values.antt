@@ -1,35 +1,37 @@
--- An interner adds a value as a script's values get one more, and gives its place.
-use Rattle.std.proofs.Common.{◌≡◌, ℕ, ◌<◌, true, false, List, length, get_or, slice_get, Some, sym, ◌∙◌, arith, inl, inr}
-use Rattle.std.specs.List.{list_any}
-use Rattle.std.proofs.lemmas.Bool.{false_from_ne_true}
-use Rattle.std.proofs.lemmas.List.Sums.{position_or_len_is}
-use Rattle.std.proofs.lemmas.Map.Views.{list_any-from_Contains, Contains-from_any}
-use Rattle.std.proofs.lemmas.Option.{get_or_from_slice_get, slice_get_within}
-use Rattle.cal_value.specs.ExactOrder.{exact_equiv, exact_tells}
-use Rattle.cal_value.specs.OrderLaws.{value_exact}
+-- Numbers that words write.
+use Rattle.std.proofs.Common.{◌≡◌, ℕ, ◌≤◌, Bool, true, false, cond, leb, List, refl, sym, ap, ◌∙◌, arith, lit≤, inl, inr}
+use Rattle.std.specs.Prelude.{Option, Some, None}
+use Rattle.std.specs.Option.{option_map, ok_or}
+use Rattle.std.proofs.lemmas.Bool.Decides.{nat_tests}
+use Rattle.cal_value.specs.Numerals.{at_most, number_of}
+use Rattle.cal_script.specs.Parts.{declared_props}
+use Rattle.cal_script.specs.declared.kind.ScriptKind.TheVariants.{BadProps}
+use Rattle.cal_value.specs.Reading.{uint_of, value_of}
+use Rattle.cal_value.specs.declared.kind.Kind.TheVariants as kind
 use Rattle.cal_value.specs.declared.variant.Variant.{Variant}
-use Rattle.cal_context.specs.Lists.{AreApart, Adds}
-use Rattle.cal_script.specs.Values.{same_value, with_value, value_place}
+use Rattle.cal_value.specs.declared.variant.Variant.TheVariants as variant
+use Rattle.cal_script.specs.Steps.{uint_inside}
 
-pub with_value-Adds : (old : List Variant) (value : Variant) (new : List Variant) → Adds old value new → with_value old value ≡ new
-with_value-Adds old value new (inl there) =
-    rw (list_any-from_Contains (exact_equiv value_exact) value old there.0) (sym there.1)
-with_value-Adds old value new (inr last) =
-    let none : list_any (same_value value) old ≡ false = false_from_ne_true (list_any (same_value value) old) (λ some. last.0 (Contains-from_any (exact_tells value_exact) value old some)) in
-    rw none (sym last.1)
+inside_map : (found : Option ℕ) (value : Variant) → option_map variant.Uint found ≡ Some value → uint_inside value ≡ found
+inside_map None value is = absurd cc
+inside_map (Some n) value is = let same : variant.Uint n ≡ value = cc in rw (sym same) refl
 
-pub value_place-apart : (values : List Variant) (value : Variant) (n : ℕ) → AreApart values → slice_get values n ≡ Some value → value_place values value ≡ n
-value_place-apart values value n apart at = position_or_len_is (same_value value) values n value (omega (arith, within)) before (λ _. here)
-  where
-    within : n < length values
-    within = slice_get_within values n value at
+-- what is read as a `uint` is the number that the text writes
+pub uint_read : (text : List ℕ) (value : Variant) → value_of kind.Uint text ≡ Some value → uint_inside value ≡ uint_of text
+uint_read text value is = inside_map (uint_of text) value is
 
-    is : get_or values n value ≡ value
-    is = get_or_from_slice_get values n value value at
+map_none : (found : Option ℕ) → option_map variant.Uint found ≡ None → found ≡ None
+map_none None is = refl
+map_none (Some n) is = absurd cc
 
-    here : same_value value (get_or values n value) ≡ true
-    here = rw is ((exact_equiv value_exact).refl value)
+pub uint_unread : (text : List ℕ) → value_of kind.Uint text ≡ None → uint_of text ≡ None
+uint_unread text is = map_none (uint_of text) is
 
-    before : (k : ℕ) → k < n → same_value value (get_or values k value) ≡ false
-    before k less = false_from_ne_true (same_value value (get_or values k value))
-        (λ same. let e : k ≡ n = apart k n value (omega (arith, less, within)) within (sym (exact_tells value_exact value (get_or values k value) same) ∙ sym is) in absurd (omega (arith, e, less)))
+-- a bound below another
+pub at_most-at_most : (few many : ℕ) → few ≤ many → (found : Option ℕ) → at_most few (at_most many found) ≡ at_most few found
+at_most-at_most few many le None = refl
+at_most-at_most few many le (Some n) = grind (arith, nat_tests)
+
+-- properties by the number that a word writes
+pub props_read : (word : List ℕ) → declared_props word ≡ ok_or (option_map (λ bits. record { 0 = bits }) (at_most 65535 (uint_of word))) BadProps
+props_read word = rw (at_most-at_most 65535 18446744073709551615 (lit≤ tt) (number_of 10 word)) refl

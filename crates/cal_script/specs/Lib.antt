@@ -1,12 +1,10 @@
+pub mod Kinds
 pub mod Lines
 pub mod Names
-pub mod Depth
+pub mod State
+pub mod Limits
 pub mod Parts
-pub mod Values
 pub mod Reading
-pub mod Kinds
-pub mod Spelled
-pub mod Faults
-pub mod Shape
-pub mod Steps
+pub mod Registers
 pub mod Reader
+pub mod Steps

@@ -1,27 +1,62 @@
 -- What the reader of a script knows of the lines so far (private).
-use Rattle.std.specs.Prelude.{◌≡◌, ◌+◌, Bool, true, false, List, [], ◌∷◌}
-use Rattle.cal_script.specs.declared.script.Script.{Script}
+use Rattle.std.specs.Prelude.{◌≡◌, ℕ, ◌+◌, ◌++◌, option_to_list, ◌≤◌, Bool, true, false, List, [], length, Option, Some, None, if◌then◌else◌, IsTrue}
 use Rattle.cal_script.specs.declared.script.Line.{Line}
 use Rattle.cal_script.specs.declared.reader.Reader.{Reader}
-use Rattle.cal_script.specs.Depth.{opened, closed}
-use Rattle.cal_script.specs.Shape.{IsScript}
+use Rattle.cal_script.specs.declared.tally.Tally.{Tally}
+use Rattle.cal_script.specs.Limits.{arena, fits}
+use Rattle.cal_script.specs.Registers.{IsAttributes, IsChannels, IsGlobals}
+use Rattle.cal_script.specs.State.{State}
 
--- the threads where one has begun, and where none has
-abbrev pub threads_of : Bool → List Line → List (List Line)
-threads_of true lines = lines ∷ []
-threads_of false lines = []
+-- the lines of the last thread, where one has begun
+abbrev pub last_thread : Bool → List Line → Option (List Line)
+last_thread in_thread lines = if in_thread then Some lines else None
 
--- the script so far
-abbrev pub script_of : Reader → Script
-script_of reader = record {
-  attributes = reader.attributes;
-  channels = reader.channels;
+-- what stands so far
+abbrev pub state_of : Reader → State
+state_of reader = record {
+  attributes = reader.attributes.items;
+  channels = reader.channels.items;
+  valued = reader.valued;
+  globals = reader.globals.items;
   values = reader.values;
-  threads = threads_of reader.in_thread reader.lines;
+  earlier = reader.earlier;
+  thread = last_thread reader.in_thread reader.lines;
+  tally = reader.tally;
 }
 
--- The counters are those of the lines so far, which are a script.
+-- Names are found by hash, and each value stands in a line.
 pub record IsReading (reader : Reader) : Type 0 where
-  pub script : IsScript (script_of reader)
-  pub idle : reader.in_thread ≡ false → reader.lines ≡ []
-  pub counted : closed reader.lines + reader.depth ≡ opened reader.lines
+  pub attributes : IsAttributes reader.attributes
+  pub channels : IsChannels reader.channels
+  pub globals : IsGlobals reader.globals
+  pub few_values : length reader.values ≤ reader.tally.lines
+
+-- So much has been counted where no limit is passed, that the counts of one line more are counts.
+pub record IsSmall (tally : Tally) : Type 0 where
+  pub lines : tally.lines ≤ 1048576
+  pub process_lines : tally.process_lines ≤ 65536
+  pub shared : tally.shared ≤ 134217728
+  pub own : tally.own ≤ 134217728
+  pub most : tally.most ≤ 134217728
+
+-- The same behind a line.
+pub record IsNear (tally : Tally) : Type 0 where
+  pub lines : tally.lines ≤ 1048577
+  pub process_lines : tally.process_lines ≤ 65537
+  pub shared : tally.shared ≤ 134218244
+  pub own : tally.own ≤ 134218244
+  pub most : tally.most ≤ 134217728
+
+-- A header line leaves the lines of threads.
+pub record SameLines (old new : Reader) : Type 0 where
+  pub earlier : new.earlier ≡ old.earlier
+  pub tally : new.tally ≡ old.tally
+
+-- The last thread is one of the earlier ones.
+pub record IsEnded (old new : Reader) : Type 0 where
+  pub earlier : new.earlier ≡ old.earlier ++ option_to_list (last_thread old.in_thread old.lines)
+  pub lines : new.lines ≡ []
+  pub same : state_of new ≡ record (state_of old) {
+    earlier = new.earlier;
+    thread = last_thread old.in_thread [];
+  }

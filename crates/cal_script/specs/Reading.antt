@@ -1,124 +1,201 @@
--- What the lines of a script say, one after another. What stands here is the part of the grammar
--- that is read so far: a line that isn't of it may not stand.
-use Rattle.std.specs.Prelude.{ℕ, Bool, List, [], ◌∷◌, ◌++◌, length, Option, Some, None, codes, sum_by, nat_lt, not, ◌==◌, ◌&&◌, if◌then◌else◌}
+-- What each line of a script makes of what stands before it, or what kind of fault it has there.
+-- The tests of a line stand in their order: where it may stand, its words, its channel's services,
+-- and then its words from the left.
+use Rattle.std.specs.Prelude.{◌≡◌, ℕ, Bool, true, false, List, [], ◌∷◌, ◌++◌, length, Option, Some, None, Result, Ok, Err, codes, is_some, is_none, not, ◌==◌, ◌&&◌, ◌||◌, if◌then◌else◌}
+use Rattle.std.specs.Prelude.{map, slice_get, take, ◌-◌}
+use Rattle.std.specs.Option.{ok_or, option_to_list}
 use Rattle.std.specs.Str.{bytes_eq, is_utf8}
+use Rattle.cal_value.specs.Props.{has_process_scope, is_global}
+use Rattle.cal_value.specs.declared.attribute.Attribute.{Attribute}
+use Rattle.cal_value.specs.declared.attribute.Entry.{Entry}
 use Rattle.cal_value.specs.declared.variant.Variant.{Variant}
-use Rattle.cal_value.specs.declared.variant.Variant.TheVariants.{Text}
+use Rattle.cal_input.specs.FirstFault.{◌>>=◌, after_lines}
+use Rattle.cal_script.specs.declared.kind.ScriptKind.{ScriptKind}
+use Rattle.cal_script.specs.declared.kind.ScriptKind.TheVariants.{NotText, UnknownWord, Misplaced, WrongArity, NotAggregate, DuplicateName, NotGlobal, TooMany}
 use Rattle.cal_script.specs.declared.script.Script.{Script}
-use Rattle.cal_script.specs.declared.script.Line.{Line}
-use Rattle.cal_script.specs.declared.script.Line.TheVariants.{Begin, End, Snapshot}
-use Rattle.cal_script.specs.Lines.{lines_of, words_of, is_skipped}
-use Rattle.cal_script.specs.Parts.{◌>>=◌, attribute_of, channel_of, opening_of, closing_of}
-use Rattle.cal_script.specs.Depth.{open_count}
-use Rattle.cal_script.specs.Values.{with_value, value_place}
+use Rattle.cal_script.specs.declared.script.Channel.{Channel}
+use Rattle.cal_script.specs.declared.script.ChannelQuery.{ChannelQuery}
+use Rattle.cal_script.specs.declared.script.Line as lines
+use Rattle.cal_script.specs.declared.script.Line.TheVariants as line
+use Rattle.cal_script.specs.declared.opening.Opening.{Opening}
+use Rattle.cal_script.specs.Lines.{lines_of, words_of, is_skipped, no_word, one_word, two_words, three_words, some_words, word_and_rest}
+use Rattle.cal_script.specs.Parts.{attribute_names, attribute_named, attribute_of, channel_named, channel_of, is_among, number_said, value_said, with_name}
+use Rattle.cal_script.specs.State.{State, no_lines, next_thread, opening, script_of, with_line, with_opening}
+use Rattle.cal_script.specs.Limits.{fits}
 
--- the script without lines
-abbrev pub no_lines : Script
-no_lines = record { attributes = []; channels = []; values = []; threads = [] }
+-- a header line stands before the first `thread` line, and a line of a thread behind one
+abbrev pub in_header : {A : Type 0} → State → Result A ScriptKind → Result A ScriptKind
+in_header state said = if is_some state.thread then Err Misplaced else said
 
--- the lines of the last thread
-abbrev pub last_thread : List (List Line) → List Line
-last_thread [] = []
-last_thread (thread ∷ []) = thread
-last_thread (thread ∷ next ∷ threads) = last_thread (next ∷ threads)
+abbrev pub in_thread : {A : Type 0} → State → Result A ScriptKind → Result A ScriptKind
+in_thread state said = if is_some state.thread then said else Err Misplaced
 
--- the threads with one line more in the last
-abbrev pub add_line : Line → List (List Line) → List (List Line)
-add_line line [] = []
-add_line line (thread ∷ []) = (thread ++ line ∷ []) ∷ []
-add_line line (thread ∷ next ∷ threads) = thread ∷ add_line line (next ∷ threads)
+-- `attribute NAME KIND PROPS`
+abbrev pub attribute_after : State → List (List ℕ) → Result State ScriptKind
+attribute_after state words = in_header state (do
+  three ← ok_or (three_words words) WrongArity
+  attribute ← attribute_of state.attributes three
+  Ok (record state { attributes = state.attributes ++ attribute ∷ [] }))
 
--- A line of a thread may stand behind a `thread` line, and 1,048,576 of them in a script (Giltmoth's
--- limit).
-abbrev pub has_room : Script → Bool
-has_room script = nat_lt 0 (length script.threads) && nat_lt (sum_by length script.threads) 1048576
+-- `global NAME VALUE`, once for an attribute that is a global's
+abbrev pub global_names : List Entry → List (List ℕ)
+global_names globals = map (λ entry. entry.attr.name) globals
 
--- how many values are open in the last thread
-abbrev pub open_now : Script → ℕ
-open_now script = open_count (last_thread script.threads)
+abbrev pub global_of : State → List ℕ × List ℕ → Result Entry ScriptKind
+global_of state words =
+    if is_among (global_names state.globals) words.0 then Err DuplicateName
+    else (do
+      named ← attribute_named state.attributes words.0
+      attribute ← ok_or (if is_global named.1.props then Some named.1 else None) NotGlobal
+      value ← value_said attribute.kind words.1
+      Ok (record { attr = attribute; value = value }))
 
--- `attribute ..` stands first
-abbrev pub attribute_after : Script → List (List ℕ) → Option Script
-attribute_after script words = do
-  attribute ← attribute_of words
-  if length script.attributes == 0
-      then Some (record script { attributes = script.attributes ++ attribute ∷ [] }) else None
+abbrev pub global_after : State → List (List ℕ) → Result State ScriptKind
+global_after state words = in_header state (do
+  two ← ok_or (word_and_rest words) WrongArity
+  entry ← global_of state two
+  Ok (record state { globals = state.globals ++ entry ∷ [] }))
 
--- `channel ..` stands behind the attribute
-abbrev pub channel_after : Script → List (List ℕ) → Option Script
-channel_after script words = do
-  channel ← channel_of words
-  if length script.attributes == 1 && length script.channels == 0
-      then Some (record script { channels = script.channels ++ channel ∷ [] }) else None
+-- `channel NAME SERVICES`
+abbrev pub channel_after : State → List (List ℕ) → Result State ScriptKind
+channel_after state words = in_header state (do
+  two ← ok_or (two_words words) WrongArity
+  channel ← channel_of state.channels two
+  Ok (record state { channels = state.channels ++ channel ∷ []; valued = false }))
 
--- `thread` stands behind the channel
-abbrev pub thread_after : Script → List (List ℕ) → Option Script
-thread_after script [] =
-    if length script.channels == 1 && length script.threads == 0
-    then Some (record script { threads = script.threads ++ [] ∷ [] }) else None
-thread_after script (word ∷ words) = None
+-- the channel declared last, and those before it
+abbrev pub last_channel : List Channel → Option Channel
+last_channel channels = slice_get channels (length channels - 1)
 
--- the script with a line more that opens a value of an attribute: the values with this one, and the
--- line names its place there
-abbrev pub begun : Script → ℕ → Variant → Script
-begun script attr value =
-    let values = with_value script.values value in
-    record script {
-      values = values;
-      threads = add_line (Begin attr (value_place values value)) script.threads;
-    }
+abbrev pub earlier_channels : List Channel → List Channel
+earlier_channels channels = take (length channels - 1) channels
 
--- `begin ..` opens a value, where fewer than 128 are open (Giltmoth's limit)
-abbrev pub begin_after : Script → List (List ℕ) → Option Script
-begin_after script words = do
-  opening ← opening_of script.attributes words
-  if has_room script && nat_lt (open_now script) 128
-      then Some (begun script opening.0 (Text opening.1)) else None
+-- the names of a `key` or `value` line of a channel, which aggregates
+abbrev pub names_said : Channel → List (List ℕ) → Result (List (List ℕ)) ScriptKind
+names_said channel words = do
+  names ← ok_or (some_words words) WrongArity
+  if channel.aggregate then Ok names else Err NotAggregate
 
--- `end ..` closes the value that was opened last
-abbrev pub end_after : Script → List (List ℕ) → Option Script
-end_after script words = do
-  attr ← closing_of script.attributes words
-  if has_room script && nat_lt 0 (open_now script)
-      then Some (record script { threads = add_line (End attr) script.threads }) else None
+-- `key NAME NAME` and so on, once for a channel
+abbrev pub keyed : List (List ℕ) → Channel → List (List ℕ) → Result Channel ScriptKind
+keyed declared channel words =
+    if not channel.query.by_default then Err Misplaced
+    else (do
+      names ← names_said channel words
+      keys ← after_lines (with_name true declared) [] names
+      Ok (record channel { query = record channel.query { by_default = false; keys = keys } }))
 
--- `snapshot` looks at the values that are open
-abbrev pub snapshot_after : Script → List (List ℕ) → Option Script
-snapshot_after script [] =
-    if has_room script
-    then Some (record script { threads = add_line Snapshot script.threads }) else None
-snapshot_after script (word ∷ words) = None
+abbrev pub key_after : State → List (List ℕ) → Result State ScriptKind
+key_after state words = in_header state (do
+  channel ← ok_or (last_channel state.channels) Misplaced
+  channel ← keyed (attribute_names state.attributes) channel words
+  Ok (record state { channels = earlier_channels state.channels ++ channel ∷ [] }))
+
+-- `value NAME NAME` and so on, once for a channel
+abbrev pub with_values : List (List ℕ) → Channel → List (List ℕ) → Result Channel ScriptKind
+with_values declared channel words = do
+  names ← names_said channel words
+  values ← after_lines (with_name false declared) [] names
+  Ok (record channel { query = record channel.query { values = values } })
+
+abbrev pub value_after : State → List (List ℕ) → Result State ScriptKind
+value_after state words = in_header state (do
+  channel ← ok_or (last_channel state.channels) Misplaced
+  channel ← (if state.valued then Err Misplaced
+      else with_values (attribute_names state.attributes) channel words)
+  Ok (record state {
+    channels = earlier_channels state.channels ++ channel ∷ [];
+    valued = true;
+  }))
+
+-- `thread`
+abbrev pub thread_after : State → List (List ℕ) → Result State ScriptKind
+thread_after state words =
+    if no_word words
+    then Ok (record state {
+      earlier = state.earlier ++ option_to_list state.thread;
+      thread = Some [];
+      tally = next_thread state.tally;
+    })
+    else Err WrongArity
+
+-- `begin NAME VALUE` and `set NAME VALUE`
+abbrev pub opening_said : State → List (List ℕ) → Result Opening ScriptKind
+opening_said state words = do
+  two ← ok_or (word_and_rest words) WrongArity
+  named ← attribute_named state.attributes two.0
+  value ← value_said named.1.kind two.1
+  Ok (opening named.0 named.1 value)
+
+abbrev pub opening_after : (ℕ → ℕ → lines.Line) → State → List (List ℕ) → Result State ScriptKind
+opening_after line_of state words = in_thread state (do
+  opening ← opening_said state words
+  Ok (with_opening line_of opening state))
+
+-- `end NAME`
+abbrev pub end_after : State → List (List ℕ) → Result State ScriptKind
+end_after state words = in_thread state (do
+  name ← ok_or (one_word words) WrongArity
+  named ← attribute_named state.attributes name
+  Ok (with_line (line.End named.0) (has_process_scope named.1.props) 0 state))
+
+-- `snapshot`
+abbrev pub snapshot_after : State → List (List ℕ) → Result State ScriptKind
+snapshot_after state words = in_thread state
+    (if no_word words then Ok (with_line line.Snapshot false 0 state) else Err WrongArity)
+
+-- `flush CHANNEL`, of a channel that aggregates
+abbrev pub flush_after : State → List (List ℕ) → Result State ScriptKind
+flush_after state words = in_thread state (do
+  name ← ok_or (one_word words) WrongArity
+  named ← channel_named state.channels name
+  if named.1.aggregate then Ok (with_line (line.Flush named.0) false 0 state)
+      else Err NotAggregate)
+
+-- `tick N`
+abbrev pub tick_after : State → List (List ℕ) → Result State ScriptKind
+tick_after state words = in_thread state (do
+  word ← ok_or (one_word words) WrongArity
+  n ← number_said word
+  Ok (with_line (line.Tick n) false 0 state))
 
 -- a line goes by its first word
-abbrev pub words_after : Script → List (List ℕ) → Option Script
-words_after script [] = None
-words_after script (word ∷ words) =
-    if bytes_eq word (codes "attribute") then attribute_after script words
-    else (if bytes_eq word (codes "channel") then channel_after script words
-    else (if bytes_eq word (codes "thread") then thread_after script words
-    else (if bytes_eq word (codes "begin") then begin_after script words
-    else (if bytes_eq word (codes "end") then end_after script words
-    else (if bytes_eq word (codes "snapshot") then snapshot_after script words
-    else None)))))
+abbrev pub words_after : State → List (List ℕ) → Result State ScriptKind
+words_after state [] = Err UnknownWord
+words_after state (word ∷ words) =
+    if bytes_eq word (codes "attribute") then attribute_after state words
+    else (if bytes_eq word (codes "global") then global_after state words
+    else (if bytes_eq word (codes "channel") then channel_after state words
+    else (if bytes_eq word (codes "key") then key_after state words
+    else (if bytes_eq word (codes "value") then value_after state words
+    else (if bytes_eq word (codes "thread") then thread_after state words
+    else (if bytes_eq word (codes "begin") then opening_after line.Begin state words
+    else (if bytes_eq word (codes "set") then opening_after line.Set state words
+    else (if bytes_eq word (codes "end") then end_after state words
+    else (if bytes_eq word (codes "snapshot") then snapshot_after state words
+    else (if bytes_eq word (codes "flush") then flush_after state words
+    else (if bytes_eq word (codes "tick") then tick_after state words
+    else Err UnknownWord)))))))))))
 
--- What a line makes of the script that stands before it, or nothing where the line may not stand
--- there. A line is UTF-8.
-unfoldable pub line_after : Script → List ℕ → Option Script
-line_after script line =
-    if not (is_utf8 line) then None
-    else (if is_skipped line then Some script else words_after script (words_of line))
+-- A line is UTF-8, and passes no limit.
+unfoldable pub line_after : State → List ℕ → Result State ScriptKind
+line_after state line =
+    if not (is_utf8 line) then Err NotText
+    else (if is_skipped line then Ok state
+    else (do
+      next ← words_after state (words_of line)
+      if fits next then Ok next else Err TooMany))
 
--- what further lines make of a script
-abbrev pub lines_after : Script → List (List ℕ) → Option Script
-lines_after script [] = Some script
-lines_after script (line ∷ lines) = do
-  next ← line_after script line
-  lines_after next lines
+-- the script that bytes say, or the kind of their first fault
+abbrev pub meaning : List ℕ → Result Script ScriptKind
+meaning bytes = do
+  state ← after_lines line_after no_lines (lines_of bytes)
+  Ok (script_of state)
 
--- the script that lines say, if each of them may stand where it does
-abbrev pub reading : List (List ℕ) → Option Script
-reading lines = lines_after no_lines lines
+-- The bytes mean the script.
+abbrev pub Means : List ℕ → Script → Type 0
+Means bytes script = meaning bytes ≡ Ok script
 
--- the script that bytes say
-abbrev pub meaning : List ℕ → Option Script
-meaning bytes = reading (lines_of bytes)
+-- A valid script is one that some bytes mean.
+abbrev pub IsValidScript : Script → Type 0
+IsValidScript script = (bytes : List ℕ) × Means bytes script

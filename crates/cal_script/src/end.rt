@@ -9,7 +9,7 @@ use thiserror::Error;
 /// Why there is no script.
 #[derive(Clone, Copy, Debug, PartialEq, Eq, Error)]
 pub enum ScriptEnd {
-    /// The first line that may not stand where it does. All lines are counted, from 1.
+    /// The first line that has a fault, and its kind. All lines are counted, from 1.
     #[error("line {line}: {kind}")]
     BadLine { line: u64, kind: ScriptKind },
     #[error("out of memory")]
@@ -38,6 +38,3 @@ impl From<OutOfMemory> for LineEnd {
         LineEnd::OutOfMemory
     }
 }
-
-/// A line that may not stand where it does.
-pub(crate) const BAD: LineEnd = LineEnd::Bad(ScriptKind::NotYet);

@@ -1,204 +1,199 @@
-ghost use Rattle.std.specs.Prelude.{◌≡◌, length, IfOk, OnOk};
+ghost use Rattle.std.specs.Prelude.{◌≡◌, ◌<◌, ◌≤◌, ◌^◌, ◌++◌, ◌∷◌, length, option_to_list, true, IfOk, OnOk, IsTrue};
+ghost use Rattle.cal_script.specs.Limits.{fits, thread_count};
 ghost use Rattle.cal_script.specs.Lines.{words_of};
-ghost use Rattle.cal_script.specs.Reading.{no_lines, has_room, open_now, attribute_after, channel_after, thread_after, begin_after, end_after, snapshot_after, words_after, line_after};
-ghost use Rattle.cal_script.specs.Reader.{IsReading, script_of, threads_of};
+ghost use Rattle.cal_script.specs.Reader.{IsNear, IsReading, IsSmall, last_thread, state_of};
+ghost use Rattle.cal_script.specs.Reading.{line_after, words_after};
+ghost use Rattle.cal_script.specs.State.{no_lines, script_of, with_line};
 ghost use Rattle.cal_script.specs.Steps.{Gives, words_behind};
 
-use crate::end::{BAD, LineEnd};
-use crate::parts::{attribute_of, channel_of, closing_of, opening_of};
+use crate::end::LineEnd;
+use crate::register::Register;
+use crate::tally::{Tally, tree_words};
 use crate::words::{first_word, is_skipped};
-use crate::{Channel, Line, Script};
-use cal_context::Interner;
-use cal_value::{Attribute, OutOfMemory, Seq, Variant};
+use crate::{Channel, Line, Script, ScriptKind};
+use cal_value::{Attribute, Entry, OutOfMemory, Seq, Variant};
 use std::alloc::Global;
 
-const MOST_LINES: usize = 1_048_576;
+const MOST_ATTRIBUTES: usize = 1_024;
 
-const MOST_OPEN: usize = 128;
+const MOST_CHANNELS: usize = 16;
 
-/// What the lines of a script say so far. Beside the lines of the thread stands how many values
-/// they leave open.
+const MOST_THREADS: u64 = 64;
+
+const MOST_LINES: u64 = 1_048_576;
+
+const MOST_PROCESS_LINES: u64 = 65_536;
+
+const MOST_TREE_WORDS: u64 = 134_217_728;
+
+/// What the lines of a script have said so far. After an `Err` it is of no more use.
 #[derive(Drop)]
 pub(crate) struct Reader {
-    attributes: Seq<Attribute>,
-    channels: Seq<Channel>,
-    values: Interner<Variant>,
-    in_thread: bool,
-    lines: Seq<Line>,
-    depth: usize,
+    pub(crate) attributes: Register<Attribute>,
+    pub(crate) channels: Register<Channel>,
+    pub(crate) valued: bool,
+    pub(crate) globals: Register<Entry>,
+    pub(crate) values: Seq<Variant>,
+    pub(crate) earlier: Seq<Seq<Line>>,
+    pub(crate) in_thread: bool,
+    pub(crate) lines: Seq<Line>,
+    pub(crate) tally: Tally,
 }
 
 impl Reader {
     /// The reader before the first line. It takes no memory.
     pub(crate) fn new(alloc: Global) -> Self
-        ensures start { script_of result ≡ no_lines }
+        ensures start { state_of result ≡ no_lines }
         ensures kept { IsReading result }
+        ensures fits { fits (state_of result) ≡ true }
     {
         Reader {
-            attributes: Seq::new(alloc),
-            channels: Seq::new(alloc),
-            values: Interner::new(alloc),
+            attributes: Register::new(alloc),
+            channels: Register::new(alloc),
+            valued: false,
+            globals: Register::new(alloc),
+            values: Seq::new(alloc),
+            earlier: Seq::new(alloc),
             in_thread: false,
             lines: Seq::new(alloc),
-            depth: 0,
+            tally: Tally {
+                lines: 0,
+                process_lines: 0,
+                shared: 0,
+                own: 0,
+                most: 0,
+            },
         }
     }
 
-    /// Reads the next line. After an `Err` the reader is of no more use.
-    #[tactic(auto, unfolding(crate::specs::Reading::line_after), using(crate::proofs::Cuts::texts))]
+    /// Reads the next line.
     pub(crate) fn read_line(&mut self, alloc: Global, line: &[u8]) -> Result<(), LineEnd>
-        requires { IsReading self.old }
-        ensures said { Gives (λ _. script_of self.new) result
-            (line_after (script_of self.old) line.now) }
+        requires kept { IsReading self.old }
+        requires fits { fits (state_of self.old) ≡ true }
+        ensures said { Gives (λ _. state_of self.new) result
+            (line_after (state_of self.old) line.now) }
         ensures kept { OnOk result (IsReading self.new) }
+        ensures fits { OnOk result (fits (state_of self.new) ≡ true) }
     {
         let Ok(text) = std::str::from_utf8(line) else {
-            return Err(BAD);
+            return Err(LineEnd::Bad(ScriptKind::NotText));
         };
         if is_skipped(line) {
             return Ok(());
         }
-        self.read_words(alloc, text)
-    }
-
-    /// The script that all lines say.
-    pub(crate) fn into_script(self, alloc: Global) -> Result<Script, OutOfMemory>
-        ensures { IfOk result (λ script. script ≡ script_of self) }
-    {
-        let Reader {
-            attributes,
-            channels,
-            values,
-            in_thread,
-            lines,
-            depth: _,
-        } = self;
-        let mut threads = Seq::new(alloc);
-        if in_thread {
-            threads.push(lines)?;
+        self.read_words(alloc, text)?;
+        if !self.fits() {
+            return Err(LineEnd::Bad(ScriptKind::TooMany));
         }
-        Ok(Script {
-            attributes,
-            channels,
-            values,
-            threads,
-        })
+        Ok(())
     }
 
+    fn thread_count(&self) -> u64
+        requires { length self.now.earlier < 65 }
+        ensures { result ≡ thread_count (state_of self.now) }
+    {
+        let earlier = self.earlier.len() as u64;
+        if self.in_thread { earlier + 1 } else { earlier }
+    }
+
+    /// Whether no limit is passed.
+    fn fits(&self) -> bool
+        requires threads { length self.now.earlier < 65 }
+        requires near { IsNear self.now.tally }
+        ensures { result ≡ fits (state_of self.now) }
+    {
+        let threads = self.thread_count();
+        self.attributes.items.len() <= MOST_ATTRIBUTES
+            && self.channels.items.len() <= MOST_CHANNELS
+            && threads <= MOST_THREADS
+            && self.tally.lines <= MOST_LINES
+            && self.tally.process_lines <= MOST_PROCESS_LINES
+            && tree_words(threads, self.tally.arena()) <= MOST_TREE_WORDS
+    }
+
+    /// Reads a line by its words.
     fn read_words(&mut self, alloc: Global, line: &str) -> Result<(), LineEnd>
-        requires { IsReading self.old }
-        ensures said { Gives (λ _. script_of self.new) result
-            (words_after (script_of self.old) (words_of line.now)) }
+        requires kept { IsReading self.old }
+        requires fits { fits (state_of self.old) ≡ true }
+        ensures said { Gives (λ _. state_of self.new) result
+            (words_after (state_of self.old) (words_of line.now)) }
         ensures kept { OnOk result (IsReading self.new) }
+        ensures threads { OnOk result (length self.new.earlier < 65) }
+        ensures near { OnOk result (IsNear self.new.tally) }
     {
         let (word, rest) = first_word(line);
         match word {
             "attribute" => self.read_attribute(alloc, rest),
+            "global" => self.read_global(alloc, rest),
             "channel" => self.read_channel(alloc, rest),
-            "thread" => self.read_thread(rest),
+            "key" => self.read_key(alloc, rest),
+            "value" => self.read_value(alloc, rest),
+            "thread" => self.read_thread(alloc, rest),
             "begin" => self.read_begin(alloc, rest),
+            "set" => self.read_set(alloc, rest),
             "end" => self.read_end(rest),
             "snapshot" => self.read_snapshot(rest),
-            _ => Err(BAD),
+            "flush" => self.read_flush(rest),
+            "tick" => self.read_tick(alloc, rest),
+            _ => Err(LineEnd::Bad(ScriptKind::UnknownWord)),
         }
     }
 
-    fn read_attribute(&mut self, alloc: Global, rest: Option<&str>) -> Result<(), LineEnd>
-        requires { IsReading self.old }
-        ensures said { Gives (λ _. script_of self.new) result
-            (attribute_after (script_of self.old) (words_behind rest.entry)) }
-        ensures kept { OnOk result (IsReading self.new) }
+    /// Adds a line to the last thread. Its node has so many words.
+    pub(crate) fn add_line(
+        &mut self,
+        line: Line,
+        process: bool,
+        words: u64,
+    ) -> Result<(), OutOfMemory>
+        requires thread { IsTrue self.old.in_thread }
+        requires small { IsSmall self.old.tally }
+        requires words { words ≤ 516 }
+        ensures added { OnOk result
+            (state_of self.new ≡ with_line line process words (state_of self.old)) }
+        ensures near { OnOk result (IsNear self.new.tally) }
     {
-        let attribute = attribute_of(alloc, rest)?;
-        if !self.attributes.is_empty() {
-            return Err(BAD);
-        }
-        self.attributes.push(attribute)?;
+        self.lines.push(line)?;
+        self.tally = self.tally.counted(process, words);
         Ok(())
     }
 
-    fn read_channel(&mut self, alloc: Global, rest: Option<&str>) -> Result<(), LineEnd>
-        requires { IsReading self.old }
-        ensures said { Gives (λ _. script_of self.new) result
-            (channel_after (script_of self.old) (words_behind rest.entry)) }
-        ensures kept { OnOk result (IsReading self.new) }
+    /// The script that all lines say.
+    pub(crate) fn into_script(self) -> Result<Script, OutOfMemory>
+        ensures { IfOk result (λ script. script ≡ script_of (state_of self)) }
     {
-        let channel = channel_of(alloc, rest)?;
-        if self.attributes.len() != 1 || !self.channels.is_empty() {
-            return Err(BAD);
-        }
-        self.channels.push(channel)?;
-        Ok(())
+        let Reader {
+            attributes,
+            channels,
+            valued: _,
+            globals,
+            values,
+            earlier,
+            in_thread,
+            lines,
+            tally: _,
+        } = self;
+        Ok(Script {
+            attributes: attributes.into_items(),
+            channels: channels.into_items(),
+            values,
+            threads: all_threads(earlier, in_thread, lines)?,
+            globals: globals.into_items(),
+        })
     }
+}
 
-    #[tactic(auto, using(crate::proofs::Cuts::thread_after_more))]
-    fn read_thread(&mut self, rest: Option<&str>) -> Result<(), LineEnd>
-        requires { IsReading self.old }
-        ensures said { Gives (λ _. script_of self.new) result
-            (thread_after (script_of self.old) (words_behind rest.entry)) }
-        ensures kept { OnOk result (IsReading self.new) }
-    {
-        if let Some(_) = rest {
-            return Err(BAD);
-        }
-        if self.channels.len() != 1 || self.in_thread {
-            return Err(BAD);
-        }
-        self.in_thread = true;
-        Ok(())
+/// The threads with the last, where one has begun.
+fn all_threads(
+    mut earlier: Seq<Seq<Line>>,
+    in_thread: bool,
+    lines: Seq<Line>,
+) -> Result<Seq<Seq<Line>>, OutOfMemory>
+    ensures { IfOk result (λ threads. threads
+        ≡ earlier ++ option_to_list (last_thread in_thread lines)) }
+{
+    if in_thread {
+        earlier.push(lines)?;
     }
-
-    fn has_room(&self) -> bool
-        ensures { result ≡ has_room (script_of self.now) }
-    {
-        self.in_thread && self.lines.len() < MOST_LINES
-    }
-
-    fn read_begin(&mut self, alloc: Global, rest: Option<&str>) -> Result<(), LineEnd>
-        requires { IsReading self.old }
-        ensures said { Gives (λ _. script_of self.new) result
-            (begin_after (script_of self.old) (words_behind rest.entry)) }
-        ensures kept { OnOk result (IsReading self.new) }
-    {
-        let (attr, text) = opening_of(alloc, self.attributes.as_slice(), rest)?;
-        if !self.has_room() || self.depth >= MOST_OPEN {
-            return Err(BAD);
-        }
-        let value = self.values.intern(Variant::Text(text))?;
-        self.lines.push(Line::Begin { attr, value })?;
-        self.depth += 1;
-        Ok(())
-    }
-
-    fn read_end(&mut self, rest: Option<&str>) -> Result<(), LineEnd>
-        requires { IsReading self.old }
-        ensures said { Gives (λ _. script_of self.new) result
-            (end_after (script_of self.old) (words_behind rest.entry)) }
-        ensures kept { OnOk result (IsReading self.new) }
-    {
-        let attr = closing_of(self.attributes.as_slice(), rest)?;
-        if !self.has_room() || self.depth == 0 {
-            return Err(BAD);
-        }
-        self.lines.push(Line::End { attr })?;
-        self.depth -= 1;
-        Ok(())
-    }
-
-    #[tactic(auto, using(crate::proofs::Cuts::snapshot_after_more))]
-    fn read_snapshot(&mut self, rest: Option<&str>) -> Result<(), LineEnd>
-        requires { IsReading self.old }
-        ensures said { Gives (λ _. script_of self.new) result
-            (snapshot_after (script_of self.old) (words_behind rest.entry)) }
-        ensures kept { OnOk result (IsReading self.new) }
-    {
-        if let Some(_) = rest {
-            return Err(BAD);
-        }
-        if !self.has_room() {
-            return Err(BAD);
-        }
-        self.lines.push(Line::Snapshot)?;
-        Ok(())
-    }
+    Ok(earlier)
 }

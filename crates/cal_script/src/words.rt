@@ -1,16 +1,9 @@
-ghost use Rattle.std.specs.Prelude.{◌≡◌, ◌∷◌};
-ghost use Rattle.cal_script.specs.Lines.{words_of, is_skipped};
-ghost use Rattle.cal_script.specs.Steps.{words_behind};
-
-/// A line's first word, and what stands behind the space that ends it.
-pub(crate) fn first_word(line: &str) -> (&str, Option<&str>)
-    ensures { words_of line.now ≡ result.0.now ∷ words_behind result.1 }
-{
-    match line.split_once(' ') {
-        Some((word, rest)) => (word, Some(rest)),
-        None => (line, None),
-    }
-}
+ghost use Rattle.std.specs.Prelude.{◌≡◌, ◌∷◌, ◌<◌, ◌≤◌, length, Option, IfSome};
+ghost use Rattle.std.specs.List.{list_all};
+ghost use Rattle.std.specs.Option.{option_map};
+ghost use Rattle.cal_script.specs.Lines.{is_skipped, is_word, one_word, pieces, some_words, three_words};
+ghost use Rattle.cal_script.specs.Lines.{two_words, word_and_rest};
+ghost use Rattle.cal_script.specs.Steps.{pieces_behind, words_behind};
 
 /// Whether a line says nothing.
 pub(crate) fn is_skipped(line: &[u8]) -> bool
@@ -20,4 +13,104 @@ pub(crate) fn is_skipped(line: &[u8]) -> bool
         [] => true,
         [first, ..] => *first == b'#',
     }
+}
+
+/// A text's first piece, and what stands behind the mark that ends it.
+pub(crate) fn cut(text: &str, mark: char) -> (&str, Option<&str>)
+    requires { mark < 128 }
+    ensures pieces { pieces mark text.now ≡ result.0.now ∷ pieces_behind mark result.1 }
+    ensures shorter { IfSome result.1 (λ rest. length rest.now < length text.now) }
+{
+    match text.split_once(mark) {
+        Some((piece, rest)) => (piece, Some(rest)),
+        None => (text, None),
+    }
+}
+
+/// A line's first word, and what stands behind the space that ends it.
+pub(crate) fn first_word(line: &str) -> (&str, Option<&str>)
+    ensures { pieces 32 line.now ≡ result.0.now ∷ words_behind result.1 }
+{
+    cut(line, ' ')
+}
+
+/// The one word that stands there.
+#[tactic(auto, using(crate::proofs::Cuts::one_word_more))]
+pub(crate) fn one_word(rest: Option<&str>) -> Option<&str>
+    ensures { option_map (λ word. word.now) result ≡ one_word (words_behind rest.entry) }
+{
+    let (word, rest) = first_word(rest?);
+    if rest.is_some() || word.is_empty() {
+        return None;
+    }
+    Some(word)
+}
+
+/// The two words that stand there.
+#[tactic(auto, using(crate::proofs::Cuts::two_words_more))]
+pub(crate) fn two_words(rest: Option<&str>) -> Option<(&str, &str)>
+    ensures { option_map (λ words. (words.0.now, words.1.now)) result
+        ≡ two_words (words_behind rest.entry) }
+{
+    let (first, rest) = first_word(rest?);
+    let (second, rest) = first_word(rest?);
+    if rest.is_some() || first.is_empty() || second.is_empty() {
+        return None;
+    }
+    Some((first, second))
+}
+
+/// The three words that stand there.
+#[tactic(auto, using(crate::proofs::Cuts::three_words_more))]
+pub(crate) fn three_words(rest: Option<&str>) -> Option<(&str, &str, &str)>
+    ensures { option_map (λ words. (words.0.now, words.1.now, words.2.now)) result
+        ≡ three_words (words_behind rest.entry) }
+{
+    let (first, rest) = first_word(rest?);
+    let (second, rest) = first_word(rest?);
+    let (third, rest) = first_word(rest?);
+    if rest.is_some() || first.is_empty() || second.is_empty() || third.is_empty() {
+        return None;
+    }
+    Some((first, second, third))
+}
+
+/// The word that stands there, and the rest of the line behind a space.
+#[tactic(auto, using(crate::proofs::Cuts::word_and_rest_of))]
+pub(crate) fn word_and_rest(rest: Option<&str>) -> Option<(&str, &str)>
+    ensures { option_map (λ words. (words.0.now, words.1.now)) result
+        ≡ word_and_rest (words_behind rest.entry) }
+{
+    let (word, rest) = first_word(rest?);
+    let value = rest?;
+    if word.is_empty() {
+        return None;
+    }
+    Some((word, value))
+}
+
+fn are_words(text: &str) -> bool
+    ensures { result ≡ list_all is_word (pieces 32 text.now) }
+{
+    let mut rest = Some(text);
+    while let Some(text) = rest {
+        let (word, more) = cut(text, ' ');
+        if word.is_empty() {
+            return false;
+        }
+        rest = more;
+    }
+    true
+}
+
+/// The text of the words that stand there, of which there is one at least.
+#[tactic(auto, using(crate::proofs::Cuts::some_words_of))]
+pub(crate) fn some_words(rest: Option<&str>) -> Option<&str>
+    ensures { option_map (λ text. pieces 32 text.now) result ≡ some_words (words_behind rest.entry) }
+{
+    let text = rest?;
+    if !are_words(text) {
+        return None;
+    }
+    Some(text)
 }

@@ -9,8 +9,8 @@ use Rattle.cal_input.proofs.FirstFaults.{falls_whole, one_first}
 use Rattle.cal_input.specs.FirstFault.{after_lines}
 use Rattle.cal_line.specs.Lines as lines
 use Rattle.cal_read.specs.Stream.{line_step, no_lines}
-use Rattle.cal_script.specs.Lines.{lines_of}
-use Rattle.cal_script.proofs.Runs.{none_from_fault, first_fault_one}
+use Rattle.cal_first_form.specs.Lines.{lines_of}
+use Rattle.cal_first_form.proofs.Runs.{none_from_fault, first_fault_one}
 use Rattle.caliper.specs.Causes.{input_limit, Answers, BytesDecide, IsDue, ReadsInput}
 use Rattle.caliper.specs.Inputs.{IsFaultOf, IsTextOf}
 use Rattle.caliper.specs.declared.fault.Fault as faults

@@ -1,7 +1,7 @@
 -- What a fault is told as (ours).
 use Rattle.std.specs.Prelude.{ℕ, ◌+◌, List, [], ◌++◌, Option, Some, None, codes, decimal}
 use Rattle.cal_read.specs.Kinds as stream
-use Rattle.cal_script.specs.Kinds as script
+use Rattle.cal_first_form.specs.Kinds as script
 use Rattle.caliper.specs.declared.fault.Fault as faults
 use Rattle.caliper.specs.declared.fault.Fault.TheVariants as fault
 use Rattle.caliper.specs.declared.fault.InputKind.{InputKind}

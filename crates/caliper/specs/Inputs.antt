@@ -3,10 +3,10 @@ use Rattle.std.specs.Prelude.{◌≡◌, ℕ, List}
 use Rattle.std.specs.Option.{IsSomeAnd}
 use Rattle.cal_read.specs.Stream.{IsFault}
 use Rattle.cal_read.specs.declared.kind.StreamKind.{StreamKind}
-use Rattle.cal_script.specs.Faults.{IsFirstFault}
-use Rattle.cal_script.specs.Lines.{lines_of}
-use Rattle.cal_script.specs.Reading.{meaning}
-use Rattle.cal_script.specs.declared.kind.ScriptKind.TheVariants.{NotYet}
+use Rattle.cal_first_form.specs.Faults.{IsFirstFault}
+use Rattle.cal_first_form.specs.Lines.{lines_of}
+use Rattle.cal_first_form.specs.Reading.{meaning}
+use Rattle.cal_first_form.specs.declared.kind.ScriptKind.TheVariants.{NotYet}
 use Rattle.cal_query.specs.Layout.{IsLayout}
 use Rattle.caliper.specs.Texts.{text_of}
 use Rattle.caliper.specs.declared.fault.InputKind.{InputKind}

@@ -1,8 +1,8 @@
 ghost use Rattle.std.specs.Prelude.{◌≡◌, Some};
 ghost use Rattle.caliper.specs.Faults.{input_kind_name, status_of};
 
+use cal_first_form::ScriptKind;
 use cal_read::StreamKind;
-use cal_script::ScriptKind;
 
 /// Why a call wrote less than it was asked for.
 #[derive(Clone, Copy, Debug, PartialEq, Eq)]

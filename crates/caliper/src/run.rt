@@ -1,8 +1,8 @@
 ghost use Rattle.std.specs.Prelude.{◌≡◌, ◌≢◌, Some, Ok, IsErr, IfOk, IfErr, IfSome, IfNone};
 ghost use Rattle.std.specs.Result.{result_err};
 ghost use Rattle.cal_base.specs.Change.{Change, change_of};
-ghost use Rattle.cal_script.specs.Reading.{meaning};
-ghost use Rattle.cal_script.specs.Shape.{IsScript};
+ghost use Rattle.cal_first_form.specs.Reading.{meaning};
+ghost use Rattle.cal_first_form.specs.Shape.{IsScript};
 ghost use Rattle.caliper.specs.Causes.{Answers, BytesDecide, Causes, ReadsInput};
 ghost use Rattle.caliper.specs.Ends.{Tells};
 ghost use Rattle.caliper.specs.Faults.{report_of, status_of};
@@ -12,7 +12,7 @@ use crate::outcome::end;
 use crate::query::query;
 use crate::{Command, Fault, InputKind, Outcome, read_words, serial_text};
 use cal_base::{ReadEnd, Sink, Source, read_all};
-use cal_script::{Script, ScriptEnd, read_script};
+use cal_first_form::{Script, ScriptEnd, read_script};
 use std::alloc::Global;
 
 /// The most bytes that an input may have.

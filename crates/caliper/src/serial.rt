@@ -1,10 +1,10 @@
 ghost use Rattle.std.specs.Prelude.{◌≡◌, IfOk};
-ghost use Rattle.cal_script.specs.Shape.{IsScript};
+ghost use Rattle.cal_first_form.specs.Shape.{IsScript};
 ghost use Rattle.caliper.specs.Texts.{text_of};
 
 use cal_context::{Context, Snapshot};
 use cal_core::run_script;
-use cal_script::Script;
+use cal_first_form::Script;
 use cal_value::{OutOfMemory, Text};
 use cal_write::Writer;
 use std::alloc::Global;

@@ -1,6 +1,6 @@
 use cal_context::{Context, Snapshot, Taken};
 use cal_core::run_script;
-use cal_script::read_script;
+use cal_first_form::read_script;
 use cal_value::{Attribute, Entry, Kind, OutOfMemory, Props, Rec, Seq, Text, Variant};
 use cal_write::Writer;
 use std::alloc::Global;

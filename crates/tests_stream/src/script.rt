@@ -1,4 +1,4 @@
-use cal_script::{Line, ScriptEnd, ScriptKind, first_fault_law, read_script, spelling_law};
+use cal_first_form::{Line, ScriptEnd, ScriptKind, first_fault_law, read_script, spelling_law};
 use cal_value::{Kind, Props, Variant};
 use std::alloc::{AllocError, Global};
 use std::test::Fail;

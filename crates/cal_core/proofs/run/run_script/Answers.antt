@@ -1,6 +1,6 @@
 use Rattle.std.proofs.Common.{List, ◌<◌, length, subst}
 use Rattle.cal_context.proofs.CallerLemmas.{Grows-trans}
-use Rattle.cal_script.specs.declared.script.Channel.{Channel}
+use Rattle.cal_first_form.specs.declared.script.Channel.{Channel}
 use Rattle.cal_core.proofs.Numbering.{AreNumbered-Grows}
 use Rattle.cal_core.proofs.Running.{taken_more}
 use Rattle.cal_core.specs.Runs.{channel_records}

@@ -1,6 +1,6 @@
 use Rattle.std.proofs.Common.{[], ◌++◌, get_or, subst, sym, append-nil}
 use Rattle.cal_context.proofs.CallerLemmas.{Grows-refl, Grows-trans, TakesMore-trans, root_within, root_path}
-use Rattle.cal_script.specs.declared.script.Line.TheVariants.{Begin}
+use Rattle.cal_first_form.specs.declared.script.Line.TheVariants.{Begin}
 use Rattle.cal_core.proofs.Numbering.{AreNumbered-Grows}
 use Rattle.cal_core.proofs.Running.{snapshots_from-drop}
 use Rattle.cal_core.specs.Kept.{board_at}

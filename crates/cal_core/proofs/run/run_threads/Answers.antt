@@ -1,7 +1,7 @@
 use Rattle.std.proofs.Common.{List, ◌<◌, length, subst, get_or, ◌∙◌}
 use Rattle.cal_context.proofs.CallerLemmas.{Grows-trans}
 use Rattle.cal_context.specs.Taking.{TakesMore}
-use Rattle.cal_script.specs.declared.script.Line.{Line}
+use Rattle.cal_first_form.specs.declared.script.Line.{Line}
 use Rattle.cal_core.proofs.Numbering.{AreNumbered-Grows}
 use Rattle.cal_core.proofs.Running.{taken_more}
 use Rattle.cal_core.specs.Runs.{snapshots}

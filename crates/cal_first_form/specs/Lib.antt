@@ -1,0 +1,12 @@
+pub mod Lines
+pub mod Names
+pub mod Depth
+pub mod Parts
+pub mod Values
+pub mod Reading
+pub mod Kinds
+pub mod Spelled
+pub mod Faults
+pub mod Shape
+pub mod Steps
+pub mod Reader

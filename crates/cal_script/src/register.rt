@@ -1,0 +1,106 @@
+ghost use Rattle.std.specs.Prelude.{◌≡◌, ◌<◌, ◌++◌, ◌∷◌, [], List, ℕ, false, length, map, OnOk, IfSome};
+ghost use Rattle.cal_script.specs.Parts.{is_among, place_of};
+ghost use Rattle.cal_script.specs.Registers.{IsRegister};
+
+use cal_value::{Attribute, Entry, OutOfMemory, Seq, Text};
+use indexmap::IndexSet;
+use std::alloc::Global;
+
+use crate::Channel;
+
+/// What goes by a name.
+pub(crate) trait Named {
+    ghost name_of: { Self → List ℕ };
+
+    fn name(&self) -> &str
+        ensures { result.now ≡ name_of self.now };
+}
+
+impl Named for Attribute {
+    ghost name_of = { λ attribute. attribute.name };
+
+    fn name(&self) -> &str {
+        self.name.as_str()
+    }
+}
+
+impl Named for Entry {
+    ghost name_of = { λ entry. entry.attr.name };
+
+    fn name(&self) -> &str {
+        self.attr.name.as_str()
+    }
+}
+
+impl Named for Channel {
+    ghost name_of = { λ channel. channel.name };
+
+    fn name(&self) -> &str {
+        self.name.as_str()
+    }
+}
+
+impl Named for Text {
+    ghost name_of = { λ text. text };
+
+    fn name(&self) -> &str {
+        self.as_str()
+    }
+}
+
+/// Items in the order in which they came, found by their names, no two of which are equal.
+#[derive(Drop)]
+pub(crate) struct Register<T> {
+    pub(crate) items: Seq<T>,
+    names: IndexSet<String>,
+}
+
+impl<T: Named + Drop> Register<T> {
+    /// Nothing. It takes no memory.
+    pub(crate) fn new(alloc: Global) -> Self
+        ensures items { result.items ≡ [] }
+        ensures kept { IsRegister T.name_of result }
+    {
+        Register {
+            items: Seq::new(alloc),
+            names: IndexSet::new(alloc),
+        }
+    }
+
+    /// Whether an item has this name.
+    pub(crate) fn has(&self, name: &str) -> bool
+        requires { IsRegister T.name_of self.now }
+        ensures { result ≡ is_among (map T.name_of self.now.items) name.now }
+    {
+        self.names.contains(name)
+    }
+
+    /// The place of the item of this name.
+    pub(crate) fn place(&self, name: &str) -> Option<usize>
+        requires { IsRegister T.name_of self.now }
+        ensures place { result ≡ place_of (map T.name_of self.now.items) name.now }
+        ensures below { IfSome result (λ place. place < length self.now.items) }
+    {
+        self.names.get_index_of(name)
+    }
+
+    /// Adds an item, whose name no other has. After an `Err` the register is of no more use.
+    pub(crate) fn add(&mut self, alloc: Global, item: T) -> Result<(), OutOfMemory>
+        requires kept { IsRegister T.name_of self.old }
+        requires fresh { is_among (map T.name_of self.old.items) (T.name_of item) ≡ false }
+        ensures added { OnOk result (self.new.items ≡ self.old.items ++ item ∷ []) }
+        ensures kept { OnOk result (IsRegister T.name_of self.new) }
+    {
+        self.names.insert(String::from_str(alloc, item.name())?)?;
+        self.items.push(item)?;
+        Ok(())
+    }
+
+    /// The items alone.
+    pub(crate) fn into_items(self) -> Seq<T>
+        ensures { result ≡ self.items }
+    {
+        let Register { items, names: _ } = self;
+        items
+    }
+}

@@ -1,0 +1,234 @@
+ghost use Rattle.std.specs.Prelude.{◌≡◌, ◌<◌, ◌≤◌, ◌++◌, ◌∷◌, [], length, IfOk, OnOk, true};
+ghost use Rattle.std.specs.Option.{ok_or, option_map};
+ghost use Rattle.cal_script.specs.Limits.{fits};
+ghost use Rattle.cal_script.specs.Parts.{channel_named};
+ghost use Rattle.cal_script.specs.Reader.{IsEnded, IsNear, IsReading, state_of};
+ghost use Rattle.cal_script.specs.Reading.{end_after, flush_after, opening_after, snapshot_after};
+ghost use Rattle.cal_script.specs.Reading.{opening_said, thread_after, tick_after};
+ghost use Rattle.cal_script.specs.Steps.{Gives, words_behind};
+ghost use Rattle.cal_script.specs.declared.kind.ScriptKind.TheVariants as kinds;
+ghost use Rattle.cal_script.specs.declared.script.Line.TheVariants as line;
+
+use crate::end::LineEnd;
+use crate::opening::Opening;
+use crate::reader::Reader;
+use crate::tally::made_words;
+use crate::value::{read_number, read_value};
+use crate::words::{one_word, word_and_rest};
+use crate::{Channel, Line, ScriptKind};
+use cal_value::{OutOfMemory, Seq, Variant};
+use std::alloc::Global;
+use std::mem;
+
+/// The lines of threads.
+impl Reader {
+    /// Puts the last thread to the earlier ones, where one has begun.
+    fn end_thread(&mut self, alloc: Global) -> Result<(), OutOfMemory>
+        ensures { OnOk result (IsEnded self.old self.new) }
+    {
+        if self.in_thread {
+            let lines = mem::replace(&mut self.lines, Seq::new(alloc));
+            self.earlier.push(lines)?;
+        } else {
+            self.lines = Seq::new(alloc);
+        }
+        Ok(())
+    }
+
+    pub(crate) fn read_thread(&mut self, alloc: Global, rest: Option<&str>) -> Result<(), LineEnd>
+        requires kept { IsReading self.old }
+        requires fits { fits (state_of self.old) ≡ true }
+        ensures said { Gives (λ _. state_of self.new) result
+            (thread_after (state_of self.old) (words_behind rest.entry)) }
+        ensures kept { OnOk result (IsReading self.new) }
+        ensures threads { OnOk result (length self.new.earlier < 65) }
+        ensures near { OnOk result (IsNear self.new.tally) }
+    {
+        if rest.is_some() {
+            return Err(LineEnd::Bad(ScriptKind::WrongArity));
+        }
+        self.end_thread(alloc)?;
+        self.in_thread = true;
+        self.tally = self.tally.next_thread();
+        Ok(())
+    }
+
+    fn opening_of(&self, alloc: Global, rest: Option<&str>) -> Result<Opening, LineEnd>
+        requires kept { IsReading self.now }
+        requires fits { fits (state_of self.now) ≡ true }
+        ensures said { Gives (λ opening. opening) result
+            (opening_said (state_of self.now) (words_behind rest.entry)) }
+        ensures small { IfOk result (λ opening. opening.words ≤ 516) }
+    {
+        let Some((name, value)) = word_and_rest(rest) else {
+            return Err(LineEnd::Bad(ScriptKind::WrongArity));
+        };
+        let Some((attr, attribute)) = self.named(name) else {
+            return Err(LineEnd::Bad(ScriptKind::UnknownName));
+        };
+        let value = read_value(alloc, attribute.kind, value)?;
+        Ok(Opening {
+            attr,
+            process: attribute.props.has_process_scope(),
+            words: made_words(attribute, &value),
+            value,
+        })
+    }
+
+    /// Puts the value of a line to the others, and says its place.
+    fn add_value(&mut self, value: Variant) -> Result<u32, OutOfMemory>
+        requires kept { IsReading self.old }
+        requires fits { fits (state_of self.old) ≡ true }
+        ensures place { IfOk result (λ place. place ≡ length self.old.values) }
+        ensures added { OnOk result (self.new
+            ≡ record self.old { values = self.old.values ++ value ∷ [] }) }
+    {
+        let place = self.values.len();
+        self.values.push(value)?;
+        Ok(place as u32)
+    }
+
+    pub(crate) fn read_begin(&mut self, alloc: Global, rest: Option<&str>) -> Result<(), LineEnd>
+        requires kept { IsReading self.old }
+        requires fits { fits (state_of self.old) ≡ true }
+        ensures said { Gives (λ _. state_of self.new) result
+            (opening_after line.Begin (state_of self.old) (words_behind rest.entry)) }
+        ensures kept { OnOk result (IsReading self.new) }
+        ensures earlier { OnOk result (self.new.earlier ≡ self.old.earlier) }
+        ensures near { OnOk result (IsNear self.new.tally) }
+    {
+        if !self.in_thread {
+            return Err(LineEnd::Bad(ScriptKind::Misplaced));
+        }
+        let Opening {
+            attr,
+            process,
+            words,
+            value,
+        } = self.opening_of(alloc, rest)?;
+        let value = self.add_value(value)?;
+        self.add_line(Line::Begin { attr, value }, process, words)?;
+        Ok(())
+    }
+
+    pub(crate) fn read_set(&mut self, alloc: Global, rest: Option<&str>) -> Result<(), LineEnd>
+        requires kept { IsReading self.old }
+        requires fits { fits (state_of self.old) ≡ true }
+        ensures said { Gives (λ _. state_of self.new) result
+            (opening_after line.Set (state_of self.old) (words_behind rest.entry)) }
+        ensures kept { OnOk result (IsReading self.new) }
+        ensures earlier { OnOk result (self.new.earlier ≡ self.old.earlier) }
+        ensures near { OnOk result (IsNear self.new.tally) }
+    {
+        if !self.in_thread {
+            return Err(LineEnd::Bad(ScriptKind::Misplaced));
+        }
+        let Opening {
+            attr,
+            process,
+            words,
+            value,
+        } = self.opening_of(alloc, rest)?;
+        let value = self.add_value(value)?;
+        self.add_line(Line::Set { attr, value }, process, words)?;
+        Ok(())
+    }
+
+    pub(crate) fn read_end(&mut self, rest: Option<&str>) -> Result<(), LineEnd>
+        requires kept { IsReading self.old }
+        requires fits { fits (state_of self.old) ≡ true }
+        ensures said { Gives (λ _. state_of self.new) result
+            (end_after (state_of self.old) (words_behind rest.entry)) }
+        ensures kept { OnOk result (IsReading self.new) }
+        ensures earlier { OnOk result (self.new.earlier ≡ self.old.earlier) }
+        ensures near { OnOk result (IsNear self.new.tally) }
+    {
+        if !self.in_thread {
+            return Err(LineEnd::Bad(ScriptKind::Misplaced));
+        }
+        let Some(name) = one_word(rest) else {
+            return Err(LineEnd::Bad(ScriptKind::WrongArity));
+        };
+        let Some((attr, attribute)) = self.named(name) else {
+            return Err(LineEnd::Bad(ScriptKind::UnknownName));
+        };
+        let process = attribute.props.has_process_scope();
+        self.add_line(Line::End { attr }, process, 0)?;
+        Ok(())
+    }
+
+    pub(crate) fn read_snapshot(&mut self, rest: Option<&str>) -> Result<(), LineEnd>
+        requires kept { IsReading self.old }
+        requires fits { fits (state_of self.old) ≡ true }
+        ensures said { Gives (λ _. state_of self.new) result
+            (snapshot_after (state_of self.old) (words_behind rest.entry)) }
+        ensures kept { OnOk result (IsReading self.new) }
+        ensures earlier { OnOk result (self.new.earlier ≡ self.old.earlier) }
+        ensures near { OnOk result (IsNear self.new.tally) }
+    {
+        if !self.in_thread {
+            return Err(LineEnd::Bad(ScriptKind::Misplaced));
+        }
+        if rest.is_some() {
+            return Err(LineEnd::Bad(ScriptKind::WrongArity));
+        }
+        self.add_line(Line::Snapshot, false, 0)?;
+        Ok(())
+    }
+
+    /// The place of the channel of this name, and whether it aggregates.
+    fn channel_named(&self, name: &str) -> Option<(u32, &Channel)>
+        requires kept { IsReading self.now }
+        requires fits { fits (state_of self.now) ≡ true }
+        ensures { ok_or (option_map (λ named. (named.0, named.1.now)) result) kinds.UnknownName
+            ≡ channel_named self.now.channels.items name.now }
+    {
+        let place = self.channels.place(name)?;
+        Some((place as u32, &self.channels.items.as_slice()[place]))
+    }
+
+    pub(crate) fn read_flush(&mut self, rest: Option<&str>) -> Result<(), LineEnd>
+        requires kept { IsReading self.old }
+        requires fits { fits (state_of self.old) ≡ true }
+        ensures said { Gives (λ _. state_of self.new) result
+            (flush_after (state_of self.old) (words_behind rest.entry)) }
+        ensures kept { OnOk result (IsReading self.new) }
+        ensures earlier { OnOk result (self.new.earlier ≡ self.old.earlier) }
+        ensures near { OnOk result (IsNear self.new.tally) }
+    {
+        if !self.in_thread {
+            return Err(LineEnd::Bad(ScriptKind::Misplaced));
+        }
+        let Some(name) = one_word(rest) else {
+            return Err(LineEnd::Bad(ScriptKind::WrongArity));
+        };
+        let Some((channel, found)) = self.channel_named(name) else {
+            return Err(LineEnd::Bad(ScriptKind::UnknownName));
+        };
+        if !found.aggregate {
+            return Err(LineEnd::Bad(ScriptKind::NotAggregate));
+        }
+        self.add_line(Line::Flush { channel }, false, 0)?;
+        Ok(())
+    }
+
+    pub(crate) fn read_tick(&mut self, alloc: Global, rest: Option<&str>) -> Result<(), LineEnd>
+        requires kept { IsReading self.old }
+        requires fits { fits (state_of self.old) ≡ true }
+        ensures said { Gives (λ _. state_of self.new) result
+            (tick_after (state_of self.old) (words_behind rest.entry)) }
+        ensures kept { OnOk result (IsReading self.new) }
+        ensures earlier { OnOk result (self.new.earlier ≡ self.old.earlier) }
+        ensures near { OnOk result (IsNear self.new.tally) }
+    {
+        if !self.in_thread {
+            return Err(LineEnd::Bad(ScriptKind::Misplaced));
+        }
+        let Some(word) = one_word(rest) else {
+            return Err(LineEnd::Bad(ScriptKind::WrongArity));
+        };
+        let n = read_number(alloc, word)?;
+        self.add_line(Line::Tick { n }, false, 0)?;
+        Ok(())
+    }
+}
