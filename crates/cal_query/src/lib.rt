@@ -6,6 +6,11 @@
 //! its first fault, which is read and not looked at.
 #![tactic(auto)]
 
+mod end;
 mod joining;
 mod pieces;
+mod rows;
+mod streaming;
 
+pub use end::RowsEnd;
+pub use rows::rows_text;

@@ -76,9 +76,9 @@ fn feed_through<S: Source, F: Fed>(
         if count as u64 > limit - total {
             return Err(ReadEnd::TooLong);
         }
-        if fed.feed(&buffer[..count]).is_err() {
+        let Ok(()) = fed.feed(&buffer[..count]) else {
             return Err(ReadEnd::OutOfMemory);
-        }
+        };
         total += count as u64;
     }
 }

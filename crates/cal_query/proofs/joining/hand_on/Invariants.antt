@@ -11,7 +11,7 @@ use Rattle.cal_query.proofs.joining.hand_on.Given as goal
 abbrev pub invariant-loop-snapshot : goal.invariant-loop-snapshot
 invariant-loop-snapshot g l =
     let taken = g.T.Taker in
-    let joined = λ rows. map (with_entries (map (entry_of l.context) l.globals)) rows in
+    let joined : List Rec → List Rec = λ rows. map (with_entries (map (entry_of l.context) l.globals)) rows in
     let left = into_iter_items l.snapshot-iterator in
     record {
       are_in : All (IsIn l.context) left;
