@@ -1,0 +1,14 @@
+mod ListLemmas
+mod FieldLemmas
+mod EachLemmas
+mod HeldLemmas
+mod CutLemmas
+mod FaultLemmas
+mod ColumnLemmas
+mod BuiltInLemmas
+mod StepLemmas
+mod SiteLemmas
+mod ReadLemmas
+mod StreamLemmas
+mod RecordLemmas
+mod WholeLemmas

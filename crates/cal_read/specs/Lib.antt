@@ -1,0 +1,16 @@
+pub mod Kinds
+pub mod Nodes
+pub mod BuiltIn
+pub mod Fields
+pub mod NodeLines
+pub mod RecordLines
+pub mod Stream
+pub mod Steps
+pub mod Keys
+pub mod Held
+pub mod Sites
+pub mod Columns
+pub mod Standing
+pub mod Cuts
+pub mod Reading
+pub mod Owned

@@ -1,0 +1,30 @@
+-- What the reader holds stands for what the lines have made (private).
+use Rattle.std.specs.Prelude.{◌≡◌, List, ◌++◌}
+use Rattle.cal_context.specs.Snapshots.{IsIn, meaning}
+use Rattle.cal_context.specs.Taking.{TakesMore}
+use Rattle.cal_context.specs.Tree.{Tree}
+use Rattle.cal_value.specs.declared.record.Rec.{Rec}
+use Rattle.cal_read.specs.Held.{AreHeld}
+use Rattle.cal_read.specs.Stream as streams
+use Rattle.cal_read.specs.declared.stream.Stream.{Stream}
+
+-- the nodes and the globals are those of a stream
+pub record Stands (t : Tree) (held : Stream) (s : streams.Stream) : Type 0 where
+  pub nodes : AreHeld t held.nodes s.nodes
+  pub within : IsIn t held.globals
+  pub globals : meaning t held.globals ≡ s.globals
+
+abbrev pub StandsForSome : Tree → Stream → Type 0
+StandsForSome t held = (s : streams.Stream) × Stands t held s
+
+-- The rows of after are those of before and some more, and a taker has taken these.
+pub record TakesUpTo (had has : List Rec → Type 0) (before after : List Rec) : Type 0 where
+  pub more : List Rec
+  pub rows : after ≡ before ++ more
+  pub taken : TakesMore had has more
+
+-- a line was taken: what is held stands for what it makes, and its row was taken
+pub record TakesLine (t : Tree) (held : Stream) (had has : List Rec → Type 0)
+    (before after : streams.Stream) : Type 0 where
+  pub stands : Stands t held after
+  pub taken : TakesUpTo had has before.rows after.rows

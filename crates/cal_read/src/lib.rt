@@ -1,0 +1,26 @@
+//! The reader of `.cali` streams: what the lines of a stream mean, or its first fault.
+#![tactic(auto)]
+
+mod built_in;
+mod end;
+mod ids;
+mod keys;
+mod kind;
+mod laws;
+mod node_line;
+mod node_texts;
+mod nodes;
+mod place;
+mod reader;
+mod record_line;
+mod sort;
+mod stream;
+mod stream_reader;
+mod whole;
+
+pub use end::StreamEnd;
+pub use kind::StreamKind;
+pub use laws::{one_reading, readings_stay};
+pub use reader::Reader;
+pub use stream_reader::StreamReader;
+pub use whole::read_records;

@@ -1,0 +1,184 @@
+ghost use Rattle.std.specs.Prelude.{◌≡◌, List, IfOk};
+ghost use Rattle.cal_context.specs.Tree.{Grows};
+ghost use Rattle.cal_line.specs.declared.field.Field.{Field};
+ghost use Rattle.cal_read.specs.Standing.{Stands, StandsForSome, TakesLine};
+ghost use Rattle.cal_read.specs.Steps.{AnswersFor};
+ghost use Rattle.cal_read.specs.Stream as streams;
+
+use crate::StreamKind;
+use crate::built_in::built_in_nodes;
+use crate::end::LineEnd;
+use crate::keys::repeats_key;
+use crate::node_line::read_node;
+use crate::nodes::Nodes;
+use crate::record_line::{Columns, read_record};
+use crate::sort::{Sort, sort_of};
+use cal_context::{Context, Snapshot, Taker};
+use cal_line::{FieldEnd, Fields, Splitter};
+use cal_value::OutOfMemory;
+use std::alloc::Global;
+
+/// What the lines so far have made, beside the rows, which are taken; and what serves for line
+/// after line.
+#[derive(Drop)]
+pub(crate) struct Stream {
+    nodes: Nodes,
+    pub(crate) globals: Snapshot,
+    columns: Columns,
+    row: Snapshot,
+}
+
+impl Stream {
+    /// What there is before the first line.
+    pub(crate) fn new(alloc: Global, context: &mut Context) -> Result<Stream, OutOfMemory>
+        ensures grows { Grows context.old context.new }
+        ensures begun { IfOk result (λ held. Stands context.new held streams.no_lines) }
+    {
+        Ok(Stream {
+            nodes: built_in_nodes(alloc, context)?,
+            globals: Snapshot::new(alloc),
+            columns: Columns::new(alloc),
+            row: Snapshot::new(alloc),
+        })
+    }
+
+    /// Reads the next line. After an `Err` the stream is of no more use.
+    pub(crate) fn read_line<T: Taker>(
+        &mut self,
+        alloc: Global,
+        splitter: &mut Splitter,
+        line: &[u8],
+        context: &mut Context,
+        taker: &mut T,
+    ) -> Result<(), LineEnd>
+        requires { StandsForSome context.old self.old }
+        ensures grows { Grows context.old context.new }
+        ensures read { (s : streams.Stream) → Stands context.old self.old s → AnswersFor
+            (λ _. TakesLine context.new self.new
+            (T.has_taken taker.old context.old) (T.has_taken taker.new context.new) s)
+            result (streams.line_step s line.now) }
+    {
+        match std::str::from_utf8(line) {
+            Ok(text) => self.read_str(alloc, splitter, text, context, taker),
+            Err(_) => Err(LineEnd::Bad(StreamKind::NotText)),
+        }
+    }
+
+    fn read_str<T: Taker>(
+        &mut self,
+        alloc: Global,
+        splitter: &mut Splitter,
+        line: &str,
+        context: &mut Context,
+        taker: &mut T,
+    ) -> Result<(), LineEnd>
+        requires { StandsForSome context.old self.old }
+        ensures grows { Grows context.old context.new }
+        ensures read { (s : streams.Stream) → Stands context.old self.old s → AnswersFor
+            (λ _. TakesLine context.new self.new
+            (T.has_taken taker.old context.old) (T.has_taken taker.new context.new) s)
+            result (streams.step_by_text s line.now) }
+    {
+        if line.is_empty() {
+            return Ok(());
+        }
+        self.read_text(alloc, splitter, line, context, taker)
+    }
+
+    fn read_text<T: Taker>(
+        &mut self,
+        alloc: Global,
+        splitter: &mut Splitter,
+        line: &str,
+        context: &mut Context,
+        taker: &mut T,
+    ) -> Result<(), LineEnd>
+        requires { StandsForSome context.old self.old }
+        ensures grows { Grows context.old context.new }
+        ensures read { (s : streams.Stream) → Stands context.old self.old s → AnswersFor
+            (λ _. TakesLine context.new self.new
+            (T.has_taken taker.old context.old) (T.has_taken taker.new context.new) s)
+            result (streams.step_by_list s line.now) }
+    {
+        match splitter.split(line) {
+            Ok(fields) => self.read_fields(alloc, &fields, context, taker),
+            Err(FieldEnd::BadField) => Err(LineEnd::Bad(StreamKind::BadField)),
+            Err(FieldEnd::OutOfMemory) => Err(LineEnd::OutOfMemory),
+        }
+    }
+
+    fn read_fields<T: Taker>(
+        &mut self,
+        alloc: Global,
+        fields: &Fields,
+        context: &mut Context,
+        taker: &mut T,
+    ) -> Result<(), LineEnd>
+        requires { StandsForSome context.old self.old }
+        ensures grows { Grows context.old context.new }
+        ensures read { (s : streams.Stream) → Stands context.old self.old s → AnswersFor
+            (λ _. TakesLine context.new self.new
+            (T.has_taken taker.old context.old) (T.has_taken taker.new context.new) s)
+            result (streams.step_by_fields s fields.now) }
+    {
+        if repeats_key(alloc, fields)? {
+            return Err(LineEnd::Bad(StreamKind::BadField));
+        }
+        match sort_of(alloc, fields)? {
+            Sort::OfNode => read_node(alloc, &mut self.nodes, fields, context),
+            Sort::OfRow => self.read_row(alloc, fields, context, taker),
+            Sort::OfGlobals => self.read_globals(alloc, fields, context),
+        }
+    }
+
+    /// Reads a `ctx` line, and has its row taken.
+    fn read_row<T: Taker>(
+        &mut self,
+        alloc: Global,
+        fields: &Fields,
+        context: &Context,
+        taker: &mut T,
+    ) -> Result<(), LineEnd>
+        requires { StandsForSome context.now self.old }
+        ensures read { (s : streams.Stream) → Stands context.now self.old s → AnswersFor
+            (λ _. TakesLine context.now self.new
+            (T.has_taken taker.old context.now) (T.has_taken taker.new context.now) s)
+            result (streams.step_by_sort s fields.now Sort.OfRow) }
+    {
+        read_record(
+            alloc,
+            &self.nodes,
+            &mut self.columns,
+            fields,
+            context,
+            &mut self.row,
+        )?;
+        taker.take(context, &self.row)?;
+        Ok(())
+    }
+
+    /// Reads a `globals` line, and adds to the globals.
+    fn read_globals(
+        &mut self,
+        alloc: Global,
+        fields: &Fields,
+        context: &Context,
+    ) -> Result<(), LineEnd>
+        requires { StandsForSome context.now self.old }
+        ensures read { (s : streams.Stream) → Stands context.now self.old s → AnswersFor
+            (λ _ after. Stands context.now self.new after × (after.rows ≡ s.rows))
+            result (streams.step_by_sort s fields.now Sort.OfGlobals) }
+    {
+        read_record(
+            alloc,
+            &self.nodes,
+            &mut self.columns,
+            fields,
+            context,
+            &mut self.row,
+        )?;
+        self.globals.nodes.append(&mut self.row.nodes)?;
+        self.globals.imms.append(&mut self.row.imms)?;
+        Ok(())
+    }
+}

@@ -1,0 +1,207 @@
+ghost use Rattle.std.specs.Prelude.{◌≡◌, ℕ, List, [], ◌∷◌, ◌++◌, Err, IfErr, IfOk, OnOk};
+ghost use Rattle.cal_context.specs.Snapshots.{IsIn, meaning};
+ghost use Rattle.cal_context.specs.Tree.{Tree, Grows};
+ghost use Rattle.cal_line.specs.Lines.{HasNoNewline, lines_of};
+
+use crate::StreamEnd;
+use crate::end::LineEnd;
+use crate::stream::Stream;
+use cal_context::{Context, Snapshot, Taker};
+use cal_line::{Splitter, ended_line};
+use cal_value::OutOfMemory;
+use std::alloc::Global;
+use std::mem;
+
+/// Reads a stream that comes in pieces. Its nodes go into a context, which is lent at each call and
+/// must be the same one, and its rows to a taker. A line is looked at when its newline has come, or
+/// at the end of the input.
+#[derive(Drop)]
+pub struct StreamReader {
+    alloc: Global,
+    splitter: Splitter,
+    stream: Stream,
+    // the line that has begun
+    begun: Vec<u8>,
+    // how many lines have ended
+    lines: u64,
+    refused: Option<StreamEnd>,
+}
+
+impl StreamReader {
+    ghost use Rattle.cal_read.specs.Cuts.{ended_lines};
+    ghost use Rattle.cal_read.specs.Reading.{Ends, HasEnded, HasRead, IsReady, IsRefusalOf};
+    ghost use Rattle.cal_read.specs.Reading.{IsRefused, TakesBytes, TakesEnd};
+    ghost use Rattle.cal_read.specs.Stream.{IsStream};
+
+    /// The reader of no bytes, whose context has the built-in nodes.
+    pub fn new(alloc: Global, context: &mut Context) -> Result<StreamReader, OutOfMemory>
+        ensures grows { Grows context.old context.new }
+        ensures read { IfOk result (λ reader. HasRead reader context.new []) }
+        ensures ready { IfOk result (λ reader. IsReady reader context.new) }
+    {
+        Ok(StreamReader {
+            alloc,
+            splitter: Splitter::new(alloc),
+            stream: Stream::new(alloc, context)?,
+            begun: Vec::new(alloc),
+            lines: 0,
+            refused: None,
+        })
+    }
+
+    /// Reads a further piece, and has the rows of the lines that it ends taken, in order. Time is in
+    /// the length of these lines. After a refusal every call answers that refusal again.
+    pub fn feed<T: Taker>(
+        &mut self,
+        piece: &[u8],
+        context: &mut Context,
+        taker: &mut T,
+    ) -> Result<(), StreamEnd>
+        requires { IsReady self.old context.old }
+        ensures ready { IsReady self.new context.new }
+        ensures grows { Grows context.old context.new }
+        ensures read { OnOk result ((bytes : List ℕ) → HasRead self.old context.old bytes
+            → HasRead self.new context.new (bytes ++ piece.now)) }
+        ensures taken { OnOk result ((bytes : List ℕ) → HasRead self.old context.old bytes
+            → TakesBytes (T.has_taken taker.old context.old) (T.has_taken taker.new context.new)
+            bytes (bytes ++ piece.now)) }
+        ensures fault { IfErr result (λ end. (bytes : List ℕ) → HasRead self.old context.old bytes
+            → IsRefusalOf (ended_lines (bytes ++ piece.now)) end) }
+        ensures refused { IfErr result (IsRefused self.new) }
+        ensures again { (end : StreamEnd) → IsRefused self.old end → result ≡ Err end }
+    {
+        if let Some(end) = self.refused {
+            return Err(end);
+        }
+        match self.feed_lines(piece, context, taker) {
+            Ok(()) => Ok(()),
+            Err(end) => {
+                self.refused = Some(end);
+                Err(end)
+            }
+        }
+    }
+
+    /// The end of the input, which ends a line that has begun. It gives the globals, and the reader
+    /// is of no more use then.
+    pub fn finish<T: Taker>(
+        &mut self,
+        context: &mut Context,
+        taker: &mut T,
+    ) -> Result<Snapshot, StreamEnd>
+        requires { IsReady self.old context.old }
+        ensures grows { Grows context.old context.new }
+        ensures within { IfOk result (IsIn context.new) }
+        ensures globals { IfOk result (λ globals. (bytes : List ℕ)
+            → HasRead self.old context.old bytes → Ends bytes (meaning context.new globals)) }
+        ensures taken { OnOk result ((bytes : List ℕ) → HasRead self.old context.old bytes
+            → TakesEnd (T.has_taken taker.old context.old) (T.has_taken taker.new context.new)
+            bytes) }
+        ensures fault { IfErr result (λ end. (bytes : List ℕ) → HasRead self.old context.old bytes
+            → IsRefusalOf (lines_of bytes) end) }
+        ensures refused { IfErr result (IsRefused self.new) }
+        ensures again { (end : StreamEnd) → IsRefused self.old end → result ≡ Err end }
+    {
+        if let Some(end) = self.refused {
+            return Err(end);
+        }
+        if let Err(end) = self.end_last(context, taker) {
+            self.refused = Some(end);
+            return Err(end);
+        }
+        Ok(mem::replace(&mut self.stream.globals, Snapshot::new(self.alloc)))
+    }
+
+    /// Refuses from now on.
+    pub(crate) fn refuse(&mut self, end: StreamEnd)
+        ensures { IsRefused self.new end }
+    {
+        self.refused = Some(end);
+    }
+
+    fn feed_lines<T: Taker>(
+        &mut self,
+        piece: &[u8],
+        context: &mut Context,
+        taker: &mut T,
+    ) -> Result<(), StreamEnd>
+        requires { (bytes : List ℕ) × HasRead self.old context.old bytes }
+        ensures grows { Grows context.old context.new }
+        ensures read { OnOk result ((bytes : List ℕ) → HasRead self.old context.old bytes
+            → HasRead self.new context.new (bytes ++ piece.now)) }
+        ensures taken { OnOk result ((bytes : List ℕ) → HasRead self.old context.old bytes
+            → TakesBytes (T.has_taken taker.old context.old) (T.has_taken taker.new context.new)
+            bytes (bytes ++ piece.now)) }
+        ensures fault { IfErr result (λ end. (bytes : List ℕ) → HasRead self.old context.old bytes
+            → IsRefusalOf (ended_lines (bytes ++ piece.now)) end) }
+    {
+        let mut rest = piece;
+        while let Some((line, after)) = ended_line(rest) {
+            self.begin(line)?;
+            self.end_line(context, taker)?;
+            rest = after;
+        }
+        self.begin(rest)
+    }
+
+    /// Ends the line that has begun, if one has.
+    fn end_last<T: Taker>(&mut self, context: &mut Context, taker: &mut T) -> Result<(), StreamEnd>
+        requires { (bytes : List ℕ) × HasRead self.old context.old bytes }
+        ensures grows { Grows context.old context.new }
+        ensures ended { OnOk result ((bytes : List ℕ) → HasRead self.old context.old bytes
+            → HasEnded self.new context.new bytes) }
+        ensures taken { OnOk result ((bytes : List ℕ) → HasRead self.old context.old bytes
+            → TakesEnd (T.has_taken taker.old context.old) (T.has_taken taker.new context.new)
+            bytes) }
+        ensures fault { IfErr result (λ end. (bytes : List ℕ) → HasRead self.old context.old bytes
+            → IsRefusalOf (lines_of bytes) end) }
+    {
+        if self.begun.as_slice().is_empty() {
+            return Ok(());
+        }
+        self.end_line(context, taker)
+    }
+
+    /// Goes on with the line that has begun.
+    fn begin(&mut self, part: &[u8]) -> Result<(), StreamEnd>
+        requires { HasNoNewline part.now }
+        ensures read { OnOk result ((t : Tree) (bytes : List ℕ) → HasRead self.old t bytes
+            → HasRead self.new t (bytes ++ part.now)) }
+        ensures memory { IfErr result (λ end. end ≡ StreamEnd.OutOfMemory) }
+    {
+        self.begun.extend_from_slice(part)?;
+        Ok(())
+    }
+
+    /// Reads the line that has begun, which ends here.
+    fn end_line<T: Taker>(&mut self, context: &mut Context, taker: &mut T) -> Result<(), StreamEnd>
+        requires { (bytes : List ℕ) × HasRead self.old context.old bytes }
+        ensures grows { Grows context.old context.new }
+        ensures read { OnOk result ((bytes : List ℕ) → HasRead self.old context.old bytes
+            → HasRead self.new context.new (bytes ++ 10 ∷ [])) }
+        ensures taken { OnOk result ((bytes : List ℕ) → HasRead self.old context.old bytes
+            → TakesBytes (T.has_taken taker.old context.old) (T.has_taken taker.new context.new)
+            bytes (bytes ++ 10 ∷ [])) }
+        ensures fault { IfErr result (λ end. (bytes : List ℕ) → HasRead self.old context.old bytes
+            → IsRefusalOf (ended_lines (bytes ++ 10 ∷ [])) end) }
+    {
+        if self.lines == u64::MAX {
+            return Err(StreamEnd::OutOfMemory);
+        }
+        let line = self.lines + 1;
+        match self.stream.read_line(
+            self.alloc,
+            &mut self.splitter,
+            self.begun.as_slice(),
+            context,
+            taker,
+        ) {
+            Ok(()) => {}
+            Err(LineEnd::Bad(kind)) => return Err(StreamEnd::BadLine { line, kind }),
+            Err(LineEnd::OutOfMemory) => return Err(StreamEnd::OutOfMemory),
+        }
+        self.begun.clear();
+        self.lines = line;
+        Ok(())
+    }
+}

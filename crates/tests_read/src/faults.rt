@@ -1,0 +1,96 @@
+use crate::shown::read;
+use std::test::Fail;
+
+// a stream with an attribute `a` (id 13) below properties 276 (id 12), a node of it (id 14), and an
+// attribute `i` of kind int and properties 21 (id 16)
+const FRONT: &str = "__rec=node,id=12,attr=10,data=276,parent=3\n\
+    __rec=node,id=13,attr=8,data=a,parent=12\n\
+    __rec=node,id=14,attr=13,data=x\n\
+    __rec=node,id=15,attr=10,data=21,parent=1\n\
+    __rec=node,id=16,attr=8,data=i,parent=15\n";
+
+/// The sixth line, and its fault; each kind alone, and two on one line in both orders of fields.
+const LINES: [(&str, &str); 34] = [
+    ("a", "BadField"),
+    ("__rec=ctx,ref=14,ref=14", "BadField"),
+    ("__rec=ctx,k=1,\\k=2", "BadField"),
+    ("__rec=ctx,__rec=ctx", "BadField"),
+    ("ref=14,__rec=ctx", "NoRecord"),
+    ("__rec=ctx=ctx", "NoRecord"),
+    ("__rec=row", "NoRecord"),
+    ("__rec=node,attr=13,data=x", "MissingField"),
+    ("__rec=node,id=17,data=x", "MissingField"),
+    ("__rec=node,id=17,attr=13", "MissingField"),
+    ("__rec=node,id=17,attr=13,data=x=y", "MissingField"),
+    (
+        "__rec=node,id=17,attr=13,data=x,parent=14=14",
+        "MissingField",
+    ),
+    ("__rec=node,id=x,attr=13", "MissingField"),
+    ("__rec=ctx,attr=16", "Uneven"),
+    ("__rec=ctx,data=1", "Uneven"),
+    ("__rec=globals,attr=16=16,data=1", "Uneven"),
+    ("__rec=ctx,ref=x,attr=16", "Uneven"),
+    ("__rec=node,id=-1,attr=13,data=x", "BadNumber"),
+    (
+        "__rec=node,id=18446744073709551616,attr=13,data=x",
+        "BadNumber",
+    ),
+    ("__rec=ctx,ref=", "BadNumber"),
+    ("__rec=ctx,ref=99=x", "BadNumber"),
+    ("__rec=ctx,ref=x=99", "BadNumber"),
+    ("__rec=ctx,ref=17", "UnknownNode"),
+    ("__rec=node,id=17,attr=17,data=x", "UnknownNode"),
+    ("__rec=node,id=17,attr=14,data=x,parent=99", "UnknownNode"),
+    ("__rec=ctx,attr=14,data=x", "NotAttribute"),
+    ("__rec=ctx,attr=16=14,data=x=x", "NotAttribute"),
+    ("__rec=ctx,attr=16,data=x", "BadValue"),
+    ("__rec=node,id=17,attr=10,data=4294967296", "BadValue"),
+    ("__rec=node,id=17,attr=10,data=-1", "BadValue"),
+    ("__rec=node,id=17,attr=8,data=b", "NoKind"),
+    ("__rec=node,id=14,attr=8,data=b", "NoKind"),
+    ("__rec=node,id=14,attr=13,data=y", "Redefined"),
+    ("__rec=node,id=3,attr=13,data=y", "Redefined"),
+];
+
+#[test]
+fn each_fault_comes_in_its_order(rt: HostRuntime) -> Result<(), Fail> {
+    for (line, kind) in LINES {
+        let stream = format!(in rt.alloc(); "{FRONT}{line}\n")?;
+        let wanted = format!(in rt.alloc(); "line 6: {kind}")?;
+        let read = read(rt.alloc(), stream.as_bytes())?;
+        assert_eq!(rt; read.as_str(), wanted.as_str(), "{line}");
+    }
+    Ok(())
+}
+
+#[test]
+fn a_line_that_is_no_text_is_refused(rt: HostRuntime) -> Result<(), Fail> {
+    let read = read(rt.alloc(), b"\n__rec=ctx\n\xff,\n")?;
+    assert_eq!(rt; read.as_str(), "line 3: NotText");
+    Ok(())
+}
+
+/// A stream of nodes one below another, so many.
+fn deep(alloc: std::alloc::Global, depth: u32) -> Result<String, std::alloc::AllocError> {
+    let mut stream = String::from_str(alloc, FRONT)?;
+    stream.push_str("__rec=node,id=100,attr=13,data=x\n")?;
+    for level in 1..depth {
+        let id = 100 + u64::from(level);
+        let parent = id - 1;
+        let line = format!(in alloc; "__rec=node,id={id},attr=13,data=x,parent={parent}\n")?;
+        stream.push_str(line.as_str())?;
+    }
+    Ok(stream)
+}
+
+#[test]
+fn a_path_has_at_most_1024_entries(rt: HostRuntime) -> Result<(), Fail> {
+    let fits = deep(rt.alloc(), 1024)?;
+    let shown = read(rt.alloc(), fits.as_bytes())?;
+    assert_eq!(rt; shown.as_str(), ";");
+    let deeper = deep(rt.alloc(), 1025)?;
+    let refused = read(rt.alloc(), deeper.as_bytes())?;
+    assert_eq!(rt; refused.as_str(), "line 1030: TooDeep");
+    Ok(())
+}

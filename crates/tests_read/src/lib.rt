@@ -1,0 +1,14 @@
+//! Tests of the reader of streams: worked rows, each of the twelve faults, pieces of a stream.
+//!
+//! It promises nothing that a contract says; it shows what no clause can say, that calls succeed
+//! with ample memory, and that hand-written streams read as the format's page says.
+#![tactic(auto)]
+
+#[cfg(test)]
+mod faults;
+#[cfg(test)]
+mod grammar;
+#[cfg(test)]
+mod pieces;
+#[cfg(test)]
+mod shown;
