@@ -1,5 +1,4 @@
 pub mod Words
-pub mod Tasks
 pub mod Texts
 pub mod Faults
 pub mod Inputs

@@ -7,7 +7,6 @@
 #![tactic(auto)]
 
 mod about;
-mod asking;
 mod fault;
 mod outcome;
 mod query;
