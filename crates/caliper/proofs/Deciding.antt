@@ -1,10 +1,14 @@
 -- The bytes of an input decide the answer: they have one first fault or a text, and not both.
-use Rattle.std.proofs.Common.{◌≡◌, ℕ, ◌<◌, ◌≤◌, ◌⊎◌, inl, inr, List, length, length-append, Option, Some, None, IfSome, Result, Ok, Err, refl, sym, ap, subst, arith}
+use Rattle.std.proofs.Common.{◌≡◌, ℕ, ◌<◌, ◌≤◌, ◌⊎◌, inl, inr, List, length, length-append, Option, Some, None, IfSome, Result, Ok, Err, refl, sym, ap, subst, ◌∙◌, arith}
 use Rattle.std.specs.Option.{IsSomeAnd, IsNone}
 use Rattle.std.proofs.lemmas.Option.{IfSome_then}
 use Rattle.cal_base.specs.Change.{Change, HasFailed}
 use Rattle.cal_base.specs.Told.{TakesOver}
 use Rattle.cal_base.proofs.Taking.{ReadsAll-left}
+use Rattle.cal_input.proofs.FirstFaults.{falls_whole, one_first}
+use Rattle.cal_input.specs.FirstFault.{after_lines}
+use Rattle.cal_line.specs.Lines as lines
+use Rattle.cal_read.specs.Stream.{line_step, no_lines}
 use Rattle.cal_first_form.specs.Lines.{lines_of}
 use Rattle.cal_first_form.proofs.Runs.{none_from_fault, first_fault_one}
 use Rattle.caliper.specs.Causes.{input_limit, Answers, BytesDecide, IsDue, ReadsInput}
@@ -12,8 +16,9 @@ use Rattle.caliper.specs.Inputs.{IsFaultOf, IsTextOf}
 use Rattle.caliper.specs.declared.fault.Fault as faults
 use Rattle.caliper.specs.declared.fault.Fault.TheVariants as fault
 use Rattle.caliper.specs.declared.fault.InputKind.{InputKind}
+use Rattle.caliper.specs.declared.fault.InputKind.TheVariants.{Stream}
 use Rattle.caliper.specs.declared.words.Command.{Command}
-use Rattle.caliper.specs.declared.words.Command.TheVariants.{Serial}
+use Rattle.caliper.specs.declared.words.Command.TheVariants.{Serial, Query}
 
 none_and_some : {A : Type 0} (o : Option A) (P : A → Type 0) → IsNone o → IsSomeAnd o P → ⊥
 none_and_some None P none some = some
@@ -25,12 +30,23 @@ fault_and_text : (command : Command) (bytes text : List ℕ) (line : ℕ) (kind 
 fault_and_text Serial bytes text line kind faulty is =
     none_and_some _ _ (none_from_fault (lines_of bytes) line faulty.0) is
 
+fault_and_text (Query join) bytes text line kind faulty is =
+    let falls : after_lines line_step no_lines (lines.lines_of bytes) ≡ Err faulty.0 =
+    falls_whole line_step no_lines (lines.lines_of bytes) line faulty.0 faulty.2 in
+    let stands = is.stream.stream in
+    absurd cc
+
 -- bytes have one first fault
 one_fault : (command : Command) (bytes : List ℕ) (line other : ℕ) (kind others : InputKind)
     → IsFaultOf command bytes line kind → IsFaultOf command bytes other others → (line ≡ other)
     × (kind ≡ others)
 one_fault Serial bytes line other kind others faulty also =
     (first_fault_one (lines_of bytes) line other faulty.0 also.0, cc (faulty.1, also.1))
+one_fault (Query join) bytes line other kind others faulty also =
+    let one =
+    one_first line_step no_lines (lines.lines_of bytes) line other faulty.0 also.0 faulty.2
+    also.2 in
+    (one.0, faulty.1 ∙ ap Stream one.1 ∙ sym also.1)
 
 module _ (command : Command) (bytes : List ℕ) (output : Change) where
   -- too many bytes

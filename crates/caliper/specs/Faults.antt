@@ -1,14 +1,16 @@
 -- What a fault is told as (ours).
 use Rattle.std.specs.Prelude.{ℕ, ◌+◌, List, [], ◌++◌, Option, Some, None, codes, decimal}
-use Rattle.cal_first_form.specs.Kinds.{kind_name}
+use Rattle.cal_read.specs.Kinds as stream
+use Rattle.cal_first_form.specs.Kinds as script
 use Rattle.caliper.specs.declared.fault.Fault as faults
 use Rattle.caliper.specs.declared.fault.Fault.TheVariants as fault
 use Rattle.caliper.specs.declared.fault.InputKind.{InputKind}
-use Rattle.caliper.specs.declared.fault.InputKind.TheVariants.{Script}
+use Rattle.caliper.specs.declared.fault.InputKind.TheVariants.{Script, Stream}
 
 -- the name of what is wrong with an input
 abbrev pub input_kind_name : InputKind → List ℕ
-input_kind_name (Script kind) = kind_name kind
+input_kind_name (Script kind) = script.kind_name kind
+input_kind_name (Stream kind) = stream.kind_name kind
 
 -- what a fault is told as: a place among the words counts from 1 there
 abbrev pub message_of : faults.Fault → List ℕ

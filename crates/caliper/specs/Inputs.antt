@@ -1,20 +1,26 @@
 -- What each command makes of the bytes of its input: their first fault, or the text that it writes.
 use Rattle.std.specs.Prelude.{◌≡◌, ℕ, List}
 use Rattle.std.specs.Option.{IsSomeAnd}
+use Rattle.cal_read.specs.Stream.{IsFault}
+use Rattle.cal_read.specs.declared.kind.StreamKind.{StreamKind}
 use Rattle.cal_first_form.specs.Faults.{IsFirstFault}
 use Rattle.cal_first_form.specs.Lines.{lines_of}
 use Rattle.cal_first_form.specs.Reading.{meaning}
 use Rattle.cal_first_form.specs.declared.kind.ScriptKind.TheVariants.{NotYet}
+use Rattle.cal_query.specs.Layout.{IsLayout}
 use Rattle.caliper.specs.Texts.{text_of}
 use Rattle.caliper.specs.declared.fault.InputKind.{InputKind}
-use Rattle.caliper.specs.declared.fault.InputKind.TheVariants.{Script}
+use Rattle.caliper.specs.declared.fault.InputKind.TheVariants.{Script, Stream}
 use Rattle.caliper.specs.declared.words.Command.{Command}
-use Rattle.caliper.specs.declared.words.Command.TheVariants.{Serial}
+use Rattle.caliper.specs.declared.words.Command.TheVariants.{Serial, Query}
 
 -- the first fault of the bytes is at this line, of this kind
 abbrev pub IsFaultOf : Command → List ℕ → ℕ → InputKind → Type 0
 IsFaultOf Serial bytes line kind = IsFirstFault (lines_of bytes) line × (kind ≡ Script NotYet)
+IsFaultOf (Query join) bytes line kind =
+    (fault : StreamKind) × (kind ≡ Stream fault) × IsFault bytes line fault
 
 -- the bytes have a meaning, and this is the text that is written for it
 abbrev pub IsTextOf : Command → List ℕ → List ℕ → Type 0
 IsTextOf Serial bytes text = IsSomeAnd (meaning bytes) (λ script. text ≡ text_of script)
+IsTextOf (Query join) bytes text = IsLayout join bytes text

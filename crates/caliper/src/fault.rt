@@ -2,6 +2,7 @@ ghost use Rattle.std.specs.Prelude.{◌≡◌, Some};
 ghost use Rattle.caliper.specs.Faults.{input_kind_name, status_of};
 
 use cal_first_form::ScriptKind;
+use cal_read::StreamKind;
 
 /// Why a call wrote less than it was asked for.
 #[derive(Clone, Copy, Debug, PartialEq, Eq)]
@@ -22,6 +23,7 @@ pub enum Fault {
 #[derive(Clone, Copy, Debug, PartialEq, Eq)]
 pub enum InputKind {
     Script(ScriptKind),
+    Stream(StreamKind),
 }
 
 impl InputKind {
@@ -31,6 +33,7 @@ impl InputKind {
     {
         match self {
             InputKind::Script(kind) => kind.name(),
+            InputKind::Stream(kind) => kind.name(),
         }
     }
 }

@@ -9,6 +9,7 @@
 mod about;
 mod fault;
 mod outcome;
+mod query;
 mod report;
 mod run;
 mod serial;

@@ -9,6 +9,7 @@ ghost use Rattle.caliper.specs.Faults.{report_of, status_of};
 ghost use Rattle.caliper.specs.Words.{asked};
 
 use crate::outcome::end;
+use crate::query::query;
 use crate::{Command, Fault, InputKind, Outcome, read_words, serial_text};
 use cal_base::{ReadEnd, Sink, Source, read_all};
 use cal_first_form::{Script, ScriptEnd, read_script};
@@ -65,6 +66,7 @@ fn carry_out<S: Source, W: Sink>(
 {
     match read_words(words) {
         Ok(Command::Serial) => serial(alloc, input, output).err(),
+        Ok(Command::Query { join }) => query(alloc, join, input, output).err(),
         Err(word) => Some(Fault::Usage { word }),
     }
 }

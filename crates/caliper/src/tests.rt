@@ -1,7 +1,9 @@
 mod failing;
+mod queries;
 mod rows;
 mod scripts;
 mod served;
+mod streams;
 
 use crate::{Outcome, run};
 use cal_base::{MemSink, MemSource};

@@ -6,7 +6,7 @@ use std::test::Fail;
 
 /// A call with these words over a script, and what it leaves.
 #[derive(Clone, Copy)]
-struct Row {
+pub struct Row {
     words: &'static [&'static str],
     script: &'static str,
     text: &'static str,
@@ -16,8 +16,17 @@ struct Row {
 
 /// A row of `serial` that writes a text.
 fn written(script: &'static str, text: &'static str) -> Row {
+    written_by(&["serial"], script, text)
+}
+
+/// A row that writes a text.
+pub fn written_by(
+    words: &'static [&'static str],
+    script: &'static str,
+    text: &'static str,
+) -> Row {
     Row {
-        words: &["serial"],
+        words,
         script,
         text,
         told: "",
@@ -26,7 +35,7 @@ fn written(script: &'static str, text: &'static str) -> Row {
 }
 
 /// A row that is refused.
-fn refused(
+pub fn refused(
     words: &'static [&'static str],
     script: &'static str,
     told: &'static str,
@@ -42,7 +51,7 @@ fn refused(
 }
 
 /// Asserts that the calls of these rows leave what the rows say.
-fn assert_rows(rt: &(impl Abort + AllocGlobal), rows: &[Row]) -> Result<(), Fail> {
+pub fn assert_rows(rt: &(impl Abort + AllocGlobal), rows: &[Row]) -> Result<(), Fail> {
     let alloc = rt.alloc();
     for (place, row) in rows.iter().enumerate() {
         let ran = call(

@@ -1,0 +1,5 @@
+pub mod Falling
+pub mod Streamings
+pub mod Keepings
+pub mod Layouts
+pub mod Stops

@@ -1,0 +1,131 @@
+ghost use Rattle.std.specs.Prelude.{◌≡◌, [], ◌++◌, ℕ, List, None, IfOk, IfErr};
+ghost use Rattle.cal_base.specs.Change.{change_of};
+ghost use Rattle.cal_base.specs.ReadEnds.{ReadsAll};
+ghost use Rattle.cal_query.specs.Layout.{StopsRows};
+ghost use Rattle.cal_query.specs.Streaming.{FallsAt, HasFinished, HasStreamed, MayBeFed};
+
+use crate::RowsEnd;
+use crate::pieces::{Fed, feed_all};
+use cal_base::Source;
+use cal_context::{Context, Snapshot, Taker};
+use cal_read::{StreamEnd, StreamKind, StreamReader};
+use cal_value::OutOfMemory;
+use std::alloc::Global;
+
+/// The first line that went wrong.
+#[derive(Clone, Copy, Debug)]
+pub(crate) struct BadLine {
+    line: u64,
+    kind: StreamKind,
+}
+
+/// A reader at work, which hands rows to a taker. Once it has met a fault it looks at nothing more.
+#[derive(Drop)]
+pub(crate) struct Streaming<T: Drop> {
+    reader: StreamReader,
+    context: Context,
+    taker: T,
+    fault: Option<BadLine>,
+}
+
+/// What a stream was read into.
+#[derive(Drop)]
+pub(crate) struct Finished<T: Drop> {
+    pub context: Context,
+    pub taker: T,
+    pub globals: Snapshot,
+}
+
+impl<T: Taker + Drop> Fed for Streaming<T> {
+    ghost use Rattle.cal_query.specs.Streaming.{HasStreamed, MayBeFed};
+
+    ghost is_ready = { λ s. MayBeFed s.fault s };
+
+    ghost has_read = { HasStreamed T.has_taken };
+
+    fn feed(&mut self, piece: &[u8]) -> Result<(), OutOfMemory> {
+        if self.fault.is_some() {
+            return Ok(());
+        }
+        match self
+            .reader
+            .feed(piece, &mut self.context, &mut self.taker)
+        {
+            Ok(()) => Ok(()),
+            Err(StreamEnd::BadLine { line, kind }) => {
+                self.fault = Some(BadLine { line, kind });
+                Ok(())
+            }
+            Err(StreamEnd::OutOfMemory) => Err(OutOfMemory),
+        }
+    }
+}
+
+impl<T: Taker + Drop> Streaming<T> {
+    fn new(
+        alloc: Global,
+        mut context: Context,
+        taker: T,
+    ) -> Result<Streaming<T>, OutOfMemory>
+        requires { T.has_taken taker context [] }
+        ensures ready { IfOk result (λ s. MayBeFed s.fault s) }
+        ensures read { IfOk result (λ s. HasStreamed T.has_taken s []) }
+    {
+        let reader = StreamReader::new(alloc, &mut context)?;
+        Ok(Streaming {
+            reader,
+            context,
+            taker,
+            fault: None,
+        })
+    }
+
+    /// Reads the end of the input.
+    fn finish(self) -> Result<Finished<T>, RowsEnd>
+        requires { MayBeFed self.fault self }
+        ensures read { IfOk result (λ f. (bytes : List ℕ)
+            → HasStreamed T.has_taken self bytes → HasFinished T.has_taken f bytes) }
+        ensures refused { IfErr result (λ end. (bytes : List ℕ)
+            → HasStreamed T.has_taken self bytes → FallsAt end bytes) }
+    {
+        let Streaming {
+            mut reader,
+            mut context,
+            mut taker,
+            fault,
+        } = self;
+        if let Some(bad) = fault {
+            return Err(RowsEnd::BadLine {
+                line: bad.line,
+                kind: bad.kind,
+            });
+        }
+        let globals = reader.finish(&mut context, &mut taker)?;
+        Ok(Finished {
+            context,
+            taker,
+            globals,
+        })
+    }
+}
+
+/// Reads what an input has left as a stream, at most `limit` bytes, and hands its rows to a taker
+/// that has taken none. Behind its first fault the input is read, and not looked at.
+pub(crate) fn read_stream<S: Source, T: Taker + Drop>(
+    alloc: Global,
+    input: &mut S,
+    limit: u64,
+    context: Context,
+    taker: T,
+) -> Result<Finished<T>, RowsEnd>
+    requires { T.has_taken taker context [] }
+    ensures read { IfOk result (λ f. (bytes : List ℕ)
+        × ReadsAll limit (change_of S.left S.faults input.old input.new) bytes
+        × HasFinished T.has_taken f bytes) }
+    ensures refused { IfErr result (λ end.
+        StopsRows end limit (change_of S.left S.faults input.old input.new)) }
+{
+    let mut streaming = Streaming::new(alloc, context, taker)?;
+    feed_all(alloc, input, limit, &mut streaming)?;
+    streaming.finish()
+}

@@ -1,0 +1,52 @@
+ghost use Rattle.std.specs.Prelude.{◌≡◌, ◌≢◌, Ok, IfOk, IfErr};
+ghost use Rattle.std.specs.Result.{result_err};
+ghost use Rattle.cal_base.specs.Change.{Change, change_of};
+ghost use Rattle.caliper.specs.Causes.{Answers, Causes, ReadsInput};
+ghost use Rattle.caliper.specs.Inputs.{IsTextOf};
+
+use crate::{Command, Fault, INPUT_LIMIT, InputKind};
+use cal_base::{Sink, Source};
+use cal_query::{RowsEnd, rows_text};
+use cal_value::Text;
+use std::alloc::Global;
+
+/// Reads a stream, and writes the layout of its rows.
+pub fn query<S: Source, W: Sink>(
+    alloc: Global,
+    join: bool,
+    input: &mut S,
+    output: &mut W,
+) -> Result<(), Fault>
+    ensures answers { Answers (Ok (Command.Query join))
+        (change_of S.left S.faults input.old input.new)
+        (change_of W.written W.faults output.old output.new) (result_err result) }
+    ensures output { IfErr result (λ fault. fault ≢ Fault.WriteFault → output.new ≡ output.old) }
+{
+    let text = layout(alloc, join, input)?;
+    match output.put(text.as_str().as_bytes()) {
+        Ok(()) => Ok(()),
+        Err(_) => Err(Fault::WriteFault),
+    }
+}
+
+/// The layout of the rows of the stream that the input has left.
+fn layout<S: Source>(alloc: Global, join: bool, input: &mut S) -> Result<Text, Fault>
+    ensures read { IfOk result (λ text. ReadsInput
+        (change_of S.left S.faults input.old input.new)
+        (λ bytes. IsTextOf (Command.Query join) bytes text)) }
+
+    // The cause lies in the input, whatever becomes of the output.
+    ensures caused { IfErr result (λ fault. (output : Change) → Causes (Command.Query join)
+        (change_of S.left S.faults input.old input.new) output fault) }
+{
+    match rows_text(alloc, input, INPUT_LIMIT, join) {
+        Ok(text) => Ok(text),
+        Err(RowsEnd::BadLine { line, kind }) => Err(Fault::BadInput {
+            line,
+            kind: InputKind::Stream(kind),
+        }),
+        Err(RowsEnd::ReadFault) => Err(Fault::ReadFault),
+        Err(RowsEnd::TooLong) => Err(Fault::TooLong),
+        Err(RowsEnd::OutOfMemory) => Err(Fault::OutOfMemory),
+    }
+}
