@@ -1,0 +1,5 @@
+pub mod Kinds
+pub mod Words
+pub mod Reading
+pub mod Pending
+pub mod Both

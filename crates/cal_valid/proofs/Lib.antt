@@ -1,0 +1,5 @@
+pub mod Binds
+pub mod Values
+pub mod States
+pub mod Steps
+pub mod Runnable

@@ -1,0 +1,45 @@
+-- What holds of each script that some bytes mean, so that it can be run without a test.
+use Rattle.std.specs.Prelude.{◌≡◌, ℕ, ◌<◌, ◌≤◌, ◌^◌, List, [], length, sum_by, slice_get, All}
+use Rattle.std.specs.Prelude.{Some, true}
+use Rattle.cal_value.specs.Values.{kind_of}
+use Rattle.cal_value.specs.declared.attribute.Attribute.{Attribute}
+use Rattle.cal_value.specs.declared.variant.Variant.{Variant}
+use Rattle.cal_script.specs.declared.script.Script.{Script}
+use Rattle.cal_script.specs.declared.script.Channel.{Channel}
+use Rattle.cal_script.specs.declared.script.Line as lines
+use Rattle.cal_script.specs.declared.script.Line.TheVariants as line
+use Rattle.cal_script.specs.Parts.{is_allowed}
+
+-- The attribute and the value of a line are declared and kept, and the value is one that a script
+-- may have, of the attribute's kind.
+pub record IsOpening (attributes : List Attribute) (values : List Variant) (attr value : ℕ)
+    : Type 0 where
+  pub attribute : Attribute
+  pub opened : Variant
+  pub declared : slice_get attributes attr ≡ Some attribute
+  pub kept : slice_get values value ≡ Some opened
+  pub kind : kind_of opened ≡ attribute.kind
+  pub allowed : is_allowed opened ≡ true
+
+-- The channel of a line is declared, and aggregates.
+pub record IsFlushed (channels : List Channel) (channel : ℕ) : Type 0 where
+  pub flushed : Channel
+  pub declared : slice_get channels channel ≡ Some flushed
+  pub aggregates : flushed.aggregate ≡ true
+
+-- the numbers in a line are places of what stands
+abbrev pub IsPlaced : List Attribute → List Channel → List Variant → lines.Line → Type 0
+IsPlaced attributes channels values (line.Begin attr value) = IsOpening attributes values attr value
+IsPlaced attributes channels values (line.Set attr value) = IsOpening attributes values attr value
+IsPlaced attributes channels values (line.End attr) = attr < length attributes
+IsPlaced attributes channels values line.Snapshot = Unit {0}
+IsPlaced attributes channels values (line.Flush channel) = IsFlushed channels channel
+IsPlaced attributes channels values (line.Tick n) = n < 2 ^ 64
+
+-- A script that can be run: its lines have their places, and its numbers are small.
+pub record IsRunnable (script : Script) : Type 0 where
+  pub few_attributes : length script.attributes ≤ 1024
+  pub few_channels : length script.channels ≤ 16
+  pub few_threads : length script.threads ≤ 64
+  pub few_lines : sum_by length script.threads ≤ 1048576
+  pub places : All (All (IsPlaced script.attributes script.channels script.values)) script.threads
