@@ -1,4 +1,6 @@
 use crate::shown::read;
+use cal_value::Text;
+use std::alloc::{AllocError, Global};
 use std::test::Fail;
 
 // a stream with an attribute `a` (id 13) below properties 276 (id 12), a node of it (id 14), and an
@@ -9,8 +11,8 @@ const FRONT: &str = "__rec=node,id=12,attr=10,data=276,parent=3\n\
     __rec=node,id=15,attr=10,data=21,parent=1\n\
     __rec=node,id=16,attr=8,data=i,parent=15\n";
 
-/// The sixth line, and its fault; each kind alone, and two on one line in both orders of fields.
-const LINES: [(&str, &str); 34] = [
+/// The sixth line, and its fault: each kind alone, and two on one line in both orders.
+const FIELDS: [(&str, &str); 12] = [
     ("a", "BadField"),
     ("__rec=ctx,ref=14,ref=14", "BadField"),
     ("__rec=ctx,k=1,\\k=2", "BadField"),
@@ -26,6 +28,9 @@ const LINES: [(&str, &str); 34] = [
         "__rec=node,id=17,attr=13,data=x,parent=14=14",
         "MissingField",
     ),
+];
+
+const NUMBERS: [(&str, &str); 11] = [
     ("__rec=node,id=x,attr=13", "MissingField"),
     ("__rec=ctx,attr=16", "Uneven"),
     ("__rec=ctx,data=1", "Uneven"),
@@ -40,6 +45,9 @@ const LINES: [(&str, &str); 34] = [
     ("__rec=ctx,ref=99=x", "BadNumber"),
     ("__rec=ctx,ref=x=99", "BadNumber"),
     ("__rec=ctx,ref=17", "UnknownNode"),
+];
+
+const NODES: [(&str, &str); 11] = [
     ("__rec=node,id=17,attr=17,data=x", "UnknownNode"),
     ("__rec=node,id=17,attr=14,data=x,parent=99", "UnknownNode"),
     ("__rec=ctx,attr=14,data=x", "NotAttribute"),
@@ -53,13 +61,38 @@ const LINES: [(&str, &str); 34] = [
     ("__rec=node,id=3,attr=13,data=y", "Redefined"),
 ];
 
+/// What is wrong with a line behind the front.
+fn fault_of(alloc: Global, line: &str) -> Result<Text, Fail> {
+    let stream = format!(in alloc; "{FRONT}{line}\n")?;
+    read(alloc, stream.as_bytes())
+}
+
 #[test]
-fn each_fault_comes_in_its_order(rt: HostRuntime) -> Result<(), Fail> {
-    for (line, kind) in LINES {
-        let stream = format!(in rt.alloc(); "{FRONT}{line}\n")?;
+fn faults_of_fields_come_in_order(rt: HostRuntime) -> Result<(), Fail> {
+    for (line, kind) in FIELDS {
         let wanted = format!(in rt.alloc(); "line 6: {kind}")?;
-        let read = read(rt.alloc(), stream.as_bytes())?;
-        assert_eq!(rt; read.as_str(), wanted.as_str(), "{line}");
+        let fault = fault_of(rt.alloc(), line)?;
+        assert_eq!(rt; fault.as_str(), wanted.as_str(), "{line}");
+    }
+    Ok(())
+}
+
+#[test]
+fn faults_of_numbers_come_in_order(rt: HostRuntime) -> Result<(), Fail> {
+    for (line, kind) in NUMBERS {
+        let wanted = format!(in rt.alloc(); "line 6: {kind}")?;
+        let fault = fault_of(rt.alloc(), line)?;
+        assert_eq!(rt; fault.as_str(), wanted.as_str(), "{line}");
+    }
+    Ok(())
+}
+
+#[test]
+fn faults_of_nodes_come_in_order(rt: HostRuntime) -> Result<(), Fail> {
+    for (line, kind) in NODES {
+        let wanted = format!(in rt.alloc(); "line 6: {kind}")?;
+        let fault = fault_of(rt.alloc(), line)?;
+        assert_eq!(rt; fault.as_str(), wanted.as_str(), "{line}");
     }
     Ok(())
 }
@@ -72,7 +105,7 @@ fn a_line_that_is_no_text_is_refused(rt: HostRuntime) -> Result<(), Fail> {
 }
 
 /// A stream of nodes one below another, so many.
-fn deep(alloc: std::alloc::Global, depth: u32) -> Result<String, std::alloc::AllocError> {
+fn deep(alloc: Global, depth: u32) -> Result<String, AllocError> {
     let mut stream = String::from_str(alloc, FRONT)?;
     stream.push_str("__rec=node,id=100,attr=13,data=x\n")?;
     for level in 1..depth {

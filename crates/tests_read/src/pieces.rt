@@ -1,4 +1,5 @@
 ghost use Rattle.cal_read.specs.Owned.{IsOwnedReady};
+ghost use Rattle.cal_read.specs.Reading.{IsReady};
 
 use crate::shown::{read, show_end, show_record};
 use cal_context::{Context, Taken};
@@ -21,36 +22,55 @@ const STREAM: &str = "__rec=node,id=12,attr=10,data=276,parent=3\n\
 
 const RECORDS: &str = "function=main,|time.duration=0.25,;function=main,|;";
 
-/// Feeds two pieces, and gives the rows and the globals, or the fault.
-fn in_two(alloc: Global, one: &[u8], two: &[u8]) -> Result<Text, Fail> {
+/// Reads a stream in these pieces.
+fn in_pieces(alloc: Global, pieces: &[&[u8]], rows: &mut Seq<Rec>) -> Result<Rec, StreamEnd> {
     let mut reader = Reader::new(alloc)?;
-    let mut rows = Seq::new(alloc);
-    match feed_both(&mut reader, one, two, &mut rows) {
-        Ok(globals) => show(alloc, &rows, &globals),
+    feed_all(&mut reader, pieces, rows)
+}
+
+fn feed_all(reader: &mut Reader, pieces: &[&[u8]], rows: &mut Seq<Rec>) -> Result<Rec, StreamEnd>
+    requires { IsOwnedReady reader.old }
+{
+    for piece in pieces {
+        reader.feed(piece, rows)?;
+    }
+    reader.finish(rows)
+}
+
+/// Reads a stream byte by byte.
+fn in_bytes(alloc: Global, bytes: &[u8], rows: &mut Seq<Rec>) -> Result<Rec, StreamEnd> {
+    let mut reader = Reader::new(alloc)?;
+    feed_bytes(&mut reader, bytes, rows)
+}
+
+fn feed_bytes(reader: &mut Reader, bytes: &[u8], rows: &mut Seq<Rec>) -> Result<Rec, StreamEnd>
+    requires { IsOwnedReady reader.old }
+{
+    for place in 0..bytes.len() {
+        reader.feed(&bytes[place..place + 1], rows)?;
+    }
+    reader.finish(rows)
+}
+
+/// The records, the globals last, or the fault.
+fn show(alloc: Global, rows: &Seq<Rec>, read: Result<Rec, StreamEnd>) -> Result<Text, Fail> {
+    match read {
+        Ok(globals) => {
+            let mut out = Text::new(alloc);
+            for row in rows.as_slice() {
+                show_record(&mut out, row)?;
+            }
+            show_record(&mut out, &globals)?;
+            Ok(out)
+        }
         Err(end) => show_end(alloc, end),
     }
 }
 
-fn feed_both(
-    reader: &mut Reader,
-    one: &[u8],
-    two: &[u8],
-    rows: &mut Seq<Rec>,
-) -> Result<Rec, StreamEnd>
-    requires { IsOwnedReady reader.old }
-{
-    reader.feed(one, rows)?;
-    reader.feed(two, rows)?;
-    reader.finish(rows)
-}
-
-fn show(alloc: Global, rows: &Seq<Rec>, globals: &Rec) -> Result<Text, Fail> {
-    let mut out = Text::new(alloc);
-    for row in rows.as_slice() {
-        show_record(&mut out, row)?;
-    }
-    show_record(&mut out, globals)?;
-    Ok(out)
+fn in_two(alloc: Global, one: &[u8], two: &[u8]) -> Result<Text, Fail> {
+    let mut rows = Seq::new(alloc);
+    let read = in_pieces(alloc, &[one, two], &mut rows);
+    show(alloc, &rows, read)
 }
 
 #[test]
@@ -63,33 +83,19 @@ fn a_stream_in_one_piece(rt: HostRuntime) -> Result<(), Fail> {
 #[test]
 fn a_stream_in_two_pieces_at_each_place(rt: HostRuntime) -> Result<(), Fail> {
     let bytes = STREAM.as_bytes();
-    for (place, _) in bytes.iter().enumerate() {
-        let (one, two) = bytes.split_at(place);
-        let read = in_two(rt.alloc(), one, two)?;
+    for place in 0..bytes.len() {
+        let read = in_two(rt.alloc(), &bytes[..place], &bytes[place..])?;
         assert_eq!(rt; read.as_str(), RECORDS, "cut at {place}");
     }
     Ok(())
 }
 
-/// Feeds a stream byte by byte.
-fn feed_bytes(reader: &mut Reader, bytes: &[u8], rows: &mut Seq<Rec>) -> Result<Rec, StreamEnd>
-    requires { IsOwnedReady reader.old }
-{
-    let mut left = bytes;
-    while let Some((_, rest)) = left.split_first() {
-        reader.feed(&left[..1], rows)?;
-        left = rest;
-    }
-    reader.finish(rows)
-}
-
 #[test]
 fn a_stream_in_single_bytes(rt: HostRuntime) -> Result<(), Fail> {
-    let mut reader = Reader::new(rt.alloc())?;
     let mut rows = Seq::new(rt.alloc());
-    let globals = feed_bytes(&mut reader, STREAM.as_bytes(), &mut rows)?;
-    let read = show(rt.alloc(), &rows, &globals)?;
-    assert_eq!(rt; read.as_str(), RECORDS);
+    let read = in_bytes(rt.alloc(), STREAM.as_bytes(), &mut rows);
+    let shown = show(rt.alloc(), &rows, read)?;
+    assert_eq!(rt; shown.as_str(), RECORDS);
     Ok(())
 }
 
@@ -113,30 +119,54 @@ fn a_front_has_its_records_or_its_fault(rt: HostRuntime) -> Result<(), Fail> {
     Ok(())
 }
 
+const REFUSED: StreamEnd = StreamEnd::BadLine {
+    line: 1,
+    kind: StreamKind::UnknownNode,
+};
+
+/// Feeds a faulty line, and then more. It says whether all is refused.
+fn refuses(reader: &mut Reader, rows: &mut Seq<Rec>) -> bool
+    requires { IsOwnedReady reader.old }
+{
+    reader.feed(b"__rec=ctx,ref=12", rows).is_ok()
+        && reader.feed(b"\n", rows) == Err(REFUSED)
+        && reader.feed(STREAM.as_bytes(), rows) == Err(REFUSED)
+        && matches!(reader.finish(rows), Err(end) if end == REFUSED)
+}
+
 #[test]
 fn a_refusal_is_answered_again(rt: HostRuntime) -> Result<(), Fail> {
-    let refused = StreamEnd::BadLine {
-        line: 1,
-        kind: StreamKind::UnknownNode,
-    };
-    let mut reader = Reader::new(rt.alloc())?;
     let mut rows = Seq::new(rt.alloc());
-    assert_eq!(rt; reader.feed(b"__rec=ctx,ref=12", &mut rows), Ok(()));
-    assert_eq!(rt; reader.feed(b"\n", &mut rows), Err(refused));
-    assert_eq!(rt; reader.feed(STREAM.as_bytes(), &mut rows), Err(refused));
-    assert!(rt; matches!(reader.finish(&mut rows), Err(end) if end == refused));
+    let mut reader = Reader::new(rt.alloc())?;
+    assert!(rt; refuses(&mut reader, &mut rows));
     assert_eq!(rt; rows.len(), 0);
     Ok(())
 }
 
+/// The numbers of nodes of the globals.
+fn by_number(alloc: Global, context: &mut Context, taken: &mut Taken) -> Result<usize, StreamEnd> {
+    let mut reader = StreamReader::new(alloc, context)?;
+    feed_by_number(&mut reader, context, taken)
+}
+
+fn feed_by_number(
+    reader: &mut StreamReader,
+    context: &mut Context,
+    taken: &mut Taken,
+) -> Result<usize, StreamEnd>
+    requires { IsReady reader.old context.old }
+{
+    reader.feed(STREAM.as_bytes(), context, taken)?;
+    let globals = reader.finish(context, taken)?;
+    Ok(globals.nodes.len())
+}
+
 #[test]
 fn a_taker_takes_the_rows_by_number(rt: HostRuntime) -> Result<(), Fail> {
-    let mut context = Context::new(rt.alloc());
     let mut taken = Taken::new(rt.alloc());
-    let mut reader = StreamReader::new(rt.alloc(), &mut context)?;
-    reader.feed(STREAM.as_bytes(), &mut context, &mut taken)?;
-    let globals = reader.finish(&mut context, &mut taken)?;
-    assert_eq!(rt; globals.nodes.len(), 1);
+    let mut context = Context::new(rt.alloc());
+    let globals = by_number(rt.alloc(), &mut context, &mut taken);
+    assert_eq!(rt; globals, Ok(1));
     assert_eq!(rt; taken.into_rows().len(), 1);
     one_reading();
     readings_stay();
