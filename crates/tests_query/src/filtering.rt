@@ -140,33 +140,37 @@ fn entry(alloc: Global, text: &str) -> Result<Entry, Fail>
     let (kind, value) = rest.split_once(':').ok_or("a kind")?;
     let kind = Kind::from_name(kind).ok_or("a kind's name")?;
     let attr = Attribute {
-        name: Text::from_str(alloc, name).ok().ok_or("memory")?,
+        name: Text::from_str(alloc, name)?,
         kind,
         props: Props(0),
     };
-    let value = parse_value(alloc, kind, value).ok().ok_or("a value")?;
+    let value = parse_value(alloc, kind, value)?;
     Ok(Entry { attr, value })
 }
 
 fn entries(alloc: Global, text: &str) -> Result<Seq<Entry>, Fail>
     ensures { IfOk result (All (λ e. IsSmall e.value)) }
 {
-    let mut entries = Seq::new(alloc);
+    let mut items = Vec::new(alloc);
     for part in text.split_whitespace() {
         let entry = entry(alloc, part)?;
-        entries.push(entry).ok().ok_or("memory")?;
+        items.push(entry)?;
     }
-    Ok(entries)
+    Ok(Seq::from_vec(items))
 }
 
-fn record(alloc: Global, path: &str, imms: &str) -> Result<Rec, Fail>
+#[tactic(auto, using(crate::proofs::Smalls::smalls))]
+fn rec_of(alloc: Global, path: &str, imms: &str) -> Result<Rec, Fail>
     ensures { IfOk result HasSmallNumbers }
 {
     let path = entries(alloc, path)?;
     let imms = entries(alloc, imms)?;
-    let mut paths = Seq::new(alloc);
-    paths.push(path).ok().ok_or("memory")?;
-    Ok(Rec { paths, imms })
+    let mut items = Vec::new(alloc);
+    items.push(path)?;
+    Ok(Rec {
+        paths: Seq::from_vec(items),
+        imms,
+    })
 }
 
 /// The entries from this place on.
@@ -182,24 +186,22 @@ fn shown(alloc: Global, rec: &Rec, from: usize) -> Result<Text, Fail> {
 
 fn put(text: &mut Text, entry: &Entry) -> Result<(), Fail> {
     if !text.is_empty() {
-        text.push_str(" ").ok().ok_or("memory")?;
+        text.push_str(" ")?;
     }
-    text.push_str(entry.attr.name.as_str())
-        .ok()
-        .ok_or("memory")?;
-    text.push_str("=").ok().ok_or("memory")?;
-    print_value(&entry.value, text).ok().ok_or("memory")?;
+    text.push_str(entry.attr.name.as_str())?;
+    text.push_str("=")?;
+    print_value(&entry.value, text)?;
     Ok(())
 }
 
 fn by_entries(alloc: Global, query: &Query, path: &str, imms: &str) -> Result<Text, Fail>
     requires { IsValidQuery query.now }
 {
-    let rec = record(alloc, path, imms)?;
+    let rec = rec_of(alloc, path, imms)?;
     let from = rec.imms.len();
-    match apply(alloc, query, rec).ok().ok_or("memory")? {
+    match apply(alloc, query, rec)? {
         Some(full) => shown(alloc, &full, from),
-        None => Ok(Text::from_str(alloc, "dropped").ok().ok_or("memory")?),
+        None => Ok(Text::from_str(alloc, "dropped")?),
     }
 }
 
@@ -210,13 +212,10 @@ fn step(
     parent: NodeNumber,
     entry: &Entry,
 ) -> Result<NodeNumber, Fail> {
-    let attribute = context.attribute(&entry.attr).ok().ok_or("memory")?;
+    let attribute = context.attribute(&entry.attr)?;
     assert!(rt; (attribute.0 as usize) < context.attribute_count());
     assert!(rt; (parent.0 as usize) < context.node_count());
-    let node = context
-        .child(parent, attribute, &entry.value)
-        .ok()
-        .ok_or("memory")?;
+    let node = context.child(parent, attribute, &entry.value)?;
     Ok(node)
 }
 
@@ -248,8 +247,8 @@ fn put_immediates(
     imms: &mut Vec<Immediate>,
 ) -> Result<(), Fail> {
     for entry in rec.imms.as_slice() {
-        let attribute = context.attribute(&entry.attr).ok().ok_or("memory")?;
-        let value = entry.value.copy(alloc).ok().ok_or("memory")?;
+        let attribute = context.attribute(&entry.attr)?;
+        let value = entry.value.copy(alloc)?;
         imms.push(Immediate { attribute, value })?;
     }
     Ok(())
@@ -292,23 +291,21 @@ fn by_number(
     requires { IsValidQuery query.now }
 {
     let mut context = Context::new(alloc);
-    let mut filter = Filter::new(alloc, query, &mut context)
-        .ok()
-        .ok_or("memory")?;
-    let rec = record(alloc, path, imms)?;
+    let mut filter = Filter::new(alloc, query, &mut context)?;
+    let rec = rec_of(alloc, path, imms)?;
     let mut snapshot = numbered(rt, alloc, &mut context, &rec)?;
     check(rt, &context, &snapshot);
-    if filter.apply(&context, &mut snapshot).ok().ok_or("memory")? {
-        let full = expand(alloc, &context, &snapshot).ok().ok_or("memory")?;
+    if filter.apply(&context, &mut snapshot)? {
+        let full = expand(alloc, &context, &snapshot)?;
         shown(alloc, &full, rec.imms.len())
     } else {
-        Ok(Text::from_str(alloc, "dropped").ok().ok_or("memory")?)
+        Ok(Text::from_str(alloc, "dropped")?)
     }
 }
 
 fn table(rt: &impl Abort, alloc: Global, rows: &[Row]) -> Result<(), Fail> {
     for (text, path, imms, answer) in rows {
-        let query = parse_query(alloc, *text).ok().ok_or("a query")?;
+        let query = parse_query(alloc, *text)?;
         let one = by_entries(alloc, &query, *path, *imms)?;
         assert_eq!(rt; one.as_str(), *answer, "{text} on {path} {imms}");
         let other = by_number(rt, alloc, &query, *path, *imms)?;

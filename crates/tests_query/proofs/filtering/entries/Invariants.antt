@@ -4,4 +4,4 @@ use Rattle.tests_query.proofs.filtering.entries.Given as goal
 
 -- the entries so far are small
 abbrev pub invariant-loop-part : goal.invariant-loop-part
-invariant-loop-part l = All (λ e. IsSmall e.value) l.entries
+invariant-loop-part l = All (λ e. IsSmall e.value) l.items.items
