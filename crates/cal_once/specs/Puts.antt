@@ -84,8 +84,8 @@ module _ {S : Type 0} where
       pub learns : Learns (noting place v) w
 
     -- What an answer tells, by what the seat knew before and what it knows now. The list of
-    -- published places grows exactly by a fresh place, which the seat didn't know, and that of empty
-    -- looks only where the arena is full.
+    -- published places grows exactly by a fresh place, which the seat didn't know, and that of
+    -- empty looks only where the arena is full.
     abbrev pub Answers : View S → View S → Put → Type 0
     Answers v w (Placed place false) = IsPlaced w place × Learns v w
     Answers v w (Placed place true) =

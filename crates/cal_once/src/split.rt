@@ -34,9 +34,9 @@ impl<S: RecSort> Rows<S> {
         }
     }
 
-    /// The first seat takes in what another one knew and published. That one says nothing more. What
-    /// the first one then knows is sound, so that places which both had from `put` are one exactly
-    /// where their records are equal.
+    /// The first seat takes in what another one knew and published. That one says nothing more.
+    /// What the first one then knows is sound, so that places which both had from `put` are one
+    /// exactly where their records are equal.
     pub fn join(&self, seat: &mut RowSeat<S>, other: RowSeat<S>)
         requires seats { IsSeatOf self.now seat.old × IsSeatOf self.now other }
         requires first { (view seat.old).number ≡ 0 }

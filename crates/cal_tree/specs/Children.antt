@@ -25,7 +25,8 @@ module _ (plan : Plan NodeSort) (parent depth : ℕ) (entry : NodeEntry) where
   -- published places grew by its place, or stayed. TooDeep comes where no child may be, and only
   -- then; the other refusals as the rows give them.
   abbrev pub Gives : View NodeSort → View NodeSort → Result NodeId TreeFull → Type 0
-  Gives v w (Ok node) = (depth < deepest) × IsChild plan.shape.slots w parent (depth + 1) entry node.0
+  Gives v w (Ok node) = (depth < deepest)
+      × IsChild plan.shape.slots w parent (depth + 1) entry node.0
       × ((place : ℕ) × (fresh : Bool) × (node.0 ≡ place + 1)
       × Answers child_ask v w (put.Placed place fresh))
   Gives v w (Err full.RowsFull) = (depth < deepest) × Answers child_ask v w put.RowsFull

@@ -43,6 +43,7 @@ impl Tree {
         ensures later { IsLater (view seat.old) (view seat.new) }
         ensures answer { IsAnswer (plan_of self.now) parent.0
             (record { attr = attr; value = value.now }) (view seat.old) (view seat.new) result }
+        ensures known { IfOk result (λ node. IsKnownNode self.now seat.new node.0) }
         ensures path { (path : List NodeEntry) → IsPathOf self.now seat.new path parent.0
             → IfOk result (λ node. IsPathOf self.now seat.new
             (path ++ record { attr = attr; value = value.now } ∷ []) node.0) }

@@ -1,8 +1,9 @@
-use Rattle.std.proofs.Common.{◌≡◌, ◌+◌, ◌<◌, ◌++◌, ℕ, [], ◌∷◌, List, length, refl, sym, subst, arith}
+use Rattle.std.proofs.Common.{◌≡◌, ◌+◌, ◌<◌, ◌++◌, ℕ, [], ◌∷◌, List, length, inr, refl, subst, arith}
 use Rattle.cal_words.specs.Words.{node_words}
 use Rattle.cal_once.specs.declared.answer.Put.TheVariants.{Placed, RowsFull, ArenaFull}
 use Rattle.cal_once.specs.Seats.{view}
 use Rattle.cal_once.proofs.Answering.{answers_then}
+use Rattle.cal_once.proofs.Seen.{was_seen_from}
 use Rattle.cal_tree.specs.Children.{child_ask}
 use Rattle.cal_tree.specs.Paths.{NodeEntry, IsChild, IsDepthOf}
 use Rattle.cal_tree.specs.Seats.{plan_of, slots_of}
@@ -73,3 +74,8 @@ returns-in-Placed-clause-path c path l =
     let depth = depth_of_path (plan_of c.args.self.now) v c.put.ensures.sound path c.args.parent.0 c.depth-depth.result (depth_now (goal.at.returns-in-Placed-clause-path c).After-put) l in
     let at : c.depth-depth.result + 1 ≡ 0 + length path + 1 = omega arith in
     leads_more slots v 0 0 path entry c.args.parent.0 (c.in-Placed.place + 1) l (subst (λ (d : ℕ). IsChild slots v c.args.parent.0 d entry (c.in-Placed.place + 1)) at (child_now (goal.at.returns-in-Placed-clause-path c).In-Placed))
+
+pub returns-in-Placed-clause-known : goal.returns-in-Placed-clause-known
+returns-in-Placed-clause-known c =
+    let child = child_now (goal.at.returns-in-Placed-clause-known c).In-Placed in
+    inr (child.place, child.node_is, child.within, was_seen_from (view c.put.new.seat).seen (child.place + 1) child.holds.slot child.holds.known)
