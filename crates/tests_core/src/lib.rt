@@ -1,4 +1,4 @@
-//! Tests of blackboards, and of the pure core over them.
+//! Tests of blackboards.
 //!
 //! Each file is one layer's table of worked rows and hand-written answers. It promises nothing
 //! that a contract says; it shows what no clause can say, that calls succeed with ample memory.
