@@ -1,0 +1,12 @@
+pub mod Firsts
+pub mod Places
+pub mod Rooms
+pub mod Merging
+pub mod Partitions
+pub mod Sorts
+pub mod Gathering
+pub mod Takings
+pub mod Lasts
+pub mod Drops
+pub mod Ranking
+pub mod Folds

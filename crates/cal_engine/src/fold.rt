@@ -1,0 +1,97 @@
+ghost use Rattle.std.specs.Prelude.{◌≡◌, ◌++◌, [], ◌∷◌, List, IfOk, OnOk, OnErr};
+ghost use Rattle.cal_ql.specs.Valid.{IsValidQuery};
+ghost use Rattle.cal_ql.specs.declared.query.Query.{Query as AQuery};
+ghost use Rattle.cal_value.specs.declared.record.Rec.{Rec as ARecord};
+ghost use Rattle.cal_engine.specs.Folding.{StandsFor, folded};
+ghost use Rattle.cal_engine.specs.Rows.{is_aggregated as is_aggregated_by};
+
+use crate::grouping::group_of;
+use crate::groups::Groups;
+use crate::reading::{Reading, parts_of, readings_of};
+use crate::small::has_small_numbers;
+use cal_filter::apply;
+use cal_ql::Query;
+use cal_value::{OutOfMemory, Rec, Seq, TryCopy};
+use std::alloc::Global;
+use std::marker::Model;
+
+/// A query on records that come one by one. It keeps the groups of an aggregated query, and the
+/// kept records of another one.
+#[derive(Drop)]
+pub struct Fold {
+    alloc: Global,
+    query: Query,
+    readings: Vec<Reading>,
+    groups: Groups,
+    rows: Seq<Rec>,
+}
+
+impl Model for Fold {
+    ghost use Rattle.std.specs.Prelude.{◌≡◌, map};
+    ghost use Rattle.cal_ql.specs.Valid.{IsValidQuery};
+    ghost use Rattle.cal_engine.specs.Folding.{Folded};
+    ghost use Rattle.cal_engine.specs.Readings.{reading_of};
+
+    ghost Value = { Folded };
+
+    ghost view = { λ f. record { query = f.query; groups = f.groups; rows = f.rows } };
+
+    ghost invariant = { λ f. IsValidQuery f.query
+        × (f.readings.items ≡ map reading_of f.query.aggs) };
+}
+
+impl Fold {
+    /// The fold of no record. The query is copied.
+    pub fn new(alloc: Global, query: &Query) -> Result<Fold, OutOfMemory>
+        requires { IsValidQuery query.now }
+        ensures { IfOk result (λ fold. StandsFor query.now [] fold) }
+    {
+        Ok(Fold {
+            alloc,
+            query: query.copy(alloc)?,
+            readings: readings_of(alloc, query.aggs.as_slice())?,
+            groups: Groups::new(alloc),
+            rows: Seq::new(alloc),
+        })
+    }
+
+    /// Adds a record at the end. A number above 2^86 in magnitude, or a 2^32nd one in a group, is
+    /// answered as want of memory is.
+    #[tactic(auto, using(crate::proofs::Folds::stands_with, crate::proofs::Folds::stands_without))]
+    pub fn add(&mut self, rec: Rec) -> Result<(), OutOfMemory>
+        ensures ok { OnOk result ((q : AQuery) (rs : List ARecord)
+            → StandsFor q rs self.old → StandsFor q (rs ++ rec ∷ []) self.new) }
+        ensures err { OnErr result (self.new ≡ self.old) }
+    {
+        if !has_small_numbers(&rec) {
+            return Err(OutOfMemory);
+        }
+        match apply(self.alloc, &self.query, rec)? {
+            Some(kept) => self.add_kept(kept),
+            None => Ok(()),
+        }
+    }
+
+    /// Adds a record that LET and WHERE made.
+    #[tactic(auto, using(crate::proofs::Folds::folded_grouped, crate::proofs::Folds::folded_row))]
+    fn add_kept(&mut self, kept: Rec) -> Result<(), OutOfMemory>
+        ensures ok { OnOk result ((q : AQuery) (rs : List ARecord)
+            → self.old ≡ folded q rs → self.new ≡ folded q (rs ++ kept ∷ [])) }
+        ensures err { OnErr result (self.new ≡ self.old) }
+    {
+        if is_aggregated(&self.query) {
+            let parts = parts_of(self.alloc, &self.readings, &kept)?;
+            let key = group_of(self.alloc, &self.query.group, kept)?;
+            self.groups.gather(self.alloc, key, parts)
+        } else {
+            self.rows.push(kept)
+        }
+    }
+}
+
+/// A query is aggregated where it has GROUP BY or a kernel.
+fn is_aggregated(query: &Query) -> bool
+    ensures { result ≡ is_aggregated_by query.now }
+{
+    query.group.is_some() || !query.aggs.is_empty()
+}

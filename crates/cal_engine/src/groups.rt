@@ -1,0 +1,110 @@
+ghost use Rattle.std.specs.Prelude.{◌≡◌, ◌≤◌, length, IfOk, OnOk, OnErr};
+ghost use Rattle.cal_engine.specs.Folding.{Gathers, no_groups, put_parts};
+ghost use Rattle.std.specs.Option.{option_copied};
+ghost use Rattle.cal_engine.specs.Parts.{behind, merged_parts as merged_by_place};
+
+use crate::part::Part;
+use cal_context::Interner;
+use cal_value::{OutOfMemory, Rec, Seq};
+use std::alloc::Global;
+use std::marker::Model;
+
+/// Groups by numbers, in first-seen order, and what is kept of the records of each.
+#[derive(Drop)]
+pub(crate) struct Groups {
+    keys: Interner<Rec>,
+    parts: Vec<Seq<Part>>,
+}
+
+impl Model for Groups {
+    ghost use Rattle.std.specs.Prelude.{◌≡◌, length};
+    ghost use Rattle.cal_engine.specs.Folding.{Grouped};
+
+    ghost Value = { Grouped };
+
+    ghost view = { λ s. record { keys = s.keys; parts = s.parts.items } };
+
+    ghost invariant = { λ s. length s.parts.items ≡ length s.keys };
+}
+
+impl Groups {
+    /// No group. It takes no memory.
+    pub fn new(alloc: Global) -> Groups
+        ensures { result ≡ no_groups }
+    {
+        Groups {
+            keys: Interner::new(alloc),
+            parts: Vec::new(alloc),
+        }
+    }
+
+    #[tactic(auto, using(crate::proofs::Places::number_within, crate::proofs::Places::truncated, crate::proofs::Gathering::put_long))]
+    /// Puts what is kept of some records to their group, behind what is there.
+    pub fn gather(
+        &mut self,
+        alloc: Global,
+        key: Rec,
+        fresh: Seq<Part>,
+    ) -> Result<(), OutOfMemory>
+        ensures ok { OnOk result (Gathers self.old key fresh self.new) }
+        ensures err { OnErr result (self.new ≡ self.old) }
+    {
+        let count = self.keys.as_slice().len();
+        let number = self.keys.intern(key)? as usize;
+        let put = put(alloc, &mut self.parts, number, fresh);
+        if put.is_err() {
+            self.keys.truncate(count);
+        }
+        put
+    }
+}
+
+/// Puts parts behind those of a number, or at the end.
+#[tactic(auto, using(crate::proofs::Gathering::put_parts_set, crate::proofs::Gathering::put_parts_end))]
+fn put(
+    alloc: Global,
+    parts: &mut Vec<Seq<Part>>,
+    number: usize,
+    fresh: Seq<Part>,
+) -> Result<(), OutOfMemory>
+    requires { number ≤ length parts.old.items }
+    ensures ok { OnOk result (parts.new.items ≡ put_parts parts.old.items number fresh) }
+    ensures err { OnErr result (parts.new.items ≡ parts.old.items) }
+{
+    if number < parts.len() {
+        let merged = merged_parts(alloc, &parts[number], &fresh)?;
+        parts[number] = merged;
+    } else {
+        parts.push(fresh)?;
+    }
+    Ok(())
+}
+
+/// Parts merged place by place.
+pub(crate) fn merged_parts(
+    alloc: Global,
+    parts: &Seq<Part>,
+    fresh: &Seq<Part>,
+) -> Result<Seq<Part>, OutOfMemory>
+    ensures { IfOk result (λ merged. merged ≡ merged_by_place parts.now fresh.now) }
+{
+    let mut merged = Vec::with_capacity(alloc, fresh.len())?;
+    for (place, part) in fresh.as_slice().iter().enumerate() {
+        merged.push(merged_part(parts.get(place), part)?)?;
+    }
+    Ok(Seq::from_vec(merged))
+}
+
+/// A part behind another, if there is one.
+fn merged_part(part: Option<&Part>, fresh: &Part) -> Result<Part, OutOfMemory>
+    ensures { IfOk result (λ merged. merged ≡ behind (option_copied part.entry) fresh.now) }
+{
+    match part {
+        None => Ok(*fresh),
+        Some(part) => {
+            let mut merged = *part;
+            merged.merge(fresh)?;
+            Ok(merged)
+        }
+    }
+}
