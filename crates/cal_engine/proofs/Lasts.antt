@@ -5,8 +5,11 @@ use Rattle.std.proofs.lemmas.Grind.{common_steps, flat_map-append, take_at_read}
 use Rattle.std.proofs.lemmas.List.{map-append}
 use Rattle.std.proofs.lemmas.List.Elements.{filter-append, filter_map-append}
 use Rattle.cal_agg.specs.declared.num.Num.{Num}
-use Rattle.cal_filter.specs.Named.{is_named}
-use Rattle.std.specs.Prelude.{option_map}
+use Rattle.cal_filter.specs.Named.{is_named, last_number}
+use Rattle.cal_filter.specs.Numbers.{number_in}
+use Rattle.cal_engine.proofs.Drops.{filter_map_more}
+use Rattle.std.specs.Prelude.{option_and_then, option_map}
+use Rattle.std.specs.Option.{option_to_list}
 use Rattle.cal_value.specs.Flat.{flat, joined}
 use Rattle.cal_value.specs.declared.attribute.Entry.{Entry}
 use Rattle.cal_value.specs.declared.record.Rec.{Rec}
@@ -153,3 +156,24 @@ last_or-map f o (x ∷ xs) = last_or-map f (Some x) xs
 
 pub last_value_is : (name : List ℕ) (row : Rec) (o : Option Variant) → o ≡ last_or None (values_of name (flat row)) → o ≡ value_named name row
 last_value_is name row o is = is ∙ last_or-map (λ (e : Entry). e.value) None (filter (is_named name) (flat row))
+
+-- where any number is sought, the last is the last number
+sought_any : (o : Option Num) → option_and_then (λ n. Some n) o ≡ o
+sought_any None = refl
+sought_any (Some n) = refl
+
+sought_all : (es : List Entry) → filter_map (λ e. number_sought false e.value) es ≡ filter_map (λ e. number_in e.value) es
+sought_all [] = refl
+sought_all (e ∷ es) = λ i. cons_option (sought_any (number_in e.value) i) (sought_all es i)
+
+-- one more last number is found
+pub numbers_found : (names : List (List ℕ)) (r : Rec) (n : ℕ) (name : List ℕ) (found : Option Num) (before now : List Num)
+    → n < length names → name ≡ get_or names n name
+    → before ≡ filter_map (λ m. last_number m r) (take n names)
+    → now ≡ before ++ option_to_list found
+    → found ≡ last_or None (numbers_sought false name (flat r))
+    → now ≡ filter_map (λ m. last_number m r) (take (n + 1) names)
+numbers_found names r n name found before now l e is step has =
+    step
+    ∙ (λ i. is i ++ option_to_list ((has ∙ ap (last_or None) (sought_all (filter (is_named name) (flat r)))) i))
+    ∙ sym (filter_map_more (λ m. last_number m r) names n name l e)

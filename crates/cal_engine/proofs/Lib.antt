@@ -10,3 +10,10 @@ pub mod Lasts
 pub mod Drops
 pub mod Ranking
 pub mod Folds
+pub mod Learned
+pub mod Trails
+pub mod Ascents
+pub mod Reaching
+pub mod Results
+pub mod Totalling
+pub mod GroupRows

@@ -5,6 +5,7 @@ use Rattle.std.specs.List.{flat_map}
 use Rattle.std.proofs.lemmas.List.{length-append}
 use Rattle.std.proofs.lemmas.Grind.{flat_map-append}
 use Rattle.cal_agg.specs.declared.num.Num.{Num}
+use Rattle.cal_agg.specs.Parts.{greatest_over, least_over, sum_over}
 use Rattle.cal_agg.specs.Joins.{sum_joins, least_joins, greatest_joins, parts_by-append, merged_comm, merged_assoc}
 use Rattle.cal_ql.specs.declared.names.KernelName as kernels
 use Rattle.cal_ql.specs.declared.names.KernelName.TheVariants as kernel
@@ -36,3 +37,30 @@ parts_over-append [] rs ss = refl
 parts_over-append (agg ∷ aggs) rs ss =
     let first = ap (part_over agg.kernel) (contributed-append agg rs ss) ∙ part_over-append agg.kernel (contributed agg rs) (contributed agg ss) in
     λ i. first i ∷ parts_over-append aggs rs ss i
+
+sums_swap : (ns ms : List Num) → sum_over (ns ++ ms) ≡ sum_over (ms ++ ns)
+sums_swap ns ms = parts_by-append sum_joins ns ms ∙ merged_comm sum_joins (sum_over ns) (sum_over ms) ∙ sym (parts_by-append sum_joins ms ns)
+
+held_over-swap : (k : kernels.KernelName) (ns ms : List Num) → held_over k (ns ++ ms) ≡ held_over k (ms ++ ns)
+held_over-swap kernel.Min ns ms = ap held.Least (parts_by-append least_joins ns ms ∙ merged_comm least_joins (least_over ns) (least_over ms) ∙ sym (parts_by-append least_joins ms ns))
+held_over-swap kernel.Max ns ms = ap held.Greatest (parts_by-append greatest_joins ns ms ∙ merged_comm greatest_joins (greatest_over ns) (greatest_over ms) ∙ sym (parts_by-append greatest_joins ms ns))
+held_over-swap kernel.Count ns ms = ap held.Sum (sums_swap ns ms)
+held_over-swap kernel.Sum ns ms = ap held.Sum (sums_swap ns ms)
+held_over-swap kernel.Avg ns ms = ap held.Sum (sums_swap ns ms)
+held_over-swap kernel.Inclusive ns ms = ap held.Sum (sums_swap ns ms)
+held_over-swap kernel.Percent ns ms = ap held.Sum (sums_swap ns ms)
+
+-- so it is in either order
+part_over-swap : (k : kernels.KernelName) (ns ms : List Num) → part_over k (ns ++ ms) ≡ part_over k (ms ++ ns)
+part_over-swap k ns ms =
+    let long = length-append ns ms ∙ add_comm (length ns) (length ms) ∙ sym (length-append ms ns) in
+    λ i. record { many = long i; held = held_over-swap k ns ms i }
+
+pub parts_over-swap : (aggs : List Agg) (rs ss : List Rec) → parts_over aggs (rs ++ ss) ≡ parts_over aggs (ss ++ rs)
+parts_over-swap [] rs ss = refl
+parts_over-swap (agg ∷ aggs) rs ss =
+    let first =
+        ap (part_over agg.kernel) (contributed-append agg rs ss)
+        ∙ part_over-swap agg.kernel (contributed agg rs) (contributed agg ss)
+        ∙ ap (part_over agg.kernel) (sym (contributed-append agg ss rs)) in
+    λ i. first i ∷ parts_over-swap aggs rs ss i

@@ -18,12 +18,16 @@ use Rattle.cal_engine.specs.Sorting.{sorted_rows}
 abbrev pub plain_column : List ℕ → Column
 plain_column name = record { header = name; name = name }
 
--- the names that rows show: `path` where some row has a hierarchy, and then those of all other
--- entries, each where it is first seen
+-- `path`, where some row has a hierarchy
+abbrev pub path_first : List Rec → List (List ℕ)
+path_first rows =
+    if list_any (λ row. has_entries (hierarchy row)) rows then codes "path" ∷ [] else []
+
+-- the names that rows show: first `path`, and then those of all other entries, each where it is
+-- first seen
 abbrev pub shown_names : List Rec → List (List ℕ)
-shown_names rows = first_seen (
-    (if list_any (λ row. has_entries (hierarchy row)) rows then codes "path" ∷ [] else [])
-    ++ flat_map (λ row. map (λ e. e.attr.name) (other_entries row)) rows)
+shown_names rows = first_seen
+    (path_first rows ++ flat_map (λ row. map (λ e. e.attr.name) (other_entries row)) rows)
 
 -- the columns without a SELECT list: with GROUP BY its names, and then those of the results
 abbrev pub columns_without_list : Query → Option (List (List ℕ)) → List Rec → List Column
@@ -36,14 +40,18 @@ abbrev pub columns_of : Query → Option (List Item) → List Rec → List Colum
 columns_of q (Some items) rows = map (λ i. record { header = i.header; name = i.name }) items
 columns_of q None rows = columns_without_list q q.group rows
 
--- The answer over the kept records.
-abbrev pub answer_over : Query → List Rec → Rowset
-answer_over q rs =
-    let rows = sorted_rows q.order (rows_of q rs) in record {
+-- The answer with these rows, which are ordered. Its globals are empty.
+abbrev pub answer_with : Query → List Rec → Rowset
+answer_with q unordered =
+    let rows = sorted_rows q.order unordered in record {
       rows = record { rows = rows; globals = record { paths = []; imms = [] } };
       columns = columns_of q q.select rows;
       all = not (is_some q.select);
     }
+
+-- the answer over the kept records
+abbrev pub answer_over : Query → List Rec → Rowset
+answer_over q rs = answer_with q (rows_of q rs)
 
 -- The answer of a query on records: LET and WHERE first.
 abbrev pub answer_of : Query → List Rec → Rowset

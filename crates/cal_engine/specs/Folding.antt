@@ -52,6 +52,11 @@ folded q rs = record {
   rows = if is_aggregated q then [] else rs;
 }
 
+-- a query, groups and rows are those of the fold of kept records
+abbrev pub IsFolded : Query → Grouped → List Rec → List Rec → Type 0
+IsFolded q groups rows rs =
+    record { query = q; groups = groups; rows = rows } ≡ folded q rs
+
 -- The fold stands for these records: it holds what LET and WHERE keep of them.
 abbrev pub StandsFor : Query → List Rec → Folded → Type 0
 StandsFor q rs fold = fold ≡ folded q (filter_map (kept q) rs)

@@ -9,3 +9,6 @@ pub mod Rows
 pub mod Answers
 pub mod Folding
 pub mod Learning
+pub mod Trails
+pub mod Totals
+pub mod Finishing

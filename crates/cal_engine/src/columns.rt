@@ -1,7 +1,8 @@
 ghost use Rattle.std.specs.Prelude.{◌≡◌, ◌++◌, map, IfOk, OnOk};
-ghost use Rattle.std.specs.List.{flat_map};
-ghost use Rattle.cal_rowset.specs.Hierarchy.{hierarchy, other_entries};
-ghost use Rattle.cal_engine.specs.Answers.{columns_of as columns_by, plain_column, shown_names};
+ghost use Rattle.std.specs.List.{flat_map, list_any};
+ghost use Rattle.cal_rowset.specs.Hierarchy.{hierarchy, is_of_hierarchy as is_nested, other_entries};
+ghost use Rattle.cal_engine.specs.Answers.{columns_of as columns_by, path_first, plain_column};
+ghost use Rattle.cal_engine.specs.Answers.{shown_names};
 ghost use Rattle.cal_engine.specs.Groups.{has_entries};
 ghost use Rattle.cal_engine.specs.Learning.{learned, learned_one, names_beside};
 
@@ -81,14 +82,37 @@ fn plain(alloc: Global, name: &Text) -> Result<Column, OutOfMemory>
 fn shown_columns(alloc: Global, rows: &[Rec]) -> Result<Seq<Column>, OutOfMemory>
     ensures { IfOk result (λ columns. columns ≡ map plain_column (shown_names rows.now)) }
 {
-    let mut names = IndexSet::new(alloc);
-    if rows.iter().any(has_hierarchy) {
-        names.insert(Text::from_str(alloc, "path")?)?;
-    }
-    learn_rows(alloc, &mut names, rows)?;
+    let names = shown(alloc, rows)?;
     let mut columns = Vec::new(alloc);
     add_columns(alloc, &mut columns, names.as_slice())?;
     Ok(Seq::from_vec(columns))
+}
+
+#[tactic(auto, using(crate::proofs::Learned::learned_shown))]
+fn shown(alloc: Global, rows: &[Rec]) -> Result<IndexSet<Text>, OutOfMemory>
+    ensures { IfOk result (λ names. names.keys ≡ shown_names rows.now) }
+{
+    let mut names = first_names(alloc, rows)?;
+    learn_rows(alloc, &mut names, rows)?;
+    Ok(names)
+}
+
+/// `path`, where some row has a hierarchy.
+fn first_names(alloc: Global, rows: &[Rec]) -> Result<IndexSet<Text>, OutOfMemory>
+    ensures { IfOk result (λ names. names.keys ≡ path_first rows.now) }
+{
+    let mut names = IndexSet::new(alloc);
+    if !some_hierarchy(rows) {
+        return Ok(names);
+    }
+    names.insert(Text::from_str(alloc, "path")?)?;
+    Ok(names)
+}
+
+fn some_hierarchy(rows: &[Rec]) -> bool
+    ensures { result ≡ list_any (λ row. has_entries (hierarchy row)) rows.now }
+{
+    rows.iter().any(|row| has_hierarchy(row))
 }
 
 /// Learns the names of the entries of rows, those of hierarchies aside.
@@ -109,7 +133,8 @@ fn learn_row(alloc: Global, names: &mut IndexSet<Text>, row: &Rec) -> Result<(),
     for path in row.paths.as_slice() {
         learn_entries(alloc, names, true, path.as_slice())?;
     }
-    learn_entries(alloc, names, false, row.imms.as_slice())
+    learn_entries(alloc, names, false, row.imms.as_slice())?;
+    Ok(())
 }
 
 /// Learns the names of entries, in paths of those that aren't of the hierarchy.
@@ -143,8 +168,17 @@ fn learn(alloc: Global, names: &mut IndexSet<Text>, name: &Text) -> Result<(), O
 fn has_hierarchy(row: &Rec) -> bool
     ensures { result ≡ has_entries (hierarchy row.now) }
 {
-    row.paths
-        .as_slice()
-        .iter()
-        .any(|path| path.as_slice().iter().any(|entry| is_of_hierarchy(&entry.attr)))
+    some_nested(row.paths.as_slice())
+}
+
+fn some_nested(paths: &[Seq<Entry>]) -> bool
+    ensures { result ≡ list_any (λ path. list_any (λ e. is_nested e.attr) path) paths.now }
+{
+    paths.iter().any(|path| has_nested(path.as_slice()))
+}
+
+fn has_nested(entries: &[Entry]) -> bool
+    ensures { result ≡ list_any (λ e. is_nested e.attr) entries.now }
+{
+    entries.iter().any(|entry| is_of_hierarchy(&entry.attr))
 }

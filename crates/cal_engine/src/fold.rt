@@ -2,16 +2,21 @@ ghost use Rattle.std.specs.Prelude.{◌≡◌, ◌++◌, [], ◌∷◌, List, If
 ghost use Rattle.cal_ql.specs.Valid.{IsValidQuery};
 ghost use Rattle.cal_ql.specs.declared.query.Query.{Query as AQuery};
 ghost use Rattle.cal_value.specs.declared.record.Rec.{Rec as ARecord};
-ghost use Rattle.cal_engine.specs.Folding.{StandsFor, folded};
-ghost use Rattle.cal_engine.specs.Rows.{is_aggregated as is_aggregated_by};
+ghost use Rattle.cal_engine.specs.Answers.{answer_of, answer_with};
+ghost use Rattle.cal_engine.specs.Folding.{StandsFor, IsFolded, folded};
+ghost use Rattle.cal_engine.specs.Rows.{is_aggregated as is_aggregated_by, rows_of};
 
+use crate::columns::columns_of;
+use crate::finishing::group_rows;
 use crate::grouping::group_of;
 use crate::groups::Groups;
 use crate::reading::{Reading, parts_of, readings_of};
 use crate::small::has_small_numbers;
+use crate::sorting::sorted_rows;
 use cal_filter::apply;
 use cal_ql::Query;
-use cal_value::{OutOfMemory, Rec, Seq, TryCopy};
+use cal_rowset::Rowset;
+use cal_value::{OutOfMemory, Rec, Records, Seq, TryCopy};
 use std::alloc::Global;
 use std::marker::Model;
 
@@ -66,10 +71,10 @@ impl Fold {
         if !has_small_numbers(&rec) {
             return Err(OutOfMemory);
         }
-        match apply(self.alloc, &self.query, rec)? {
-            Some(kept) => self.add_kept(kept),
-            None => Ok(()),
+        if let Some(kept) = apply(self.alloc, &self.query, rec)? {
+            self.add_kept(kept)?;
         }
+        Ok(())
     }
 
     /// Adds a record that LET and WHERE made.
@@ -82,11 +87,62 @@ impl Fold {
         if is_aggregated(&self.query) {
             let parts = parts_of(self.alloc, &self.readings, &kept)?;
             let key = group_of(self.alloc, &self.query.group, kept)?;
-            self.groups.gather(self.alloc, key, parts)
+            self.groups.gather(self.alloc, key, parts)?;
         } else {
-            self.rows.push(kept)
+            self.rows.push(kept)?;
         }
+        Ok(())
     }
+    /// The answer over the records that were added. It takes memory and time in what the fold
+    /// holds, and n log n comparisons where rows are ordered.
+    pub fn finish(self) -> Result<Rowset, OutOfMemory>
+        ensures { IfOk result (λ answer. (q : AQuery) (rs : List ARecord)
+            → StandsFor q rs self → answer ≡ answer_of q rs) }
+    {
+        let Fold {
+            alloc,
+            query,
+            readings: _,
+            groups,
+            rows,
+        } = self;
+        let rows = made_rows(alloc, &query, &groups, rows)?;
+        finished(alloc, &query, rows)
+    }
+}
+
+/// The rows of an answer before they are ordered.
+fn made_rows(
+    alloc: Global,
+    query: &Query,
+    groups: &Groups,
+    rows: Seq<Rec>,
+) -> Result<Seq<Rec>, OutOfMemory>
+    ensures { IfOk result (λ made. (rs : List ARecord)
+        → IsFolded query.now groups.now rows rs → made ≡ rows_of query.now rs) }
+{
+    if is_aggregated(query) {
+        group_rows(alloc, query, groups)
+    } else {
+        Ok(rows)
+    }
+}
+
+/// The answer with these rows, which it orders.
+fn finished(alloc: Global, query: &Query, rows: Seq<Rec>) -> Result<Rowset, OutOfMemory>
+    ensures { IfOk result (λ answer. answer ≡ answer_with query.now rows) }
+{
+    let rows = sorted_rows(alloc, &query.order, rows)?;
+    let columns = columns_of(alloc, query, rows.as_slice())?;
+    let globals = Rec {
+        paths: Seq::new(alloc),
+        imms: Seq::new(alloc),
+    };
+    Ok(Rowset {
+        rows: Records { rows, globals },
+        columns,
+        all: query.select.is_none(),
+    })
 }
 
 /// A query is aggregated where it has GROUP BY or a kernel.

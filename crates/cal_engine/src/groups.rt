@@ -1,11 +1,16 @@
-ghost use Rattle.std.specs.Prelude.{◌≡◌, ◌≤◌, length, IfOk, OnOk, OnErr};
+ghost use Rattle.std.specs.Prelude.{◌≡◌, ◌≤◌, fold, length, map, IfOk, OnOk, OnErr};
+ghost use Rattle.cal_engine.specs.Finishing.{parts_where, rows_by, AreGroupParts, GroupLists};
+ghost use Rattle.cal_engine.specs.Rows.{is_below};
 ghost use Rattle.cal_engine.specs.Folding.{Gathers, no_groups, put_parts};
 ghost use Rattle.std.specs.Option.{option_copied};
 ghost use Rattle.cal_engine.specs.Parts.{behind, merged_parts as merged_by_place};
 
+use crate::below::parts_below;
+use crate::finishing::rows;
 use crate::part::Part;
 use cal_context::Interner;
-use cal_value::{OutOfMemory, Rec, Seq};
+use cal_ql::Agg;
+use cal_value::{OutOfMemory, Rec, Seq, TryCopy};
 use std::alloc::Global;
 use std::marker::Model;
 
@@ -57,6 +62,52 @@ impl Groups {
         }
         put
     }
+    /// The parts of all groups, taken together.
+    pub fn all(&self, alloc: Global, none: &Seq<Part>) -> Result<Seq<Part>, OutOfMemory>
+        ensures { IfOk result (λ all. all ≡ fold merged_by_place none.now self.now.parts) }
+    {
+        let _ = &self.keys;
+        total(alloc, &self.parts, none)
+    }
+
+    /// The parts of the groups at or below each group, taken together.
+    pub fn below(&self, alloc: Global, none: &Seq<Part>) -> Result<Vec<Seq<Part>>, OutOfMemory>
+        ensures { IfOk result (λ below. below.items ≡ map (λ key. fold merged_by_place none.now
+            (parts_where (is_below key) self.now.keys self.now.parts)) self.now.keys) }
+    {
+        parts_below(alloc, self.keys.as_slice(), &self.parts, none)
+    }
+
+    /// The rows of the groups.
+    pub fn rows(
+        &self,
+        alloc: Global,
+        aggs: &[Agg],
+        all: &Seq<Part>,
+        below: &[Seq<Part>],
+    ) -> Result<Seq<Rec>, OutOfMemory>
+        requires { length below.now ≡ length self.now.keys }
+        ensures { IfOk result (λ rows. (lists : GroupLists)
+            → AreGroupParts aggs.now lists self.now.keys self.now.parts all.now below.now
+            → rows ≡ rows_by aggs.now lists self.now.keys) }
+    {
+        rows(alloc, aggs, self.keys.as_slice(), &self.parts, all, below)
+    }
+}
+
+/// Parts taken together.
+fn total(
+    alloc: Global,
+    parts: &[Seq<Part>],
+    none: &Seq<Part>,
+) -> Result<Seq<Part>, OutOfMemory>
+    ensures { IfOk result (λ total. total ≡ fold merged_by_place none.now parts.now) }
+{
+    let mut total = none.copy(alloc)?;
+    for more in parts {
+        total = merged_parts(alloc, &total, more)?;
+    }
+    Ok(total)
 }
 
 /// Puts parts behind those of a number, or at the end.

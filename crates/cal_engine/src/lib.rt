@@ -1,7 +1,10 @@
 //! The answer of a query on records: groups, kernels, rows and columns.
 #![tactic(auto)]
 
+mod answering;
+mod below;
 mod columns;
+mod finishing;
 mod fold;
 mod grouping;
 mod groups;
@@ -9,4 +12,8 @@ mod part;
 mod reading;
 mod small;
 mod sorting;
+mod upwards;
+mod ways;
+
+pub use answering::answer;
 pub use fold::Fold;

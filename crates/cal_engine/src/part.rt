@@ -1,10 +1,18 @@
-ghost use Rattle.std.specs.Prelude.{◌≡◌, ◌^◌, ◌≤◌, length, All, IfOk, OnOk, OnErr};
-ghost use Rattle.cal_agg.specs.Numbers.{IsSmall};
+ghost use Rattle.std.specs.Prelude.{◌≡◌, ◌^◌, ◌≤◌, List, length, All, IfOk, OnOk, OnErr, false};
+ghost use Rattle.cal_agg.specs.declared.num.Num.{Num as Number};
+ghost use Rattle.cal_agg.specs.declared.num.Num.TheVariants.{Whole};
+ghost use Rattle.cal_agg.specs.Numbers.{some_fixed, IsSmall};
+ghost use Rattle.cal_agg.specs.Parts.{greatest_over, least_over, sum_over};
+ghost use Rattle.cal_agg.specs.Results.{average_of, count_of, greatest_of, least_of, percent_total_of, sum_of};
+ghost use Rattle.cal_engine.specs.Finishing.{ArePartsOf};
+ghost use Rattle.cal_engine.specs.Kernels.{result_of};
+ghost use Rattle.cal_engine.specs.declared.part.Held.TheVariants as held;
 ghost use Rattle.cal_engine.specs.Parts.{held_over, merged_held, merged_part, part_over, IsHeld};
 
-use cal_agg::{Greatest, Kernel, Least, Num, Sum, kernel_of};
+use cal_agg::{Greatest, Kernel, Least, Num, Sum, average, kernel_of, percent_total};
 use cal_ql::KernelName;
-use cal_value::OutOfMemory;
+use cal_value::{OutOfMemory, TryCopy};
+use std::alloc::Global;
 use std::marker::Model;
 
 /// What a kernel holds of numbers: an end for `min` and `max`, and else their sum.
@@ -62,6 +70,89 @@ impl Part {
         take_in(&mut self.held, &other.held);
         self.many = many;
         Ok(())
+    }
+
+    /// What a kernel comes to in a group: of its own part, of that of all groups, and of that of
+    /// the groups below it.
+    pub fn value(&self, kernel: KernelName, all: &Part, below: &Part) -> Option<Num>
+        ensures { (own ms bs : List Number) → ArePartsOf kernel own ms bs self.now all.now below.now
+            → result ≡ result_of kernel own ms bs }
+    {
+        match kernel {
+            KernelName::Count => Some(self.count()),
+            KernelName::Sum => self.sum_value(),
+            KernelName::Min => self.least_value(),
+            KernelName::Max => self.greatest_value(),
+            KernelName::Avg => self.average_value(),
+            KernelName::Percent => self.percentage(all),
+            KernelName::Inclusive => below.sum_value(),
+        }
+    }
+
+    /// A sum of weights.
+    fn count(&self) -> Num
+        ensures { (ns : List Number) → some_fixed ns ≡ false → self.now.held ≡ held.Sum (sum_over ns)
+            → result ≡ Whole (count_of ns) }
+    {
+        self.sum_value().unwrap_or(Num::Whole(0))
+    }
+
+    fn sum_value(&self) -> Option<Num>
+        ensures { (ns : List Number) → self.now.held ≡ held.Sum (sum_over ns) → result ≡ sum_of ns }
+    {
+        match &self.held {
+            Held::Sum(sum) => sum.value(),
+            _ => None,
+        }
+    }
+
+    fn least_value(&self) -> Option<Num>
+        ensures { (ns : List Number) → self.now.held ≡ held.Least (least_over ns) → result ≡ least_of ns }
+    {
+        match &self.held {
+            Held::Least(end) => end.value(),
+            _ => None,
+        }
+    }
+
+    fn greatest_value(&self) -> Option<Num>
+        ensures { (ns : List Number) → self.now.held ≡ held.Greatest (greatest_over ns)
+            → result ≡ greatest_of ns }
+    {
+        match &self.held {
+            Held::Greatest(end) => end.value(),
+            _ => None,
+        }
+    }
+
+    fn average_value(&self) -> Option<Num>
+        ensures { (ns : List Number) → self.now.held ≡ held.Sum (sum_over ns) → self.now.many ≡ length ns
+            → result ≡ average_of ns }
+    {
+        match &self.held {
+            Held::Sum(sum) => average(sum, u64::from(self.many)),
+            _ => None,
+        }
+    }
+
+    #[tactic(auto, using(crate::proofs::Rooms::are_within_below))]
+    fn percentage(&self, all: &Part) -> Option<Num>
+        ensures { (ns ms : List Number) → self.now.held ≡ held.Sum (sum_over ns)
+            → all.now.held ≡ held.Sum (sum_over ms) → result ≡ percent_total_of ns ms }
+    {
+        match &self.held {
+            Held::Sum(sum) => match &all.held {
+                Held::Sum(all) => percent_total(sum, all),
+                _ => None,
+            },
+            _ => None,
+        }
+    }
+}
+
+impl TryCopy for Part {
+    fn copy(&self, _alloc: Global) -> Result<Part, OutOfMemory> {
+        Ok(*self)
     }
 }
 
