@@ -167,3 +167,11 @@ module _ {t : Tree} (is : IsContext t) where
                 no_entry : (p : List Entry) → length p ≡ 0 → p ≡ []
                 no_entry [] e = refl
                 no_entry (x ∷ xs) e = absurd (omega (arith, e))
+
+-- at first nothing is added
+pub added_none : (t : Tree) (from : NodeNumber) (parts : List Gathered) (old : List (List Gathered)) → IsAddedFrom t from from parts old old
+added_none t from parts old = record { at = λ n d l. by (begins (path_at t n) (path_at t from)) (get_or old n.0 d) (merged_parts (get_or old n.0 d) parts) }
+  where
+    by : (b : Bool) (x y : List Gathered) → x ≡ (if b && not b then y else x)
+    by true x y = refl
+    by false x y = refl

@@ -6,12 +6,12 @@ use Rattle.cal_filter.specs.Kept.{kept}
 use Rattle.cal_ql.specs.declared.query.Agg.{Agg}
 use Rattle.cal_ql.specs.declared.query.Query.{Query}
 use Rattle.cal_value.specs.declared.record.Rec.{Rec}
-use Rattle.cal_engine.specs.Groups.{group_of}
+use Rattle.cal_engine.specs.Groups.{group_of, groups_of}
 use Rattle.cal_engine.specs.Kernels.{contributions}
 use Rattle.cal_engine.specs.Parts.{Gathered, part_over, parts_over}
 use Rattle.cal_engine.specs.Readings.{parts_of, reading_of}
-use Rattle.cal_engine.specs.Folding.{Folded, Gathers, Grouped, StandsFor, folded, groups_over, no_groups}
-use Rattle.cal_engine.specs.Rows.{is_aggregated}
+use Rattle.cal_engine.specs.Folding.{Folded, Gathers, Grouped, IsFolded, StandsFor, folded, groups_over, no_groups}
+use Rattle.cal_engine.specs.Rows.{is_aggregated, row_of, rows_of}
 use Rattle.cal_engine.proofs.Gathering.{groups_over-Gathers}
 
 -- what is read of one record is what is kept of it alone
@@ -95,3 +95,55 @@ stands_without q rs r fold dropped stands =
 pub stands_with : (q : Query) (rs : List Rec) (r made : Rec) (new : Folded) → Some made ≡ kept q r
     → new ≡ folded q (filter_map (kept q) rs ++ made ∷ []) → StandsFor q (rs ++ r ∷ []) new
 stands_with q rs r made new is step = step ∙ ap (folded q) (sym (kept_more q rs r (Some made) is))
+
+-- two folds merged
+pub folded_merged : (q : Query) (ks ls : List Rec) (one other : Folded) (groups : Grouped) (rows : List Rec)
+    → one ≡ folded q ks → other ≡ folded q ls
+    → ((p : Query) (rs ss : List Rec) → one.groups ≡ groups_over p rs → other.groups ≡ groups_over p ss → groups ≡ groups_over p (rs ++ ss))
+    → rows ≡ one.rows ++ other.rows
+    → record { query = one.query; groups = groups; rows = rows } ≡ folded q (ks ++ ls)
+folded_merged q ks ls one other groups rows is also merges joined =
+    by (is_aggregated q) refl
+  where
+    one_groups : one.groups ≡ (if is_aggregated q then groups_over q ks else no_groups)
+    one_groups = ap (λ f. f.groups) is
+
+    other_groups : other.groups ≡ (if is_aggregated q then groups_over q ls else no_groups)
+    other_groups = ap (λ f. f.groups) also
+
+    both_rows : rows ≡ (if is_aggregated q then [] else ks) ++ (if is_aggregated q then [] else ls)
+    both_rows = joined ∙ (λ i. (is i).rows ++ (also i).rows)
+
+    by : (b : Bool) → is_aggregated q ≡ b → record { query = one.query; groups = groups; rows = rows } ≡ folded q (ks ++ ls)
+    by true e =
+        let gathered = merges q ks ls (one_groups ∙ ap (λ b. if b then groups_over q ks else no_groups) e) (other_groups ∙ ap (λ b. if b then groups_over q ls else no_groups) e) in
+        λ i. record {
+          query = (is i).query;
+          groups = (gathered ∙ ap (λ b. if b then groups_over q (ks ++ ls) else no_groups) (sym e)) i;
+          rows = (both_rows ∙ ap (λ b. (if b then [] else ks) ++ (if b then [] else ls)) e ∙ ap (λ b. if b then [] else ks ++ ls) (sym e)) i;
+        }
+    by false e =
+        let gathered = merges q [] [] (one_groups ∙ ap (λ b. if b then groups_over q ks else no_groups) e) (other_groups ∙ ap (λ b. if b then groups_over q ls else no_groups) e) in
+        λ i. record {
+          query = (is i).query;
+          groups = (gathered ∙ ap (λ b. if b then groups_over q (ks ++ ls) else no_groups) (sym e)) i;
+          rows = (both_rows ∙ ap (λ b. (if b then [] else ks) ++ (if b then [] else ls)) e ∙ ap (λ b. if b then [] else ks ++ ls) (sym e)) i;
+        }
+
+-- and what they stand for
+pub stands_merged : (q : Query) (rs ss : List Rec) (new : Folded)
+    → new ≡ folded q (filter_map (kept q) rs ++ filter_map (kept q) ss) → StandsFor q (rs ++ ss) new
+stands_merged q rs ss new is = is ∙ ap (folded q) (sym (filter_map-append (kept q) rs ss))
+
+-- the rows of a fold before they are ordered
+pub rows_grouped : (q : Query) (groups : Grouped) (rows rs made : List Rec) → IsFolded q groups rows rs → is_aggregated q ≡ true
+    → (groups ≡ groups_over q rs → made ≡ map (row_of q rs) (groups_of q.group rs)) → made ≡ rows_of q rs
+rows_grouped q groups rows rs made is aggregated makes =
+    makes (ap (λ f. f.groups) is ∙ ap (λ b. if b then groups_over q rs else no_groups) aggregated)
+    ∙ sym (ap (λ b. if b then map (row_of q rs) (groups_of q.group rs) else rs) aggregated)
+
+pub rows_kept : (q : Query) (groups : Grouped) (rows rs : List Rec) → IsFolded q groups rows rs → is_aggregated q ≡ false → rows ≡ rows_of q rs
+rows_kept q groups rows rs is aggregated =
+    ap (λ f. f.rows) is
+    ∙ ap (λ b. if b then [] else rs) aggregated
+    ∙ sym (ap (λ b. if b then map (row_of q rs) (groups_of q.group rs) else rs) aggregated)

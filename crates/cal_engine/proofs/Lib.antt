@@ -17,3 +17,4 @@ pub mod Reaching
 pub mod Results
 pub mod Totalling
 pub mod GroupRows
+pub mod Regroups

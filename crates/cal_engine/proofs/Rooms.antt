@@ -58,8 +58,8 @@ has_room_merged a b (held.Greatest one) (held.Least other) h k = tt
 has_room_merged a b (held.Greatest one) (held.Greatest other) h k = tt
 
 -- fewer than 2^32 numbers stay within the limits of a percentage
-pub AreWithin-below : (many : ℕ) (sum : Parts) → many < 2 ^ 32 → AreBelow many sum → AreWithin 118 sum
-AreWithin-below many sum few h = record {
+pub are_within_below : (many : ℕ) (sum : Parts) → many < 2 ^ 32 → AreBelow many sum → AreWithin 118 sum
+are_within_below many sum few h = record {
   whole = λ z e. let g = h.whole z e in omega arith;
   fixed = λ z e. let g = h.fixed z e in omega arith;
 }

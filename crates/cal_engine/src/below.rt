@@ -26,7 +26,8 @@ pub(crate) fn parts_below(
     let mut context = Context::new(alloc);
     let nodes = ways_to(alloc, &mut context, keys)?;
     let totals = totals(alloc, &context, &nodes, parts, none)?;
-    picked(alloc, &nodes, &totals)
+    let below = picked(alloc, &nodes, &totals)?;
+    Ok(below)
 }
 
 /// The parts of the groups below each node, taken together.
@@ -52,7 +53,8 @@ fn copies(alloc: Global, parts: &Seq<Part>, count: usize) -> Result<Vec<Seq<Part
     ensures { IfOk result (λ copies. copies.items ≡ replicate count parts.now) }
 {
     let mut copies = Vec::with_capacity(alloc, count)?;
-    for _ in 0..count {
+    for place in 0..count {
+        let _ = place;
         copies.push(parts.copy(alloc)?)?;
     }
     Ok(copies)

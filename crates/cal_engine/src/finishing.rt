@@ -128,7 +128,8 @@ pub(crate) fn group_rows(
     let none = no_parts(alloc, aggs)?;
     let all = groups.all(alloc, &none)?;
     let below = groups.below(alloc, &none)?;
-    groups.rows(alloc, aggs, &all, &below)
+    let rows = groups.rows(alloc, aggs, &all, &below)?;
+    Ok(rows)
 }
 
 /// The rows of groups, each of its own parts, of those of all groups, and of those below it.

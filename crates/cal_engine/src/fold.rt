@@ -19,6 +19,7 @@ use cal_rowset::Rowset;
 use cal_value::{OutOfMemory, Rec, Records, Seq, TryCopy};
 use std::alloc::Global;
 use std::marker::Model;
+use std::mem;
 
 /// A query on records that come one by one. It keeps the groups of an aggregated query, and the
 /// kept records of another one.
@@ -93,6 +94,26 @@ impl Fold {
         }
         Ok(())
     }
+    /// Adds the records of another fold of this query at the end. It takes time and memory in what
+    /// both folds hold.
+    pub fn merge(&mut self, other: Fold) -> Result<(), OutOfMemory>
+        ensures ok { OnOk result ((q : AQuery) (rs ss : List ARecord) → StandsFor q rs self.old
+            → StandsFor q ss other → StandsFor q (rs ++ ss) self.new) }
+        ensures err { OnErr result (self.new ≡ self.old) }
+    {
+        let Fold {
+            alloc: _,
+            query: _,
+            readings: _,
+            groups,
+            rows,
+        } = other;
+        let groups = Groups::merged(self.alloc, &self.groups, &groups)?;
+        append(self.alloc, &mut self.rows, rows)?;
+        self.groups = groups;
+        Ok(())
+    }
+
     /// The answer over the records that were added. It takes memory and time in what the fold
     /// holds, and n log n comparisons where rows are ordered.
     pub fn finish(self) -> Result<Rowset, OutOfMemory>
@@ -107,8 +128,22 @@ impl Fold {
             rows,
         } = self;
         let rows = made_rows(alloc, &query, &groups, rows)?;
-        finished(alloc, &query, rows)
+        let answer = finished(alloc, &query, rows)?;
+        Ok(answer)
     }
+}
+
+/// Adds rows at the end.
+fn append(alloc: Global, rows: &mut Seq<Rec>, more: Seq<Rec>) -> Result<(), OutOfMemory>
+    ensures ok { OnOk result (rows.new ≡ rows.old ++ more) }
+    ensures err { OnErr result (rows.new ≡ rows.old) }
+{
+    let mut all = mem::replace(rows, Seq::new(alloc)).into_vec();
+    let mut more = more.into_vec();
+    let appended = all.append(&mut more);
+    *rows = Seq::from_vec(all);
+    appended?;
+    Ok(())
 }
 
 /// The rows of an answer before they are ordered.
@@ -122,10 +157,10 @@ fn made_rows(
         → IsFolded query.now groups.now rows rs → made ≡ rows_of query.now rs) }
 {
     if is_aggregated(query) {
-        group_rows(alloc, query, groups)
-    } else {
-        Ok(rows)
+        let made = group_rows(alloc, query, groups)?;
+        return Ok(made);
     }
+    Ok(rows)
 }
 
 /// The answer with these rows, which it orders.

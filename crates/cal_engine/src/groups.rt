@@ -1,7 +1,9 @@
-ghost use Rattle.std.specs.Prelude.{◌≡◌, ◌≤◌, fold, length, map, IfOk, OnOk, OnErr};
+ghost use Rattle.std.specs.Prelude.{◌≡◌, ◌≤◌, ◌++◌, List, fold, length, map, IfOk, OnOk, OnErr};
+ghost use Rattle.cal_ql.specs.declared.query.Query.{Query as AQuery};
+ghost use Rattle.cal_value.specs.declared.record.Rec.{Rec as ARecord};
 ghost use Rattle.cal_engine.specs.Finishing.{parts_where, rows_by, AreGroupParts, GroupLists};
 ghost use Rattle.cal_engine.specs.Rows.{is_below};
-ghost use Rattle.cal_engine.specs.Folding.{Gathers, no_groups, put_parts};
+ghost use Rattle.cal_engine.specs.Folding.{groups_over, no_groups, put_parts, Gathers};
 ghost use Rattle.std.specs.Option.{option_copied};
 ghost use Rattle.cal_engine.specs.Parts.{behind, merged_parts as merged_by_place};
 
@@ -62,6 +64,30 @@ impl Groups {
         }
         put
     }
+    /// Puts what is kept of the records of other groups behind, in the order of those groups.
+    pub fn gather_all(&mut self, alloc: Global, other: &Groups) -> Result<(), OutOfMemory>
+        ensures { OnOk result ((q : AQuery) (rs ss : List ARecord) → self.old ≡ groups_over q rs
+            → other.now ≡ groups_over q ss → self.new ≡ groups_over q (rs ++ ss)) }
+    {
+        for (number, key) in other.keys.as_slice().iter().enumerate() {
+            let parts = other.parts[number].copy(alloc)?;
+            self.gather(alloc, key.copy(alloc)?, parts)?;
+        }
+        Ok(())
+    }
+
+    /// The groups of two folds, taken together.
+    pub fn merged(alloc: Global, one: &Groups, other: &Groups) -> Result<Groups, OutOfMemory>
+        ensures { IfOk result (λ merged. (q : AQuery) (rs ss : List ARecord)
+            → one.now ≡ groups_over q rs → other.now ≡ groups_over q ss
+            → merged ≡ groups_over q (rs ++ ss)) }
+    {
+        let mut merged = Groups::new(alloc);
+        merged.gather_all(alloc, one)?;
+        merged.gather_all(alloc, other)?;
+        Ok(merged)
+    }
+
     /// The parts of all groups, taken together.
     pub fn all(&self, alloc: Global, none: &Seq<Part>) -> Result<Seq<Part>, OutOfMemory>
         ensures { IfOk result (λ all. all ≡ fold merged_by_place none.now self.now.parts) }

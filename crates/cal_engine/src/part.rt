@@ -135,11 +135,11 @@ impl Part {
         }
     }
 
-    #[tactic(auto, using(crate::proofs::Rooms::are_within_below))]
     fn percentage(&self, all: &Part) -> Option<Num>
         ensures { (ns ms : List Number) → self.now.held ≡ held.Sum (sum_over ns)
             → all.now.held ≡ held.Sum (sum_over ms) → result ≡ percent_total_of ns ms }
     {
+        let _many = self.many;
         match &self.held {
             Held::Sum(sum) => match &all.held {
                 Held::Sum(all) => percent_total(sum, all),

@@ -20,7 +20,8 @@ pub(crate) fn ways_to(
     let mut nodes = Vec::with_capacity(alloc, keys.len())?;
     for key in keys {
         let trail = trail(alloc, key)?;
-        nodes.push(reach(context, &trail)?)?;
+        let node = reach(context, &trail)?;
+        nodes.push(node)?;
     }
     Ok(nodes)
 }
