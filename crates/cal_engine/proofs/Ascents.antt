@@ -32,7 +32,7 @@ begins_false x y no_front = by (begins x y) refl
     by true e = absurd (no_front ((begins_decides x y).0 e))
     by false e = e
 
-read_same : {A : Type 0} (xs : List A) (n : ℕ) (d e : A) → n < length xs → get_or xs n d ≡ get_or xs n e
+pub read_same : {A : Type 0} (xs : List A) (n : ℕ) (d e : A) → n < length xs → get_or xs n d ≡ get_or xs n e
 read_same [] n d e l = absurd (omega arith)
 read_same (x ∷ xs) zero d e l = refl
 read_same (x ∷ xs) (suc n) d e l = read_same xs n d e (omega arith)

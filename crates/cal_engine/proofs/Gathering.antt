@@ -40,7 +40,7 @@ put_parts_end [] n fresh e = refl
 put_parts_end (p ∷ ps) zero fresh e = absurd (omega arith)
 put_parts_end (p ∷ ps) (suc n) fresh e = ap (λ xs. p ∷ xs) (put_parts_end ps n fresh (omega arith))
 
-map_read : {A B : Type 0} (f : A → B) (xs : List A) (n : ℕ) (x : A) (d : B) → slice_get xs n ≡ Some x → slice_index_or (map f xs) n d ≡ f x
+pub map_read : {A B : Type 0} (f : A → B) (xs : List A) (n : ℕ) (x : A) (d : B) → slice_get xs n ≡ Some x → slice_index_or (map f xs) n d ≡ f x
 map_read f [] n x d e = cc
 map_read f (y ∷ ys) zero x d e = let is : y ≡ x = cc in ap f is
 map_read f (y ∷ ys) (suc n) x d e = map_read f ys n x d e

@@ -16,7 +16,7 @@ use Rattle.cal_engine.proofs.Merging.{parts_over-append, parts_over-swap}
 use Rattle.cal_engine.proofs.Partitions.{IsKept, groups_where}
 use Rattle.cal_engine.proofs.Results.{parts_where-map}
 
-read_map : {A B : Type 0} (f : A → B) (xs : List A) (n : ℕ) (x : A) (y : B) → n < length xs → x ≡ get_or xs n x → y ≡ get_or (map f xs) n y → y ≡ f x
+pub read_map : {A B : Type 0} (f : A → B) (xs : List A) (n : ℕ) (x : A) (y : B) → n < length xs → x ≡ get_or xs n x → y ≡ get_or (map f xs) n y → y ≡ f x
 read_map f [] n x y l e g = absurd (omega arith)
 read_map f (z ∷ zs) zero x y l e g = g ∙ ap f (sym e)
 read_map f (z ∷ zs) (suc n) x y l e g = read_map f zs n x y (omega arith) e g

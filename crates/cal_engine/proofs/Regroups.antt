@@ -256,7 +256,7 @@ module _ (q : Query) where
         by false e later =
             let other : is_group key (group_of q.group r) ≡ false = group_laws.symm key (group_of q.group r) ∙ e in
             let found = later (sym (ap (λ b. b || list_any (is_group key) (map (group_of q.group) rs)) other) ∙ h) in
-            (found.0, (found.1.0, rw e found.1.1))
+            (found.0, (found.1.0, ap (λ b. if b then r ∷ records_of q.group key rs else records_of q.group key rs) e ∙ found.1.1))
 
     pub has_records : (key : Rec) → list_any (is_group key) (map (group_of q.group) ss) ≡ true → HasRecords key
     has_records key h = let found = found_record key ss h in record { first = found.0; rest = found.1.0; are = found.1.1 }
