@@ -1,8 +1,11 @@
 -- A fold with one more record.
-use Rattle.std.proofs.Common.{◌≡◌, Bool, true, false, List, [], ◌∷◌, ◌++◌, Option, None, Some, if◌then◌else◌, map, refl, sym, ap, ◌∙◌, subst, append-nil}
+use Rattle.std.proofs.Common.{◌≡◌, Bool, true, false, List, [], ◌∷◌, ◌++◌, Option, None, Some, if◌then◌else◌, length, map, refl, sym, ap, ◌∙◌, subst, append-nil, arith}
 use Rattle.std.specs.List.{cons_option, filter_map}
 use Rattle.std.proofs.lemmas.List.Elements.{filter_map-append}
-use Rattle.cal_filter.specs.Kept.{kept}
+use Rattle.cal_filter.specs.Conditions.{where_holds}
+use Rattle.cal_filter.specs.Kept.{kept, with_lets}
+use Rattle.cal_ql.specs.declared.query.Cond.{Cond}
+use Rattle.cal_ql.specs.declared.query.Let.{Let}
 use Rattle.cal_ql.specs.declared.query.Agg.{Agg}
 use Rattle.cal_ql.specs.declared.query.Query.{Query}
 use Rattle.cal_value.specs.declared.record.Rec.{Rec}
@@ -147,3 +150,13 @@ rows_kept q groups rows rs is aggregated =
     ap (λ f. f.rows) is
     ∙ ap (λ b. if b then [] else rs) aggregated
     ∙ sym (ap (λ b. if b then map (row_of q rs) (groups_of q.group rs) else rs) aggregated)
+
+-- without LET and WHERE each record is kept as it is
+pub kept_plain : (q : Query) (r : Rec) → length q.lets ≡ 0 → length q.conds ≡ 0 → Some r ≡ kept q r
+kept_plain q r no_lets no_conds = by q.lets q.conds no_lets no_conds
+  where
+    by : (ls : List Let) (cs : List Cond) → length ls ≡ 0 → length cs ≡ 0
+        → Some r ≡ (if where_holds cs (with_lets ls r) then Some (with_lets ls r) else None)
+    by [] [] l c = refl
+    by [] (x ∷ cs) l c = absurd (omega (arith, c))
+    by (x ∷ ls) cs l c = absurd (omega (arith, l))

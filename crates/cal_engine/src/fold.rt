@@ -7,13 +7,12 @@ ghost use Rattle.cal_engine.specs.Folding.{StandsFor, IsFolded, folded};
 ghost use Rattle.cal_engine.specs.Rows.{is_aggregated as is_aggregated_by, rows_of};
 
 use crate::columns::columns_of;
+use crate::filtering::made;
 use crate::finishing::group_rows;
 use crate::grouping::group_of;
 use crate::groups::Groups;
 use crate::reading::{Reading, parts_of, readings_of};
-use crate::small::has_small_numbers;
 use crate::sorting::sorted_rows;
-use cal_filter::apply;
 use cal_ql::Query;
 use cal_rowset::Rowset;
 use cal_value::{OutOfMemory, Rec, Records, Seq, TryCopy};
@@ -69,10 +68,7 @@ impl Fold {
             → StandsFor q rs self.old → StandsFor q (rs ++ rec ∷ []) self.new) }
         ensures err { OnErr result (self.new ≡ self.old) }
     {
-        if !has_small_numbers(&rec) {
-            return Err(OutOfMemory);
-        }
-        if let Some(kept) = apply(self.alloc, &self.query, rec)? {
+        if let Some(kept) = made(self.alloc, &self.query, rec)? {
             self.add_kept(kept)?;
         }
         Ok(())
@@ -94,6 +90,7 @@ impl Fold {
         }
         Ok(())
     }
+
     /// Adds the records of another fold of this query at the end. It takes time and memory in what
     /// both folds hold.
     pub fn merge(&mut self, other: Fold) -> Result<(), OutOfMemory>

@@ -4,6 +4,7 @@
 mod answering;
 mod below;
 mod columns;
+mod filtering;
 mod finishing;
 mod fold;
 mod grouping;

@@ -1,5 +1,0 @@
-pub mod Numbers
-pub mod Named
-pub mod Lets
-pub mod Conditions
-pub mod Kept
