@@ -1,1 +1,2 @@
 mod Doubled
+mod Smalls

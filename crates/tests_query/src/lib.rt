@@ -7,4 +7,6 @@
 #[cfg(test)]
 mod calql;
 #[cfg(test)]
+mod filtering;
+#[cfg(test)]
 mod kernels;

@@ -1,0 +1,15 @@
+mod Sums
+mod KindLemmas
+mod Last
+mod Seeking
+mod Finding
+mod Zips
+mod OperandLemmas
+mod Holding
+mod Growing
+mod SmallNumbers
+mod Applying
+mod ResultLemmas
+mod ReadyLemmas
+mod FlatOnly
+mod InternedLemmas

@@ -1,0 +1,131 @@
+-- Catching up, and what is ready.
+use Rattle.std.proofs.Common.{◌≡◌, ℕ, ◌+◌, ◌<◌, List, [], ◌∷◌, ◌++◌, map, take, length, get_or}
+use Rattle.std.proofs.Common.{Result, Ok, Err, refl, sym, ◌∙◌, ap, subst, arith}
+use Rattle.std.specs.List.{All, AllZip}
+use Rattle.std.specs.Result.{IfOk, OnOk}
+use Rattle.std.specs.Vec.{with_items}
+use Rattle.std.specs.declared.vec.Vec.{Vec}
+use Rattle.std.proofs.lemmas.List.{map-append, take_more, with_items_is}
+use Rattle.cal_context.specs.Tree.{Tree}
+use Rattle.cal_ql.specs.declared.names.Op as ops
+use Rattle.cal_ql.specs.declared.query.Query.{Query}
+use Rattle.cal_value.specs.declared.attribute.Entry.{Entry}
+use Rattle.cal_filter.specs.Conditions.{test_holds}
+use Rattle.cal_filter.specs.Known.{Knows, KnowsAll, sought}
+use Rattle.cal_filter.specs.Ready.{IsCondition, IsDefinition, IsFilter, IsReadyCondition}
+use Rattle.cal_filter.specs.Ready.{IsReadyDefinition, IsReadyFilter}
+use Rattle.cal_filter.specs.Replaced.{CatchesUp, ConditionCatchesUp, DefinitionCatchesUp}
+use Rattle.cal_filter.specs.Sought.{Sought, passes, sought_by}
+use Rattle.cal_filter.specs.declared.condition.Condition.{Condition}
+use Rattle.cal_filter.specs.declared.definition.Definition.{Definition}
+use Rattle.cal_filter.specs.declared.filter.Filter.{Filter}
+use Rattle.cal_filter.specs.declared.seeker.Seeker.{Seeker}
+use Rattle.cal_filter.proofs.Zips.{zip_at, zip_length, zip_then, zip_weaker}
+
+same_sought : (t : Tree) (old new : List Seeker) → AllZip (CatchesUp t) old new
+    → map sought new ≡ map sought old
+same_sought t [] [] h = refl
+same_sought t [] (y ∷ new) h = elim h [ ]
+same_sought t (x ∷ old) [] h = elim h [ ]
+same_sought t (x ∷ old) (y ∷ new) h = λ i. h.0.same i ∷ same_sought t old new h.1 i
+
+all_know : (t : Tree) (old new : List Seeker) → AllZip (CatchesUp t) old new → All (Knows t) old
+    → All (KnowsAll t) new
+all_know t old new h knows = λ i d short.
+    let counted = zip_length (CatchesUp t) old new h in
+    (zip_at (CatchesUp t) old new i d d h short).knows (knows i d (omega arith))
+
+-- a definition catches up with its seekers
+pub definition_catches_up : (t : Tree) (old new : Definition) → new.operator ≡ old.operator
+    → new.attributes ≡ old.attributes
+    → AllZip (CatchesUp t) old.seekers.items new.seekers.items → DefinitionCatchesUp t old new
+definition_catches_up t old new operator attributes zip = record {
+  ready = λ l h. record {
+    defined = record {
+      op = ap (λ o. o.op) operator ∙ h.defined.op;
+      n = ap (λ o. o.n) operator ∙ h.defined.n;
+      names = same_sought t old.seekers.items new.seekers.items zip ∙ h.defined.names;
+      attributes = rw attributes h.defined.attributes;
+    };
+    knows = all_know t old.seekers.items new.seekers.items zip h.knows;
+  };
+}
+
+-- a condition with its seeker
+pub condition_catches_up : (t : Tree) (old new : Condition) → new.negated ≡ old.negated
+    → sought new.seeker ≡ sought old.seeker → (Knows t old.seeker → KnowsAll t new.seeker)
+    → ConditionCatchesUp t old new
+condition_catches_up t old new negated same knows = record {
+  ready = λ c h. record {
+    asked = record {
+      not = negated ∙ h.asked.not;
+      name = ap (λ (s : Sought). s.name) same ∙ h.asked.name;
+      test = subst (λ (s : Sought). (e : Entry) → passes s.wanted e.attr.kind e.value
+          ≡ test_holds c.test e) (sym same) h.asked.test;
+    };
+    knows = knows h.knows;
+  };
+}
+
+-- a filter with its definitions and conditions
+pub filter_catches_up : (t : Tree) (q : Query) (old new : Filter)
+    → AllZip (DefinitionCatchesUp t) old.definitions.items new.definitions.items
+    → AllZip (ConditionCatchesUp t) old.conditions.items new.conditions.items
+    → IsFilter t q old → IsReadyFilter t q new
+filter_catches_up t q old new lets conds h = record {
+  lets = zip_then (IsDefinition t) (DefinitionCatchesUp t) (IsReadyDefinition t)
+      (λ l d e is up. up.ready l is) q.lets old.definitions.items new.definitions.items h.lets lets;
+  conds = zip_then (IsCondition t) (ConditionCatchesUp t) (IsReadyCondition t)
+      (λ c d e is up. up.ready c is) q.conds old.conditions.items new.conditions.items h.conds conds;
+}
+
+-- what is ready is right
+pub ready_is_right : (t : Tree) (q : Query) (f : Filter) → IsReadyFilter t q f → IsFilter t q f
+ready_is_right t q f h = record {
+  lets = zip_weaker (IsReadyDefinition t) (IsDefinition t)
+      (λ l d r. record { defined = r.defined; knows = λ i x short. (r.knows i x short).knows })
+      q.lets f.definitions.items h.lets;
+  conds = zip_weaker (IsReadyCondition t) (IsCondition t)
+      (λ c d r. record { asked = r.asked; knows = r.knows.knows }) q.conds f.conditions.items h.conds;
+}
+
+-- one item more of a map
+pub map_more : {A B : Type 0} (f : A → B) (xs : List A) (i : ℕ) (x : A) → i < length xs
+    → x ≡ get_or xs i x → map f (take (i + 1) xs) ≡ map f (take i xs) ++ f x ∷ []
+map_more f xs i x short read =
+    ap (map f) (take_more xs i x short ∙ ap (λ y. take i xs ++ y ∷ []) (sym read))
+    ∙ map-append f (take i xs) (x ∷ [])
+
+-- one name more has its seeker
+pub sought_next : (o : ops.Op) (names : List (List ℕ)) (i : ℕ) (name : List ℕ)
+    (seekers seekers' : List Seeker) (s : Seeker)
+    → map sought seekers ≡ map (sought_by o) (take i names) → i < length names
+    → name ≡ get_or names i name → seekers' ≡ seekers ++ s ∷ [] → sought s ≡ sought_by o name
+    → map sought seekers' ≡ map (sought_by o) (take (i + 1) names)
+sought_next o names i name seekers seekers' s before short read more is =
+    ap (map sought) more ∙ map-append sought seekers (s ∷ [])
+    ∙ (λ j. before j ++ is j ∷ [])
+    ∙ sym (map_more (sought_by o) names i name short read)
+
+-- what follows from an answer's clause
+pub weaker : {T E : Type 0} (P Q : T → Type 0) (r : Result T E) → ((v : T) → P v → Q v)
+    → IfOk r P → IfOk r Q
+weaker P Q (Ok v) f h = f v h
+weaker P Q (Err e) f h = h
+
+pub on_ok : {T E : Type 0} (P Q : Type 0) (r : Result T E) → (P → Q) → OnOk r P → OnOk r Q
+on_ok P Q (Ok v) f h = f h
+on_ok P Q (Err e) f h = h
+
+pub on_both : {T E : Type 0} (P Q R : Type 0) (r : Result T E) → (P → Q → R) → OnOk r P → OnOk r Q
+    → OnOk r R
+on_both P Q R (Ok v) f h g = f h g
+on_both P Q R (Err e) f h g = h
+
+-- a list that was written back
+pub written : {A Z : Type 0} (R : A → A → Type 0) (v : Vec A Z) (old ws : List A) → old ≡ v.items
+    → length old ≡ v.len → AllZip R old ws → AllZip R v.items (with_items v ws).items
+written R v old ws is counted zip =
+    let long : length ws ≡ v.len = sym (zip_length R old ws zip) ∙ counted in
+    subst (AllZip R v.items) (sym (with_items_is v ws long))
+    (subst (λ xs. AllZip R xs ws) is zip)

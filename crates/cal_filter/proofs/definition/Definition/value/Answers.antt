@@ -1,0 +1,51 @@
+use Rattle.std.proofs.Common.{◌≡◌, ap, map, subst, sym, ◌∙◌, option_map, option_and_then, slice_get}
+use Rattle.std.specs.List.{All, filter_map}
+use Rattle.cal_context.specs.Snapshots.{meaning}
+use Rattle.cal_ql.specs.declared.query.Let.{Let}
+use Rattle.cal_value.specs.Flat.{flat}
+use Rattle.cal_filter.specs.Known.{KnowsAll, sought}
+use Rattle.cal_filter.specs.Lets.{let_value, limited, operation}
+use Rattle.cal_filter.specs.Named.{HasSmallNumbers}
+use Rattle.cal_filter.specs.Numbers.{value_of_number}
+use Rattle.cal_filter.specs.Ready.{IsReadyDefinition}
+use Rattle.cal_filter.specs.Sought.{number_sought, value_sought}
+use Rattle.cal_filter.proofs.OperandLemmas.{first_is, number_is}
+use Rattle.cal_filter.proofs.ReadyLemmas.{weaker}
+use Rattle.cal_filter.proofs.definition.Definition.value.Goals as goal
+
+pub returns-in-First : goal.returns-in-First
+returns-in-First c =
+    let t = c.args.context.now in
+    let r = meaning t c.args.snapshot.now in
+    let d = c.args.self.now in
+    let seekers = c.deref.result.now in
+    weaker
+    (λ v. All (KnowsAll t) seekers
+    → v ≡ slice_get (filter_map (λ s. value_sought (sought s) (flat r)) seekers) 0)
+    (λ v. (l : Let) → IsReadyDefinition t l d → HasSmallNumbers r → v ≡ let_value l r)
+    c.first_found.result
+    (λ v h l ready small.
+    h (subst (All (KnowsAll t)) (sym c.deref.ensures.value) ready.knows)
+    ∙ ap (λ xs. slice_get (filter_map (λ s. value_sought (sought s) (flat r)) xs) 0)
+    c.deref.ensures.value
+    ∙ first_is t l d r ready.defined c.in-First.is)
+    c.first_found.ensures
+
+pub returns-in_ok-fill_numbers-in_default : goal.returns-in_ok-fill_numbers-in_default
+returns-in_ok-fill_numbers-in_default c =
+    let t = c.args.context.now in
+    let r = meaning t c.args.snapshot.now in
+    let d = c.args.self.now in
+    let numbers = c.deref-in_default-2.result.now in
+    weaker
+    (λ v. v ≡ option_map value_of_number
+    (option_and_then limited (operation d.operator.op d.operator.n numbers)))
+    (λ v. (l : Let) → IsReadyDefinition t l d → HasSmallNumbers r → v ≡ let_value l r)
+    c.result.result
+    (λ v h l ready small.
+    let knows = subst (All (KnowsAll t)) (sym c.deref-in_default.ensures.value) ready.knows in
+    let found = c.deref-in_default-2.ensures.value
+    ∙ c.in_ok-fill_numbers-in_default.ensures.found knows small
+    ∙ ap (map (λ s. number_sought (sought s) (flat r))) c.deref-in_default.ensures.value in
+    h ∙ number_is t l d r numbers ready.defined c.in_default.not-First found)
+    c.result.ensures

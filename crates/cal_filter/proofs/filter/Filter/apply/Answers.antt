@@ -1,0 +1,7 @@
+use Rattle.cal_filter.proofs.ReadyLemmas.{ready_is_right}
+use Rattle.cal_filter.proofs.filter.Filter.apply.Goals as goal
+
+pub returns-clause-stays : goal.returns-clause-stays
+returns-clause-stays c = λ q h.
+    ready_is_right c.args.context.now q c.add_lets.new.self
+    (c.in_ok-add_lets.ensures.stays q (c.in_ok-catch_up.ensures q h))

@@ -1,0 +1,21 @@
+use Rattle.std.proofs.Common.{arith, take}
+use Rattle.cal_context.proofs.CallerLemmas.{Grows-trans}
+use Rattle.cal_filter.specs.Ready.{IsDefinition}
+use Rattle.cal_filter.proofs.Growing.{definition-Grows}
+use Rattle.cal_filter.proofs.Zips.{zip_more, zip_weaker}
+use Rattle.cal_filter.proofs.filter.definitions_of.Goals as goal
+
+pub loop-definition-preserved : goal.loop-definition-preserved
+loop-definition-preserved c =
+    let grown = c.in_ok-made.ensures.grows in
+    record {
+      grows = Grows-trans c.args.context.now c.loop-definition.context c.new.new.context
+          c.loop-definition.invariant.grows grown;
+      ready = zip_more (IsDefinition c.new.new.context) c.args.lets.now
+          c.loop-definition.definitions.items c.push.new.self.items
+          c.loop-definition.definition-index c.definition-item.result c.in_ok-made.made
+          (zip_weaker (IsDefinition c.loop-definition.context) (IsDefinition c.new.new.context)
+          (definition-Grows grown) (take c.loop-definition.definition-index c.args.lets.now)
+          c.loop-definition.definitions.items c.loop-definition.invariant.ready)
+          (omega arith) c.definition-item.is c.in_ok-push.ensures.items c.in_ok-made.ensures.ready;
+    }

@@ -1,0 +1,16 @@
+use Rattle.std.proofs.Common.{◌≡◌, ◌<◌, length}
+use Rattle.cal_context.specs.Tree.{Grows}
+use Rattle.cal_value.specs.declared.kind.Kind.{Kind}
+use Rattle.cal_filter.specs.Kept.{result_attribute}
+use Rattle.cal_filter.specs.Results.{IsNumbered, number_for}
+use Rattle.cal_filter.specs.Sought.{kind_place}
+use Rattle.cal_filter.proofs.results.result_attributes.Given as goal
+
+-- the attributes of the kinds before this one are there
+abbrev pub invariant-loop-kind : goal.invariant-loop-kind
+invariant-loop-kind l = record {
+  grows : Grows l.fn.context l.context;
+  counted : length l.numbers.items ≡ l.kind-index;
+  numbered : (k : Kind) → kind_place k < l.kind-index
+      → IsNumbered l.context (result_attribute l.name k) (number_for l.numbers.items k);
+}

@@ -1,0 +1,13 @@
+use Rattle.std.proofs.Common.{◌≡◌, length}
+use Rattle.cal_filter.specs.Known.{Knows}
+use Rattle.cal_filter.proofs.Seeking.{Stays}
+use Rattle.cal_filter.proofs.seeker.Seeker.know_attributes.Given as goal
+
+-- the attributes before this one are known
+abbrev pub invariant-loop-place : goal.invariant-loop-place
+invariant-loop-place l = record {
+  counted : length l.self.named.items ≡ l.place;
+  same : Stays l.fn.self l.self;
+  nearest : l.self.nearest.items ≡ l.fn.self.nearest.items;
+  knows : Knows l.context l.fn.self → Knows l.context l.self;
+}

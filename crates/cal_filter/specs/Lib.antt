@@ -1,0 +1,12 @@
+pub mod Numbers
+pub mod Named
+pub mod Lets
+pub mod Conditions
+pub mod Kept
+pub mod Sought
+pub mod Known
+pub mod Results
+pub mod Ready
+pub mod Replaced
+pub mod Filtered
+pub mod Interned

@@ -1,0 +1,186 @@
+ghost use Rattle.std.specs.Prelude.{◌≡◌, List, IfOk, OnOk};
+ghost use Rattle.std.specs.List.{AllZip, AllByRecursion};
+ghost use Rattle.cal_context.specs.Snapshots.{IsIn, meaning};
+ghost use Rattle.cal_context.specs.Tree.{Grows, Tree};
+ghost use Rattle.cal_filter.specs.Conditions.{where_holds};
+ghost use Rattle.cal_filter.specs.Filtered.{IsFiltered};
+ghost use Rattle.cal_filter.specs.Kept.{with_lets};
+ghost use Rattle.cal_filter.specs.Named.{HasSmallNumbers};
+ghost use Rattle.cal_filter.specs.Ready.{IsCondition, IsDefinition, IsFilter, IsReadyCondition};
+ghost use Rattle.cal_filter.specs.Ready.{IsReadyDefinition, IsReadyFilter};
+ghost use Rattle.cal_filter.specs.Replaced.{ConditionCatchesUp, DefinitionCatchesUp};
+ghost use Rattle.cal_ql.specs.Valid.{IsLet, IsValidQuery};
+ghost use Rattle.cal_ql.specs.declared.query.Cond.{Cond as CondOf};
+ghost use Rattle.cal_ql.specs.declared.query.Let.{Let as LetOf};
+ghost use Rattle.cal_ql.specs.declared.query.Query.{Query as QueryOf};
+
+use crate::condition::Condition;
+use crate::definition::Definition;
+use cal_agg::Num;
+use cal_context::{Context, Snapshot};
+use cal_ql::{Cond, Let, Query};
+use cal_value::OutOfMemory;
+use std::alloc::Global;
+
+/// LET and WHERE of a query, over snapshots by number of one context. A snapshot takes time for its
+/// nodes and immediates, however deep their paths are; each new node and attribute takes time once.
+#[derive(Drop)]
+pub struct Filter {
+    alloc: Global,
+    definitions: Vec<Definition>,
+    conditions: Vec<Condition>,
+    // room to work in
+    numbers: Vec<Option<Num>>,
+}
+
+impl Filter {
+    /// A filter for a query. The attributes that LET's entries may have are added to the context
+    /// now, so that it needn't grow later.
+    pub fn new(alloc: Global, query: &Query, context: &mut Context) -> Result<Filter, OutOfMemory>
+        requires { IsValidQuery query.now }
+        ensures ready { IfOk result (IsFilter context.new query.now) }
+        ensures grows { Grows context.old context.new }
+    {
+        let definitions = definitions_of(alloc, query.lets.as_slice(), context)?;
+        let conditions = conditions_of(alloc, query.conds.as_slice())?;
+        Ok(Filter {
+            alloc,
+            definitions,
+            conditions,
+            numbers: Vec::new(alloc),
+        })
+    }
+
+    /// Appends the immediates of LET to a snapshot, and answers whether WHERE keeps it. After an
+    /// `Err` nothing is promised of the filter and the snapshot. Numbers of a magnitude above 2^86
+    /// are no numbers to it.
+    pub fn apply(&mut self, context: &Context, snapshot: &mut Snapshot) -> Result<bool, OutOfMemory>
+        requires { IsIn context.now snapshot.old }
+        ensures within { OnOk result (IsIn context.now snapshot.new) }
+        ensures nodes { OnOk result (snapshot.new.nodes.items ≡ snapshot.old.nodes.items) }
+        ensures stays { OnOk result ((q : QueryOf) → IsFilter context.now q self.old
+            → IsFilter context.now q self.new) }
+        ensures filtered { IfOk result (λ keeps. (q : QueryOf) → IsFilter context.now q self.old
+            → HasSmallNumbers (meaning context.now snapshot.old)
+            → IsFiltered q (meaning context.now snapshot.old) (meaning context.now snapshot.new)
+            keeps) }
+    {
+        self.catch_up(context)?;
+        self.add_lets(context, snapshot)?;
+        Ok(keeps(&self.conditions, context, snapshot))
+    }
+
+    fn catch_up(&mut self, context: &Context) -> Result<(), OutOfMemory>
+        ensures { OnOk result ((q : QueryOf) → IsFilter context.now q self.old
+            → IsReadyFilter context.now q self.new) }
+    {
+        know_definitions(&mut self.definitions, context)?;
+        know_conditions(&mut self.conditions, context)
+    }
+
+    fn add_lets(&mut self, context: &Context, snapshot: &mut Snapshot) -> Result<(), OutOfMemory>
+        requires { IsIn context.now snapshot.old }
+        ensures within { OnOk result (IsIn context.now snapshot.new) }
+        ensures nodes { OnOk result (snapshot.new.nodes.items ≡ snapshot.old.nodes.items) }
+        ensures stays { OnOk result ((q : QueryOf) → IsReadyFilter context.now q self.old
+            → IsReadyFilter context.now q self.new) }
+        ensures adds { OnOk result ((q : QueryOf) → IsReadyFilter context.now q self.old
+            → HasSmallNumbers (meaning context.now snapshot.old)
+            → meaning context.now snapshot.new
+            ≡ with_lets q.lets (meaning context.now snapshot.old)) }
+    {
+        apply_all(
+            self.alloc,
+            &self.definitions,
+            context,
+            snapshot,
+            &mut self.numbers,
+        )
+    }
+}
+
+fn definitions_of(
+    alloc: Global,
+    lets: &[Let],
+    context: &mut Context,
+) -> Result<Vec<Definition>, OutOfMemory>
+    requires { AllByRecursion IsLet lets.now }
+    ensures ready { IfOk result (λ definitions.
+        AllZip (IsDefinition context.new) lets.now definitions.items) }
+    ensures grows { Grows context.old context.new }
+{
+    let mut definitions = Vec::new(alloc);
+    for definition in lets {
+        let made = Definition::new(alloc, definition, context)?;
+        definitions.push(made)?;
+    }
+    Ok(definitions)
+}
+
+fn conditions_of(alloc: Global, conds: &[Cond]) -> Result<Vec<Condition>, OutOfMemory>
+    ensures { IfOk result (λ conditions.
+        (t : Tree) → AllZip (IsCondition t) conds.now conditions.items) }
+{
+    let mut conditions = Vec::new(alloc);
+    for cond in conds {
+        let made = Condition::new(alloc, cond)?;
+        conditions.push(made)?;
+    }
+    Ok(conditions)
+}
+
+fn know_definitions(definitions: &mut [Definition], context: &Context) -> Result<(), OutOfMemory>
+    ensures { OnOk result
+        (AllZip (DefinitionCatchesUp context.now) definitions.old definitions.new) }
+{
+    for definition in definitions.iter_mut() {
+        definition.catch_up(context)?;
+    }
+    Ok(())
+}
+
+fn know_conditions(conditions: &mut [Condition], context: &Context) -> Result<(), OutOfMemory>
+    ensures { OnOk result
+        (AllZip (ConditionCatchesUp context.now) conditions.old conditions.new) }
+{
+    for condition in conditions.iter_mut() {
+        condition.catch_up(context)?;
+    }
+    Ok(())
+}
+
+fn apply_all(
+    alloc: Global,
+    definitions: &[Definition],
+    context: &Context,
+    snapshot: &mut Snapshot,
+    numbers: &mut Vec<Option<Num>>,
+) -> Result<(), OutOfMemory>
+    requires { IsIn context.now snapshot.old }
+    ensures within { OnOk result (IsIn context.now snapshot.new) }
+    ensures nodes { OnOk result (snapshot.new.nodes.items ≡ snapshot.old.nodes.items) }
+    ensures adds { OnOk result ((lets : List LetOf)
+        → AllZip (IsReadyDefinition context.now) lets definitions.now
+        → HasSmallNumbers (meaning context.now snapshot.old)
+        → meaning context.now snapshot.new
+        ≡ with_lets lets (meaning context.now snapshot.old)) }
+{
+    for definition in definitions {
+        definition.apply(alloc, context, snapshot, numbers)?;
+    }
+    Ok(())
+}
+
+fn keeps(conditions: &[Condition], context: &Context, snapshot: &Snapshot) -> bool
+    requires { IsIn context.now snapshot.now }
+    ensures { (conds : List CondOf)
+        → AllZip (IsReadyCondition context.now) conds conditions.now
+        → result ≡ where_holds conds (meaning context.now snapshot.now) }
+{
+    for condition in conditions {
+        if !condition.holds(context, snapshot) {
+            return false;
+        }
+    }
+    true
+}

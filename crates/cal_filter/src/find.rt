@@ -1,0 +1,80 @@
+ghost use Rattle.std.specs.Prelude.{◌≡◌, ◌<◌, length, map, slice_get, None, IfSome};
+ghost use Rattle.std.specs.Prelude.{option_and_then, option_map};
+ghost use Rattle.std.specs.List.{All, last_or};
+ghost use Rattle.std.specs.Option.{option_copied};
+ghost use Rattle.cal_context.specs.Snapshots.{IsBelowRoot, IsIn, entry_of, meaning};
+ghost use Rattle.cal_context.specs.Tree.{path_at};
+ghost use Rattle.cal_filter.specs.Known.{KnowsAll, sought};
+ghost use Rattle.cal_filter.specs.Sought.{last_sought, value_sought};
+ghost use Rattle.cal_value.specs.Flat.{flat, joined};
+
+use crate::seeker::Seeker;
+use cal_context::{Context, Immediate, NodeNumber, Snapshot};
+use cal_value::Variant;
+
+impl Seeker {
+    /// The value of the last entry of a record that is sought. It takes time for its nodes and
+    /// immediates.
+    pub(crate) fn find<'a>(
+        &self,
+        context: &'a Context,
+        snapshot: &'a Snapshot,
+    ) -> Option<&'a Variant>
+        requires { IsIn context.now snapshot.now }
+        ensures { KnowsAll context.now self.now → option_copied result
+            ≡ value_sought (sought self.now) (flat (meaning context.now snapshot.now)) }
+    {
+        match self.last_immediate(context, &snapshot.imms) {
+            Some(place) => Some(&snapshot.imms[place].value),
+            None => own_value(context, self.last_node(context, &snapshot.nodes)),
+        }
+    }
+
+    /// The place of the last immediate that is sought.
+    fn last_immediate(&self, context: &Context, imms: &[Immediate]) -> Option<usize>
+        requires { All (λ imm. imm.attribute.0 < length context.now.attributes) imms.now }
+        ensures within { IfSome result (λ place. place < length imms.now) }
+        ensures last { KnowsAll context.now self.now
+            → last_sought (sought self.now) (map (entry_of context.now) imms.now)
+            ≡ option_map (entry_of context.now) (option_and_then (slice_get imms.now) result) }
+    {
+        let mut last = None;
+        for (place, imm) in imms.iter().enumerate() {
+            if self.seeks(context, imm.attribute, &imm.value) {
+                last = Some(place);
+            }
+        }
+        last
+    }
+
+    /// The node whose entry is the last one on the nodes' paths that is sought, or the root.
+    fn last_node(&self, context: &Context, nodes: &[NodeNumber]) -> NodeNumber
+        requires { All (IsBelowRoot context.now) nodes.now }
+        ensures within { KnowsAll context.now self.now → result.0 < length context.now.paths }
+        ensures last { KnowsAll context.now self.now
+            → last_sought (sought self.now) (joined (map (path_at context.now) nodes.now))
+            ≡ last_or None (path_at context.now result) }
+    {
+        context.has_each_once();
+        let mut last = NodeNumber::ROOT;
+        for node in nodes {
+            let nearest = self.nearest(*node);
+            if nearest != NodeNumber::ROOT {
+                last = nearest;
+            }
+        }
+        last
+    }
+}
+
+/// The value of a node's own entry; the root has none.
+fn own_value(context: &Context, node: NodeNumber) -> Option<&Variant>
+    ensures { node.0 < length context.now.paths → option_copied result
+        ≡ option_map (λ e. e.value) (last_or None (path_at context.now node)) }
+{
+    if node.0 as usize >= context.node_count() {
+        return None;
+    }
+    let link = context.link(node)?;
+    Some(context.value_at(link.value))
+}

@@ -1,0 +1,116 @@
+ghost use Rattle.std.specs.Prelude.{◌≡◌, length, map, slice_get, IfOk, OnOk};
+ghost use Rattle.std.specs.List.{All, AllZip, filter_map};
+ghost use Rattle.std.specs.Option.{ForSome};
+ghost use Rattle.cal_agg.specs.Numbers.{IsSmall};
+ghost use Rattle.cal_context.specs.Snapshots.{IsIn, meaning};
+ghost use Rattle.cal_context.specs.Tree.{Tree};
+ghost use Rattle.cal_filter.specs.Known.{Knows, KnowsAll, sought};
+ghost use Rattle.cal_filter.specs.Sought.{number_sought, sought_by, value_sought};
+ghost use Rattle.cal_filter.specs.Named.{HasSmallNumbers};
+ghost use Rattle.cal_filter.specs.Numbers.{number_in as number_in_value};
+ghost use Rattle.cal_filter.specs.Replaced.{CatchesUp};
+ghost use Rattle.cal_value.specs.Flat.{flat};
+ghost use Rattle.cal_value.specs.Reading.{IsSmall as IsSmallValue};
+
+use crate::arithmetic::limited;
+use crate::seeker::Seeker;
+use crate::wanted::Wanted;
+use cal_agg::Num;
+use cal_context::{Context, Snapshot};
+use cal_ql::Op;
+use cal_value::{OutOfMemory, Text, TryCopy, Variant};
+use std::alloc::Global;
+
+/// What an operator seeks by its names.
+pub(crate) fn seekers_of(alloc: Global, op: Op, names: &[Text]) -> Result<Vec<Seeker>, OutOfMemory>
+    ensures sought { IfOk result (λ seekers.
+        map sought seekers.items ≡ map (sought_by op) names.now) }
+    ensures knows { IfOk result (λ seekers. (t : Tree) → All (Knows t) seekers.items) }
+{
+    let mut seekers = Vec::new(alloc);
+    for name in names {
+        let seeker = Seeker::new(alloc, name.copy(alloc)?, Wanted::of_op(op));
+        seekers.push(seeker)?;
+    }
+    Ok(seekers)
+}
+
+/// Lets each seeker know what is new in a context.
+pub(crate) fn catch_up_all(seekers: &mut [Seeker], context: &Context) -> Result<(), OutOfMemory>
+    ensures { OnOk result (AllZip (CatchesUp context.now) seekers.old seekers.new) }
+{
+    for seeker in seekers.iter_mut() {
+        seeker.catch_up(context)?;
+    }
+    Ok(())
+}
+
+/// The numbers that seekers find in a record, each where it is within the limit.
+pub(crate) fn fill_numbers(
+    seekers: &[Seeker],
+    context: &Context,
+    snapshot: &Snapshot,
+    numbers: &mut Vec<Option<Num>>,
+) -> Result<(), OutOfMemory>
+    requires { IsIn context.now snapshot.now }
+    ensures few { OnOk result (length numbers.new.items ≡ length seekers.now) }
+    ensures small { OnOk result (All (λ number. ForSome number IsSmall) numbers.new.items) }
+    ensures found { OnOk result (All (KnowsAll context.now) seekers.now
+        → HasSmallNumbers (meaning context.now snapshot.now) → numbers.new.items
+        ≡ map (λ s. number_sought (sought s) (flat (meaning context.now snapshot.now)))
+        seekers.now) }
+{
+    numbers.clear();
+    for seeker in seekers {
+        let number = number_found(seeker, context, snapshot);
+        numbers.push(number)?;
+    }
+    Ok(())
+}
+
+// A number above the limit is none, so that no record makes a sum too large.
+fn number_found(seeker: &Seeker, context: &Context, snapshot: &Snapshot) -> Option<Num>
+    requires { IsIn context.now snapshot.now }
+    ensures small { ForSome result IsSmall }
+    ensures found { KnowsAll context.now seeker.now
+        → HasSmallNumbers (meaning context.now snapshot.now)
+        → result ≡ number_sought (sought seeker.now) (flat (meaning context.now snapshot.now)) }
+{
+    match seeker.find(context, snapshot) {
+        Some(value) => small_number(value),
+        None => None,
+    }
+}
+
+fn small_number(value: &Variant) -> Option<Num>
+    ensures small { ForSome result IsSmall }
+    ensures number { IsSmallValue value.now → result ≡ number_in_value value.now }
+{
+    match value {
+        Variant::Int(number) => limited(Num::Whole(*number)),
+        Variant::Uint(number) => Some(Num::Whole(i128::from(*number))),
+        Variant::Fixed(nanos) => limited(Num::Fixed(*nanos)),
+        _ => None,
+    }
+}
+
+/// The value that the first seeker finds of those that find one.
+pub(crate) fn first_found(
+    alloc: Global,
+    seekers: &[Seeker],
+    context: &Context,
+    snapshot: &Snapshot,
+) -> Result<Option<Variant>, OutOfMemory>
+    requires { IsIn context.now snapshot.now }
+    ensures { IfOk result (λ value. All (KnowsAll context.now) seekers.now → value ≡ slice_get
+        (filter_map (λ s. value_sought (sought s) (flat (meaning context.now snapshot.now)))
+        seekers.now) 0) }
+{
+    for seeker in seekers {
+        match seeker.find(context, snapshot) {
+            Some(value) => return Ok(Some(value.copy(alloc)?)),
+            None => {}
+        }
+    }
+    Ok(None)
+}

@@ -1,0 +1,130 @@
+ghost use Rattle.std.specs.Prelude.{◌≡◌, ◌<◌, length, OnOk};
+ghost use Rattle.cal_context.specs.Tree.{Tree, attribute_at};
+ghost use Rattle.cal_filter.specs.Known.{IsNearest, Knows, KnowsAll, KnowsAttributes, named_at};
+ghost use Rattle.cal_filter.specs.Known.{nearest_at, sought};
+ghost use Rattle.cal_filter.specs.Sought.{seeks as is_sought};
+
+use crate::wanted::Wanted;
+use cal_context::{AttributeNumber, Context, NodeNumber};
+use cal_value::{OutOfMemory, Text, Variant};
+use std::alloc::Global;
+
+/// Looks for the last entry of a name that is wanted, over snapshots by number. What it found out
+/// about an attribute or a node it keeps beside its number.
+#[derive(Drop)]
+pub(crate) struct Seeker {
+    name: Text,
+    wanted: Wanted,
+    // of each attribute: whether it has the name
+    named: Vec<bool>,
+    // of each node: the nearest one at or above it whose entry is sought, or else the root
+    nearest: Vec<NodeNumber>,
+}
+
+impl Seeker {
+    /// A seeker that knows nothing yet. It takes no memory.
+    pub(crate) fn new(alloc: Global, name: Text, wanted: Wanted) -> Seeker
+        ensures sought { sought result ≡ record { name = name; wanted = wanted } }
+        ensures knows { (t : Tree) → Knows t result }
+    {
+        Seeker {
+            name,
+            wanted,
+            named: Vec::new(alloc),
+            nearest: Vec::new(alloc),
+        }
+    }
+
+    /// Gets to know what is new in a context.
+    pub(crate) fn catch_up(&mut self, context: &Context) -> Result<(), OutOfMemory>
+        ensures knows { OnOk result (Knows context.now self.old → KnowsAll context.now self.new) }
+        ensures same { OnOk result (sought self.new ≡ sought self.old) }
+    {
+        self.know_attributes(context)?;
+        self.know_nodes(context)
+    }
+
+    fn know_attributes(&mut self, context: &Context) -> Result<(), OutOfMemory>
+        ensures knows { OnOk result
+            (Knows context.now self.old → KnowsAttributes context.now self.new) }
+        ensures same { OnOk result (sought self.new ≡ sought self.old) }
+    {
+        for place in self.named.len()..context.attribute_count() {
+            let Ok(number) = u32::try_from(place) else {
+                return Err(OutOfMemory);
+            };
+            let attribute = context.attribute_at(AttributeNumber(number));
+            let named = attribute.name == self.name;
+            self.named.push(named)?;
+        }
+        Ok(())
+    }
+
+    fn know_nodes(&mut self, context: &Context) -> Result<(), OutOfMemory>
+        ensures knows { OnOk result
+            (KnowsAttributes context.now self.old → KnowsAll context.now self.new) }
+        ensures same { OnOk result (sought self.new ≡ sought self.old) }
+    {
+        for place in self.nearest.len()..context.node_count() {
+            let Ok(number) = u32::try_from(place) else {
+                return Err(OutOfMemory);
+            };
+            let nearest = self.nearest_to(context, NodeNumber(number));
+            self.nearest.push(nearest)?;
+        }
+        Ok(())
+    }
+
+    /// The nearest node at or above the first one that isn't known.
+    fn nearest_to(&self, context: &Context, node: NodeNumber) -> NodeNumber
+        requires within { node.0 < length context.now.paths }
+        requires next { node.0 ≡ length self.now.nearest.items }
+        ensures { KnowsAttributes context.now self.now
+            → IsNearest context.now (sought self.now) node result }
+    {
+        let Some(link) = context.link(node) else {
+            return NodeNumber::ROOT;
+        };
+        if self.seeks(context, link.attribute, context.value_at(link.value)) {
+            node
+        } else {
+            self.nearest(link.parent)
+        }
+    }
+
+    /// Whether an entry is sought.
+    pub(crate) fn seeks(
+        &self,
+        context: &Context,
+        attribute: AttributeNumber,
+        value: &Variant,
+    ) -> bool
+        requires { attribute.0 < length context.now.attributes }
+        ensures { KnowsAttributes context.now self.now → result ≡ is_sought (sought self.now)
+            (record { attr = attribute_at context.now attribute; value = value.now }) }
+    {
+        self.is_named(attribute)
+            && self
+                .wanted
+                .passes(context.attribute_at(attribute).kind, value)
+    }
+
+    fn is_named(&self, attribute: AttributeNumber) -> bool
+        ensures { result ≡ named_at self.now attribute }
+    {
+        self.named
+            .get(attribute.0 as usize)
+            .copied()
+            .unwrap_or(false)
+    }
+
+    /// The nearest node at or above a node that is known.
+    pub(crate) fn nearest(&self, node: NodeNumber) -> NodeNumber
+        ensures { result ≡ nearest_at self.now node }
+    {
+        self.nearest
+            .get(node.0 as usize)
+            .copied()
+            .unwrap_or(NodeNumber::ROOT)
+    }
+}
