@@ -2,3 +2,5 @@ pub mod Texts
 pub mod Hierarchy
 pub mod Cells
 pub mod Names
+pub mod Filling
+pub mod Known

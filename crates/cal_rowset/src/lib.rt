@@ -5,8 +5,15 @@
 //! they make. Nothing is promised of which rows or columns a query has: that is the engine's to say.
 #![tactic(auto)]
 
+mod cell;
+mod cells;
 mod hierarchy;
+mod names;
+mod row_cells;
 mod rowset;
 
+pub use cell::{Cell, Content};
+pub use cells::Cells;
 pub use hierarchy::is_of_hierarchy;
+pub use names::{Names, is_path};
 pub use rowset::{Column, Rowset};

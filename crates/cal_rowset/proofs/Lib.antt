@@ -1,0 +1,4 @@
+pub mod Knowing
+pub mod Seen
+pub mod Showing
+pub mod Filling

@@ -1,0 +1,3 @@
+pub mod Links
+pub mod PartLemmas
+pub mod PlaceLemmas

@@ -1,0 +1,48 @@
+-- What is known of a context's attributes and paths while a snapshot is laid out.
+use Rattle.std.specs.Prelude.{◌≡◌, ℕ, ◌<◌, ◌≤◌, List, Some, length, map, slice_get, slice_index_or}
+use Rattle.std.specs.List.{All}
+use Rattle.cal_value.specs.declared.attribute.Entry.{Entry}
+use Rattle.cal_context.specs.Tree.{Tree, attribute_at, path_at, value_at}
+use Rattle.cal_context.specs.declared.numbers.AttributeNumber.{AttributeNumber}
+use Rattle.cal_context.specs.declared.numbers.Link.{Link}
+use Rattle.cal_context.specs.declared.numbers.NodeNumber.{NodeNumber}
+use Rattle.cal_rowset.specs.Filling.{Holds, HoldsSome, names}
+use Rattle.cal_tabfmt.specs.declared.snapshot_cells.SnapshotCells.{SnapshotCells}
+
+-- the attribute and the value of a link are the context's
+pub record IsEntryOf (t : Tree) (link : Link) : Type 0 where
+  pub attribute : link.attribute.0 < length t.attributes
+  pub value : link.value.0 < length t.values
+
+-- the entry of a link
+abbrev pub link_entry : Tree → Link → Entry
+link_entry t link = record {
+  attr = attribute_at t link.attribute;
+  value = value_at t link.value;
+}
+
+-- links from the root down make the path of a node
+pub record AreLinksOf (t : Tree) (node : NodeNumber) (links : List Link) : Type 0 where
+  pub path : path_at t node ≡ map (link_entry t) links
+  pub entries : All (IsEntryOf t) links
+
+-- of the first attributes it is known at which place their names stand
+pub record KnowsPlaces (t : Tree) (names : List (List ℕ)) (places : List ℕ) : Type 0 where
+  pub within : length places ≤ length t.attributes
+  pub known : (n : AttributeNumber) → n.0 < length places
+      → slice_get names (slice_index_or places n.0 0) ≡ Some (attribute_at t n).name
+
+-- of each attribute of the context it is known
+pub record KnowsAll (t : Tree) (names : List (List ℕ)) (places : List ℕ) : Type 0 where
+  pub each : KnowsPlaces t names places
+  pub all : length t.attributes ≤ length places
+
+-- Cells that are ready for a snapshot: they hold one, or none, and know some attributes.
+pub record AreReady (t : Tree) (s : SnapshotCells) : Type 0 where
+  pub holds : HoldsSome s.cells
+  pub places : KnowsPlaces t (names s.cells) s.places.items
+
+-- Cells that hold these entries of a snapshot, and know all attributes.
+pub record AreFilled (t : Tree) (s : SnapshotCells) (entries : List Entry) : Type 0 where
+  pub holds : Holds s.cells entries
+  pub places : KnowsAll t (names s.cells) s.places.items

@@ -1,0 +1,43 @@
+ghost use Rattle.std.specs.Prelude.{◌≡◌, ℕ, List, [], ◌∷◌, ◌++◌, IfOk, OnOk};
+ghost use Rattle.std.specs.Prelude.{option_map, option_to_list, if◌then◌else◌};
+ghost use Rattle.cal_value.specs.declared.variant.Variant.{Variant};
+ghost use Rattle.cal_rowset.specs.Cells.{cell_of};
+ghost use Rattle.cal_rowset.specs.Filling.{Shows};
+ghost use Rattle.cal_tabfmt.specs.Expand.{part};
+ghost use Rattle.cal_tabfmt.specs.Parts.{HasParts};
+
+use cal_line::escape;
+use cal_rowset::Cell;
+use cal_value::{OutOfMemory, Text};
+
+/// Appends the part of a cell to a line, or nothing where the cell is absent, and answers whether
+/// the next part is the line's first.
+pub(crate) fn append_part(
+    out: &mut Text,
+    is_first: bool,
+    header: &Text,
+    cell: &Cell,
+) -> Result<bool, OutOfMemory>
+    ensures { IfOk result (λ first. (before : List ℕ) (parts : List (List ℕ)) (vs : List Variant)
+        → Shows cell.now vs → HasParts before out.old is_first parts → HasParts before out.new first
+        (parts ++ option_to_list (option_map (part header.now) (cell_of vs)))) }
+{
+    if cell.is_empty() {
+        return Ok(is_first);
+    }
+    append_comma(out, is_first)?;
+    escape(header.as_str(), out)?;
+    out.push_str("=")?;
+    escape(cell.text.as_str(), out)?;
+    Ok(false)
+}
+
+// the comma before a part that isn't the first
+fn append_comma(out: &mut Text, is_first: bool) -> Result<(), OutOfMemory>
+    ensures { OnOk result (out.new ≡ out.old ++ (if is_first then [] else 44 ∷ [])) }
+{
+    if is_first {
+        return Ok(());
+    }
+    out.push_str(",")
+}
