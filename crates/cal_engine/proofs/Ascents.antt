@@ -47,9 +47,10 @@ module _ {t : Tree} (is : IsContext t) where
       own = record { attr = attribute_at t link.attribute; value = value_at t link.value }
 
       longer : IsFront (path_at t n) (path_at t link.parent) → IsFront (path_at t n) (path_at t node)
-      longer f =
-          (f.0 ++ record { attr = attribute_at t link.attribute; value = value_at t link.value } ∷ [],
-           linked.child.path ∙ ap (λ p. p ++ record { attr = attribute_at t link.attribute; value = value_at t link.value } ∷ []) f.1 ∙ append_assoc (path_at t n) f.0 _)
+      longer f = (
+        f.0 ++ record { attr = attribute_at t link.attribute; value = value_at t link.value } ∷ [],
+        linked.child.path ∙ ap (λ p. p ++ record { attr = attribute_at t link.attribute; value = value_at t link.value } ∷ []) f.1 ∙ append_assoc (path_at t n) f.0 _,
+      )
 
       shorter : IsFront (path_at t n) (path_at t node) → IsFront (path_at t n) (path_at t link.parent)
       shorter f = at (front_push (path_at t n) (path_at t link.parent) _ (subst (IsFront (path_at t n)) linked.child.path f))
@@ -124,7 +125,7 @@ module _ {t : Tree} (is : IsContext t) where
                 let second = subst (λ m. begins (path_at t m) (path_at t link.parent) ≡ false) node_is (not_begins_parent link node linked) in
                 now_here n e same
                 ∙ sym (ap (λ b. if b && not (begins (path_at t n) (path_at t link.parent)) then merged_parts (get_or old n.0 e) parts else get_or old n.0 e) first
-                  ∙ ap (λ b. if not b then merged_parts (get_or old n.0 e) parts else get_or old n.0 e) second)
+                ∙ ap (λ b. if not b then merged_parts (get_or old n.0 e) parts else get_or old n.0 e) second)
             by false h =
                 let ne = λ (s : n.0 ≡ node.0). true≢false (sym ((Decides-eqb n.0 node.0).1 s) ∙ h) in
                 now_other n e ne ∙ added.at n e l
@@ -156,10 +157,10 @@ module _ {t : Tree} (is : IsContext t) where
             by false h =
                 let ne = λ (s : n.0 ≡ node.0). true≢false (sym ((Decides-eqb n.0 node.0).1 s) ∙ h) in
                 let apart = begins_false (path_at t n) (path_at t node) (λ f.
-                    let long_root = ap length root in
-                    let other = ap length f.1 ∙ length-append (path_at t n) f.0 in
-                    let empty : length (path_at t n) ≡ 0 = omega (arith, long_root, other) in
-                    ne (ap (λ m. m.0) (one_node is n node l within (no_entry (path_at t n) empty ∙ sym root)))) in
+                let long_root = ap length root in
+                let other = ap length f.1 ∙ length-append (path_at t n) f.0 in
+                let empty : length (path_at t n) ≡ 0 = omega (arith, long_root, other) in
+                ne (ap (λ m. m.0) (one_node is n node l within (no_entry (path_at t n) empty ∙ sym root)))) in
                 now_other n e ne ∙ added.at n e l
                 ∙ ap (λ b. if begins (path_at t n) (path_at t from) && not b then merged_parts (get_or old n.0 e) parts else get_or old n.0 e) apart
                 ∙ ap (λ b. if b then merged_parts (get_or old n.0 e) parts else get_or old n.0 e) (plain (begins (path_at t n) (path_at t from)))

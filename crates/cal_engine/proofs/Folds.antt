@@ -1,6 +1,8 @@
 -- A fold with one more record.
-use Rattle.std.proofs.Common.{◌≡◌, Bool, true, false, List, [], ◌∷◌, ◌++◌, Option, None, Some, if◌then◌else◌, length, map, refl, sym, ap, ◌∙◌, subst, append-nil, arith}
+use Rattle.std.proofs.Common.{◌≡◌, ℕ, suc, Bool, true, false, ◌&&◌, true≢false, List, [], ◌∷◌, ◌++◌, Option, None, Some, if◌then◌else◌, length, map, refl, sym, ap, ◌∙◌, subst, append-nil, arith}
+use Rattle.std.specs.Prelude.{◌==◌}
 use Rattle.std.specs.List.{cons_option, filter_map}
+use Rattle.std.proofs.lemmas.Bool.Decides.{Decides-eqb}
 use Rattle.std.proofs.lemmas.List.Elements.{filter_map-append}
 use Rattle.cal_filter.specs.Conditions.{where_holds}
 use Rattle.cal_filter.specs.Kept.{kept, with_lets}
@@ -151,12 +153,19 @@ rows_kept q groups rows rs is aggregated =
     ∙ ap (λ b. if b then [] else rs) aggregated
     ∙ sym (ap (λ b. if b then map (row_of q rs) (groups_of q.group rs) else rs) aggregated)
 
--- without LET and WHERE each record is kept as it is
-pub kept_plain : (q : Query) (r : Rec) → length q.lets ≡ 0 → length q.conds ≡ 0 → Some r ≡ kept q r
-kept_plain q r no_lets no_conds = by q.lets q.conds no_lets no_conds
+no_zero : (n : ℕ) → (suc n == 0) ≡ false
+no_zero n = by (suc n == 0) refl
   where
-    by : (ls : List Let) (cs : List Cond) → length ls ≡ 0 → length cs ≡ 0
+    by : (b : Bool) → (suc n == 0) ≡ b → (suc n == 0) ≡ false
+    by true e = let zero_is = (Decides-eqb (suc n) 0).0 e in absurd (omega (arith, zero_is))
+    by false e = e
+
+-- without LET and WHERE each record is kept as it is
+pub kept_plain : (q : Query) (r : Rec) → (length q.lets == 0 && length q.conds == 0) ≡ true → Some r ≡ kept q r
+kept_plain q r plain = by q.lets q.conds plain
+  where
+    by : (ls : List Let) (cs : List Cond) → (length ls == 0 && length cs == 0) ≡ true
         → Some r ≡ (if where_holds cs (with_lets ls r) then Some (with_lets ls r) else None)
-    by [] [] l c = refl
-    by [] (x ∷ cs) l c = absurd (omega (arith, c))
-    by (x ∷ ls) cs l c = absurd (omega (arith, l))
+    by [] [] plain = refl
+    by [] (x ∷ cs) plain = absurd (true≢false (sym plain ∙ no_zero (length cs)))
+    by (x ∷ ls) cs plain = absurd (true≢false (sym plain ∙ ap (λ b. b && (length cs == 0)) (no_zero (length ls))))

@@ -19,7 +19,7 @@ use Rattle.cal_engine.specs.Parts.{Gathered, merged_parts, parts_over}
 use Rattle.cal_engine.specs.Folding.{Grouped, Gathers, groups_over, put_parts}
 use Rattle.cal_engine.proofs.Firsts.{firsts-Adds, list_any-firsts}
 use Rattle.cal_engine.proofs.Merging.{parts_over-append}
-use Rattle.cal_engine.proofs.Places.{IsPlaced, placed, map-slice_set, map-push}
+use Rattle.cal_engine.proofs.Places.{IsPlaced, placed, map-slice_set, map-push, number_within, truncated}
 
 pub group_laws : IsEquivalence is_group
 group_laws = exact_equiv group_exact
@@ -134,8 +134,8 @@ module _ (q : Query) (rs : List Rec) (r : Rec) where
           ∙ sym (put_parts_set old.parts h.number [] (parts_over q.aggs (r ∷ [])) (omega (arith, long, p.0)))
           ∙ ap (λ ps. slice_set ps h.number (merged_parts (slice_index_or ps h.number []) (parts_over q.aggs (r ∷ [])))) parts_was
           ∙ map-slice_set (before) (after) old.keys h.number (group_of q.group r)
-              (merged_parts (slice_index_or (map (before) old.keys) h.number []) (parts_over q.aggs (r ∷ [])))
-              h.apart there (ap (λ ps. merged_parts ps (parts_over q.aggs (r ∷ []))) (read there) ∙ sym own) other
+          (merged_parts (slice_index_or (map (before) old.keys) h.number []) (parts_over q.aggs (r ∷ [])))
+          h.apart there (ap (λ ps. merged_parts ps (parts_over q.aggs (r ∷ []))) (read there) ∙ sym own) other
           ∙ ap (map (after)) (sym p.1)
         where
           there : slice_get old.keys h.number ≡ Some (group_of q.group r)
@@ -149,7 +149,7 @@ module _ (q : Query) (rs : List Rec) (r : Rec) where
           ∙ sym (put_parts_end old.parts h.number (parts_over q.aggs (r ∷ [])) (p.0 ∙ sym long))
           ∙ ap (λ ps. ps ++ parts_over q.aggs (r ∷ []) ∷ []) parts_was
           ∙ map-push (before) (after) old.keys (group_of q.group r) (parts_over q.aggs (r ∷ []))
-              p.2 (none_yet (λ there. p.2 (subst (λ ks. Contains ks (group_of q.group r)) (sym keys_was) there))) other
+          p.2 (none_yet (λ there. p.2 (subst (λ ks. Contains ks (group_of q.group r)) (sym keys_was) there))) other
           ∙ ap (map (after)) (sym p.1)
 
       parts : new.parts ≡ map (after) (groups_of q.group (rs ++ r ∷ []))
@@ -179,3 +179,8 @@ put_long old x new n parts now fresh h long is = by (placed old x new n h)
         length-push : (xs : List Rec) (y : Rec) → length (xs ++ y ∷ []) ≡ suc (length xs)
         length-push [] y = refl
         length-push (z ∷ zs) y = ap suc (length-push zs y)
+
+-- what `put` and `gather` rest on
+pub ruleset of_putting = (put_parts_set, put_parts_end)
+
+pub ruleset of_gathering = (number_within, truncated, put_long)

@@ -96,10 +96,10 @@ pub numbers_pass : (whole : Bool) (name : List ℕ) (before : Option Num) (es : 
     → last ≡ last_or before (numbers_sought whole name (take (n + 1) es))
 numbers_pass whole name before es n e last l at other is =
     is ∙ ap (last_or before) (sym (
-        ap (numbers_sought whole name) ((take_at_read es n e l).1 ∙ ap (λ f. take n es ++ f ∷ []) (sym at))
-        ∙ numbers_sought-append whole name (take n es) (e ∷ [])
-        ∙ ap (λ b. numbers_sought whole name (take n es) ++ filter_map (λ e. number_sought whole e.value) (filter (λ _. b) (e ∷ []))) other
-        ∙ nothing (numbers_sought whole name (take n es))))
+    ap (numbers_sought whole name) ((take_at_read es n e l).1 ∙ ap (λ f. take n es ++ f ∷ []) (sym at))
+    ∙ numbers_sought-append whole name (take n es) (e ∷ [])
+    ∙ ap (λ b. numbers_sought whole name (take n es) ++ filter_map (λ e. number_sought whole e.value) (filter (λ _. b) (e ∷ []))) other
+    ∙ nothing (numbers_sought whole name (take n es))))
   where
     nothing : (xs : List Num) → xs ++ [] ≡ xs
     nothing [] = refl
@@ -116,9 +116,9 @@ numbers_take whole name before es n e last now l at named is step =
     ∙ ap (λ o. last_or o (filter_map (λ e. number_sought whole e.value) (e ∷ []))) is
     ∙ sym (last_or-append before (numbers_sought whole name (take n es)) (filter_map (λ e. number_sought whole e.value) (e ∷ [])))
     ∙ ap (last_or before) (sym (
-        ap (numbers_sought whole name) ((take_at_read es n e l).1 ∙ ap (λ f. take n es ++ f ∷ []) (sym at))
-        ∙ numbers_sought-append whole name (take n es) (e ∷ [])
-        ∙ ap (λ b. numbers_sought whole name (take n es) ++ filter_map (λ e. number_sought whole e.value) (filter (λ _. b) (e ∷ []))) named))
+    ap (numbers_sought whole name) ((take_at_read es n e l).1 ∙ ap (λ f. take n es ++ f ∷ []) (sym at))
+    ∙ numbers_sought-append whole name (take n es) (e ∷ [])
+    ∙ ap (λ b. numbers_sought whole name (take n es) ++ filter_map (λ e. number_sought whole e.value) (filter (λ _. b) (e ∷ []))) named))
   where
     by : (o : Option Num) → or_else o last ≡ last_or last (cons_option o [])
     by None = refl
@@ -130,10 +130,10 @@ pub values_pass : (name : List ℕ) (before : Option Variant) (es : List Entry) 
     → last ≡ last_or before (values_of name (take (n + 1) es))
 values_pass name before es n e last l at other is =
     is ∙ ap (last_or before) (sym (
-        ap (values_of name) ((take_at_read es n e l).1 ∙ ap (λ f. take n es ++ f ∷ []) (sym at))
-        ∙ values_of-append name (take n es) (e ∷ [])
-        ∙ ap (λ b. values_of name (take n es) ++ map (λ e. e.value) (filter (λ _. b) (e ∷ []))) other
-        ∙ nothing (values_of name (take n es))))
+    ap (values_of name) ((take_at_read es n e l).1 ∙ ap (λ f. take n es ++ f ∷ []) (sym at))
+    ∙ values_of-append name (take n es) (e ∷ [])
+    ∙ ap (λ b. values_of name (take n es) ++ map (λ e. e.value) (filter (λ _. b) (e ∷ []))) other
+    ∙ nothing (values_of name (take n es))))
   where
     nothing : (xs : List Variant) → xs ++ [] ≡ xs
     nothing [] = refl
@@ -144,9 +144,9 @@ pub values_take : (name : List ℕ) (before : Option Variant) (es : List Entry) 
     → Some e.value ≡ last_or before (values_of name (take (n + 1) es))
 values_take name before es n e l at named =
     sym (ap (last_or before) (
-        ap (values_of name) ((take_at_read es n e l).1 ∙ ap (λ f. take n es ++ f ∷ []) (sym at))
-        ∙ values_of-append name (take n es) (e ∷ [])
-        ∙ ap (λ b. values_of name (take n es) ++ map (λ e. e.value) (filter (λ _. b) (e ∷ []))) named)
+    ap (values_of name) ((take_at_read es n e l).1 ∙ ap (λ f. take n es ++ f ∷ []) (sym at))
+    ∙ values_of-append name (take n es) (e ∷ [])
+    ∙ ap (λ b. values_of name (take n es) ++ map (λ e. e.value) (filter (λ _. b) (e ∷ []))) named)
     ∙ last_or-append before (values_of name (take n es)) (e.value ∷ []))
 
 -- the value of the last entry of a name is the last of their values

@@ -64,8 +64,8 @@ learned_row names mid now row first step =
     ∙ ap (λ m. learned m (names_beside false row.imms)) first
     ∙ sym (fold-append learned_one names (names_beside true (joined row.paths)) (names_beside false row.imms))
     ∙ ap (learned names)
-      (ap (λ es. names_beside true (joined row.paths) ++ map (λ e. e.attr.name) es) (all row.imms)
-      ∙ sym (map-append (λ (e : Entry). e.attr.name) (filter (λ e. not (is_of_hierarchy e.attr)) (joined row.paths)) row.imms))
+    (ap (λ es. names_beside true (joined row.paths) ++ map (λ e. e.attr.name) es) (all row.imms)
+    ∙ sym (map-append (λ (e : Entry). e.attr.name) (filter (λ e. not (is_of_hierarchy e.attr)) (joined row.paths)) row.imms))
   where
     all : (es : List Entry) → filter (λ e. true) es ≡ es
     all [] = refl

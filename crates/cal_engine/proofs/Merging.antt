@@ -60,7 +60,7 @@ pub parts_over-swap : (aggs : List Agg) (rs ss : List Rec) → parts_over aggs (
 parts_over-swap [] rs ss = refl
 parts_over-swap (agg ∷ aggs) rs ss =
     let first =
-        ap (part_over agg.kernel) (contributed-append agg rs ss)
-        ∙ part_over-swap agg.kernel (contributed agg rs) (contributed agg ss)
-        ∙ ap (part_over agg.kernel) (sym (contributed-append agg ss rs)) in
+    ap (part_over agg.kernel) (contributed-append agg rs ss)
+    ∙ part_over-swap agg.kernel (contributed agg rs) (contributed agg ss)
+    ∙ ap (part_over agg.kernel) (sym (contributed-append agg ss rs)) in
     λ i. first i ∷ parts_over-swap aggs rs ss i

@@ -104,7 +104,7 @@ module _ {R M : Type 0} {v : List R → M} {merge : M → M → M} (kept : IsKep
         ∙ ap (merge (v (filter (λ r. eq (key r) g) rs))) (by_group gs once.1 rs)
         ∙ sym (kept.merges (filter (λ r. eq (key r) g) rs) (filter (λ r. list_any (eq (key r)) gs) rs))
         ∙ filter-either (λ r. eq (key r) g) (λ r. list_any (eq (key r)) gs)
-            (λ r e. ap (λ k. list_any (eq k) gs) (same (key r) g e) ∙ once.0) rs
+        (λ r e. ap (λ k. list_any (eq k) gs) (same (key r) g e) ∙ once.0) rs
 
     -- tests that agree on a list's records
     filter-alike : (p q : R → Bool) (rs : List R) → ((r : R) → list_any (eq (key r)) (map key rs) ≡ true → p r ≡ q r) → filter p rs ≡ filter q rs
@@ -147,10 +147,10 @@ module _ {R M : Type 0} {v : List R → M} {merge : M → M → M} (kept : IsKep
         fold-lists (λ g. filter (λ r. eq (key r) g) rs) [] gs
         ∙ by_group gs (AreOnce-filter eq test (firsts eq (map key rs)) (AreOnce-firsts laws same (map key rs))) rs
         ∙ ap v (filter-alike (λ r. list_any (eq (key r)) gs) (λ r. test (key r)) rs
-            (λ r there.
-                let here = list_any-firsts laws same (key r) (map key rs) ∙ there in
-                let where_is = list_any-where test (key r) (firsts eq (map key rs)) in
-                agree (test (key r)) (list_any (eq (key r)) (firsts eq (map key rs))) (list_any (eq (key r)) gs) here where_is))
+        (λ r there.
+        let here = list_any-firsts laws same (key r) (map key rs) ∙ there in
+        let where_is = list_any-where test (key r) (firsts eq (map key rs)) in
+        agree (test (key r)) (list_any (eq (key r)) (firsts eq (map key rs))) (list_any (eq (key r)) gs) here where_is))
       where
         agree : (a b c : Bool) → b ≡ true → c ≡ (a && b) → c ≡ a
         agree true b c h e = grind (arith, h, e)

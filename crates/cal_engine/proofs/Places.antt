@@ -78,12 +78,12 @@ module _ {A B : Type 0} where
       let z_is : z ≡ x = cc in
       let first : y ≡ g z = is ∙ ap g (sym z_is) in
       let rest = map_alike f g zs (λ k d l. sym (others (get_or zs k d) (λ e.
-          AreApart-head z zs apart k l (grind (arith, common_steps, l, e, z_is))))) in
+      AreApart-head z zs apart k l (grind (arith, common_steps, l, e, z_is))))) in
       λ j. first j ∷ rest j
   map-slice_set f g (z ∷ zs) (suc n) x y apart at is others =
       let there = slice_get_within zs n x at in
       let other : z ≡ x → ⊥ = λ e. AreApart-head z zs apart n there
-          (get_or_from_slice_get zs n x z at ∙ sym e) in
+      (get_or_from_slice_get zs n x z at ∙ sym e) in
       let first : f z ≡ g z = sym (others z other) in
       let rest = map-slice_set f g zs n x y (AreApart-tail z zs apart) at is others in
       λ j. first j ∷ rest j

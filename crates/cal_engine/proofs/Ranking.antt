@@ -105,8 +105,8 @@ pub values_next : (keys : List OrderKey) (vs ws : List (Option Variant)) (n : �
 values_next keys vs ws n key l e =
     ap (λ ks. values_cmp ks (drop n vs) (drop n ws)) (rest_at keys n key l e)
     ∙ (λ i. ordering_then
-        (directed key.down (option_cmp value_cmp (option_and_then (λ v. v) (first_of_drop n vs i)) (option_and_then (λ v. v) (first_of_drop n ws i))))
-        (values_cmp (drop (n + 1) keys) (drop_one n vs i) (drop_one n ws i)))
+    (directed key.down (option_cmp value_cmp (option_and_then (λ v. v) (first_of_drop n vs i)) (option_and_then (λ v. v) (first_of_drop n ws i))))
+    (values_cmp (drop (n + 1) keys) (drop_one n vs i) (drop_one n ws i)))
 
 pub then_other : (down : Bool) (answer rest : Ordering) → answer ≢ Equal → ordering_then (directed down answer) rest ≡ directed down answer
 then_other true Less rest ne = refl
@@ -127,16 +127,16 @@ pub sorted_by_ranks : {F : Type 0} {g : Mut F (Bor Ranked × (Bor Ranked × Unit
     → before ≡ map (rank keys) rows
     → IsSortedByClosure g f after → IsStableByClosure g f before after
     → ((a : Bor Ranked × (Bor Ranked × Unit {0})) (r : Ordering) (f' : F) → Called g f a r f'
-        → (r ≡ ranked_cmp keys a.0.now a.1.0.now) × (f' ≡ f))
+    → (r ≡ ranked_cmp keys a.0.now a.1.0.now) × (f' ≡ f))
     → map (λ r. r.row) after ≡ sorted_rows keys rows
 sorted_by_ranks {g = g} {f = f} keys rows before after is up stable answers =
     let compares = always_returns_same g (λ a r. is_lt r ≡ is_lt (ranked_cmp keys a.0.now a.1.0.now)) f
-        (λ a r f' k. (ap is_lt (answers a r f' k).0, (answers a r f' k).1)) in
+    (λ a r f' k. (ap is_lt (answers a r f' k).0, (answers a r f' k).1)) in
     let lt = λ (x y : Ranked). is_lt (ranked_cmp keys x y) in
     ap (map (λ r. r.row))
-      (sorted-unique (ranked_cmp keys) (ranked_weak keys) before after (up lt (ranked_weak keys) compares) (stable lt (ranked_weak keys) compares)
-      ∙ ap (sorted (ranked_cmp keys)) is
-      ∙ sorted-map (rank keys) (row_cmp keys) (ranked_cmp keys) (rank_cmp keys) rows)
+    (sorted-unique (ranked_cmp keys) (ranked_weak keys) before after (up lt (ranked_weak keys) compares) (stable lt (ranked_weak keys) compares)
+    ∙ ap (sorted (ranked_cmp keys)) is
+    ∙ sorted-map (rank keys) (row_cmp keys) (ranked_cmp keys) (rank_cmp keys) rows)
     ∙ rows_again keys (sorted (row_cmp keys) rows)
 
 -- without keys all rows tie

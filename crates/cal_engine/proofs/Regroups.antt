@@ -215,8 +215,8 @@ module _ (q : Query) where
             ∙ sym (put_parts_set old.parts h.number [] (parts_over q.aggs (r ∷ more)) (omega (arith, long, p.0)))
             ∙ ap (λ ps. slice_set ps h.number (merged_parts (slice_index_or ps h.number []) (parts_over q.aggs (r ∷ more)))) parts_was
             ∙ map-slice_set before after old.keys h.number key
-                (merged_parts (slice_index_or (map before old.keys) h.number []) (parts_over q.aggs (r ∷ more)))
-                h.apart there (ap (λ ps. merged_parts ps (parts_over q.aggs (r ∷ more))) (map_read before old.keys h.number key [] there) ∙ sym own) other
+            (merged_parts (slice_index_or (map before old.keys) h.number []) (parts_over q.aggs (r ∷ more)))
+            h.apart there (ap (λ ps. merged_parts ps (parts_over q.aggs (r ∷ more))) (map_read before old.keys h.number key [] there) ∙ sym own) other
             ∙ ap (map after) (sym p.1)
           where
             there : slice_get old.keys h.number ≡ Some key
@@ -226,7 +226,7 @@ module _ (q : Query) where
             ∙ sym (put_parts_end old.parts h.number (parts_over q.aggs (r ∷ more)) (p.0 ∙ sym long))
             ∙ ap (λ ps. ps ++ parts_over q.aggs (r ∷ more) ∷ []) parts_was
             ∙ map-push before after old.keys key (parts_over q.aggs (r ∷ more))
-                p.2 (none_yet (λ there. p.2 (subst (λ ks. Contains ks key) (sym keys_was) there))) other
+            p.2 (none_yet (λ there. p.2 (subst (λ ks. Contains ks key) (sym keys_was) there))) other
             ∙ ap (map after) (sym p.1)
 
         parts : new.parts ≡ map after (groups_of q.group (rs ++ r ∷ more))
@@ -264,9 +264,10 @@ module _ (q : Query) where
     -- each group that was seen first was seen
     keys_seen : (xs : List Rec) → AllByRecursion (λ key. list_any (is_group key) xs ≡ true) (firsts is_group xs)
     keys_seen [] = tt
-    keys_seen (x ∷ xs) =
-        (ap (λ b. b || list_any (is_group x) xs) (group_laws.refl x),
-         more (firsts is_group xs) (keys_seen xs))
+    keys_seen (x ∷ xs) = (
+      ap (λ b. b || list_any (is_group x) xs) (group_laws.refl x),
+      more (firsts is_group xs) (keys_seen xs),
+    )
       where
         or_true : (a b : Bool) → b ≡ true → (a || b) ≡ true
         or_true true b h = refl
@@ -363,7 +364,7 @@ module _ (q : Query) where
             ≡ map (λ key. parts_over q.aggs (records_of q.group key (rs ++ ss))) (groups_of q.group (rs ++ ss))
         parts =
             map_alike (λ key. parts_over q.aggs (records_of q.group key (rs ++ regrouped (groups_of q.group ss)))) (λ key. parts_over q.aggs (records_of q.group key (rs ++ ss)))
-                (λ key. ap (parts_over q.aggs) (own key)) (groups_of q.group (rs ++ regrouped (groups_of q.group ss)))
+            (λ key. ap (parts_over q.aggs) (own key)) (groups_of q.group (rs ++ regrouped (groups_of q.group ss)))
             ∙ ap (map (λ key. parts_over q.aggs (records_of q.group key (rs ++ ss)))) keys
 
     -- one group's records more
@@ -375,10 +376,10 @@ module _ (q : Query) where
         → new ≡ groups_over q (rs ++ regrouped (take (n + 1) (groups_of q.group ss)))
     regrouped_more rs n key parts old new l e is old_is gathers =
         gathers_more (rs ++ regrouped (take n (groups_of q.group ss))) key has.first has.rest (subst (AreOf key) has.are (are_of key ss)) old new old_is
-            (subst (λ ps. Gathers old key ps new) (is ∙ ap (parts_over q.aggs) has.are) gathers)
+        (subst (λ ps. Gathers old key ps new) (is ∙ ap (parts_over q.aggs) has.are) gathers)
         ∙ ap (groups_over q) (
-            append_assoc rs (regrouped (take n (groups_of q.group ss))) (has.first ∷ has.rest)
-            ∙ ap (λ xs. rs ++ xs) (ap (λ xs. regrouped (take n (groups_of q.group ss)) ++ xs) (sym has.are) ∙ sym more))
+        append_assoc rs (regrouped (take n (groups_of q.group ss))) (has.first ∷ has.rest)
+        ∙ ap (λ xs. rs ++ xs) (ap (λ xs. regrouped (take n (groups_of q.group ss)) ++ xs) (sym has.are) ∙ sym more))
       where
         seen_so : list_any (is_group key) (map (group_of q.group) ss) ≡ true
         seen_so = at (groups_of q.group ss) n l e (keys_seen (map (group_of q.group) ss))

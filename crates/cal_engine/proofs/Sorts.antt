@@ -88,12 +88,13 @@ module _ {A : Type 0} (lt : A → A → Bool) (weak : IsStrictWeakOrder lt) wher
   -- neighbours that don't fall make a rising list
   rises : (xs : List A) → IsSortedBy lt xs → Rises xs
   rises [] up = tt
-  rises (x ∷ xs) up =
-      (recursion_from_All (λ y. lt y x ≡ false) xs (λ k d l. sorted_far lt weak (x ∷ xs) up 0 (suc k) d (omega arith) (omega (arith, l))),
-       rises xs (λ k d l m.
-           let step = up (suc k) d (omega arith) (omega (arith, m)) in
-           let next : suc k + 1 ≡ suc (k + 1) = omega arith in
-           rw next at step))
+  rises (x ∷ xs) up = (
+    recursion_from_All (λ y. lt y x ≡ false) xs (λ k d l. sorted_far lt weak (x ∷ xs) up 0 (suc k) d (omega arith) (omega (arith, l))),
+    rises xs (λ k d l m.
+        let step = up (suc k) d (omega arith) (omega (arith, m)) in
+        let next : suc k + 1 ≡ suc (k + 1) = omega arith in
+        rw next at step),
+  )
 
 module _ {A : Type 0} (cmp : A → A → Ordering) (weak : IsStrictWeakOrder (λ x y. is_lt (cmp x y))) where
   -- what is put in goes behind all that is below it

@@ -79,7 +79,7 @@ totals_more t nodes parts none before now i node added l m e f are long adds = r
         adds.at n d within
         ∙ by (begins (path_at t n) (path_at t node))
         ∙ sym (ap (fold merged_parts none) more
-          ∙ fold-append merged_parts none (parts_where (λ m. begins (path_at t n) (path_at t m)) (take i nodes) (take i parts)) (if begins (path_at t n) (path_at t node) then added ∷ [] else []))
+        ∙ fold-append merged_parts none (parts_where (λ m. begins (path_at t n) (path_at t m)) (take i nodes) (take i parts)) (if begins (path_at t n) (path_at t node) then added ∷ [] else []))
       where
         more : parts_where (λ m. begins (path_at t n) (path_at t m)) (take (i + 1) nodes) (take (i + 1) parts)
             ≡ parts_where (λ m. begins (path_at t n) (path_at t m)) (take i nodes) (take i parts) ++ (if begins (path_at t n) (path_at t node) then added ∷ [] else [])

@@ -55,9 +55,10 @@ module _ {A : Type 0} where
 
 pub begins_decides : (front path : List Entry) → Decides (begins front path) (IsFront front path)
 begins_decides front path =
-    let d = lists_decides entry_exact front (take (length front) path) in
-    ((λ h. front_from_take front path (d.0 h)),
-     (λ f. d.1 (sym (ap (take (length front)) f.1 ∙ front_of front f.0))))
+    let d = lists_decides entry_exact front (take (length front) path) in (
+      (λ h. front_from_take front path (d.0 h)),
+      (λ f. d.1 (sym (ap (take (length front)) f.1 ∙ front_of front f.0))),
+    )
 
 -- what it means that a group lies below another
 record LiesBelow (other group : Rec) : Type 0 where
@@ -88,19 +89,20 @@ lies_from_front other group f =
     let long : length bg ≡ length bo = cc in
     let long_imms : length group.imms ≡ length other.imms = cc in
     let one = split_equal bg bo (group.imms ++ hg) ((other.imms ++ ho) ++ f.0) long
-        (tails ∙ append_assoc bo (other.imms ++ ho) f.0) in
+    (tails ∙ append_assoc bo (other.imms ++ ho) f.0) in
     let two = split_equal group.imms other.imms hg (ho ++ f.0) long_imms (one.1 ∙ append_assoc other.imms ho f.0) in
     record { hierarchies = (f.0, two.1); besides = one.0; immediates = two.0 }
 
 front_from_lies : (other group : Rec) → LiesBelow other group → IsFront (trail other) (trail group)
 front_from_lies other group h =
     let bo = rows.beside other in
-    let ho = whole.hierarchy other in
-    (h.hierarchies.0,
-     (λ i. mark (length (h.besides i)) ∷ mark (length (h.immediates i)) ∷ (h.besides i ++ (h.immediates i ++ h.hierarchies.1 i)))
-     ∙ ap (λ es. mark (length bo) ∷ mark (length other.imms) ∷ es)
-       (ap (λ es. bo ++ es) (sym (append_assoc other.imms ho h.hierarchies.0))
-       ∙ sym (append_assoc bo (other.imms ++ ho) h.hierarchies.0)))
+    let ho = whole.hierarchy other in (
+      h.hierarchies.0,
+      (λ i. mark (length (h.besides i)) ∷ mark (length (h.immediates i)) ∷ (h.besides i ++ (h.immediates i ++ h.hierarchies.1 i)))
+          ∙ ap (λ es. mark (length bo) ∷ mark (length other.imms) ∷ es)
+          (ap (λ es. bo ++ es) (sym (append_assoc other.imms ho h.hierarchies.0))
+          ∙ sym (append_assoc bo (other.imms ++ ho) h.hierarchies.0)),
+    )
 
 trail_decides : (other group : Rec) → Decides (begins (trail other) (trail group)) (LiesBelow other group)
 trail_decides other group =

@@ -44,7 +44,7 @@ pub record AreKept (aggs : List Agg) (lists : Lists) (one other third : List Gat
 abbrev pub entry_of_result : Lists → Agg → Option Entry
 entry_of_result lists agg = option_map (λ n. result_entry agg.name (value_of_number n))
     (result_of agg.kernel
-      (contributed agg lists.own) (contributed agg lists.all) (contributed agg lists.below))
+    (contributed agg lists.own) (contributed agg lists.all) (contributed agg lists.below))
 
 abbrev pub entries_of_results : List Agg → Lists → List Entry
 entries_of_results aggs lists = filter_map (entry_of_result lists) aggs

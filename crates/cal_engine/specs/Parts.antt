@@ -1,4 +1,4 @@
--- What is kept of the numbers that contributed to a kernel, so that groups can be added up in parts.
+-- What is kept of the numbers that contributed to a kernel, so that groups can be added up.
 use Rattle.std.specs.Prelude.{ℕ, ◌+◌, ◌*◌, ◌^◌, ◌≤◌, ◌+ℤ◌, unsigned_abs, List, [], ◌∷◌}
 use Rattle.std.specs.Prelude.{length, map, slice_get, drop, Option, None, Some, ⊤}
 use Rattle.std.specs.Int.{int_min, int_max}
@@ -49,7 +49,8 @@ behind (Some one) other = merged_part one other
 -- parts merged place by place
 abbrev pub merged_parts : List Gathered → List Gathered → List Gathered
 merged_parts ones [] = []
-merged_parts ones (other ∷ others) = behind (slice_get ones 0) other ∷ merged_parts (drop 1 ones) others
+merged_parts ones (other ∷ others) =
+    behind (slice_get ones 0) other ∷ merged_parts (drop 1 ones) others
 
 -- what is kept of records, for each kernel of a query
 abbrev pub parts_over : List Agg → List Rec → List Gathered

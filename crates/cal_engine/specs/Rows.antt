@@ -43,7 +43,7 @@ kernel_result names rs group agg = result_of agg.kernel
 abbrev pub results : Query → List Rec → Rec → List Entry
 results q rs group = filter_map
     (λ agg. option_map (λ n. result_entry agg.name (value_of_number n))
-        (kernel_result q.group rs group agg))
+    (kernel_result q.group rs group agg))
     q.aggs
 
 -- the row of a group: its paths, its immediates, and its results

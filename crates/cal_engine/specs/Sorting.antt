@@ -34,7 +34,8 @@ value_named name row = option_map (λ e. e.value) (last_entry name row)
 abbrev pub row_cmp : List OrderKey → Rec → Rec → Ordering
 row_cmp [] row other = Equal
 row_cmp (key ∷ keys) row other = ordering_then
-    (directed key.down (option_cmp value_cmp (value_named key.name row) (value_named key.name other)))
+    (directed key.down
+    (option_cmp value_cmp (value_named key.name row) (value_named key.name other)))
     (row_cmp keys row other)
 
 abbrev pub sorted_rows : List OrderKey → List Rec → List Rec

@@ -1,5 +1,6 @@
 -- What is added up at the nodes of a tree.
-use Rattle.std.specs.Prelude.{◌≡◌, ◌<◌, Bool, ◌&&◌, not, List, [], ◌∷◌, ◌++◌, length, map, slice_index_or}
+use Rattle.std.specs.Prelude.{◌≡◌, ◌<◌, Bool, ◌&&◌, not, List, [], ◌∷◌, ◌++◌, length, map}
+use Rattle.std.specs.Prelude.{slice_index_or}
 use Rattle.std.specs.Prelude.{fold, if◌then◌else◌}
 use Rattle.std.specs.List.{All}
 use Rattle.cal_context.specs.Tree.{Tree, path_at}
@@ -31,8 +32,8 @@ pub record IsAddedAbove (t : Tree) (node : NodeNumber) (parts : List Gathered)
   pub at : (n : NodeNumber) (d : List Gathered) → n.0 < length t.paths
       → slice_index_or new n.0 d
       ≡ (if begins (path_at t n) (path_at t node)
-        then merged_parts (slice_index_or old n.0 d) parts
-        else slice_index_or old n.0 d)
+      then merged_parts (slice_index_or old n.0 d) parts
+      else slice_index_or old n.0 d)
 
 -- They were added so from a node on up to before another one.
 pub record IsAddedFrom (t : Tree) (from node : NodeNumber) (parts : List Gathered)
@@ -40,8 +41,8 @@ pub record IsAddedFrom (t : Tree) (from node : NodeNumber) (parts : List Gathere
   pub at : (n : NodeNumber) (d : List Gathered) → n.0 < length t.paths
       → slice_index_or new n.0 d
       ≡ (if begins (path_at t n) (path_at t from) && not (begins (path_at t n) (path_at t node))
-        then merged_parts (slice_index_or old n.0 d) parts
-        else slice_index_or old n.0 d)
+      then merged_parts (slice_index_or old n.0 d) parts
+      else slice_index_or old n.0 d)
 
 -- At each node stand the parts of those nodes taken together whose paths it begins.
 pub record AreTotals (t : Tree) (nodes : List NodeNumber) (parts : List (List Gathered))
@@ -50,4 +51,4 @@ pub record AreTotals (t : Tree) (nodes : List NodeNumber) (parts : List (List Ga
   pub at : (n : NodeNumber) (d : List Gathered) → n.0 < length t.paths
       → slice_index_or totals n.0 d
       ≡ fold merged_parts none
-        (parts_where (λ m. begins (path_at t n) (path_at t m)) nodes parts)
+      (parts_where (λ m. begins (path_at t n) (path_at t m)) nodes parts)

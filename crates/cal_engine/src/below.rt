@@ -1,4 +1,5 @@
-ghost use Rattle.std.specs.Prelude.{◌≡◌, ◌<◌, [], length, fold, map, replicate, slice_index_or, All, IfOk};
+ghost use Rattle.std.specs.Prelude.{◌≡◌, ◌<◌, [], length, fold, map, replicate, slice_index_or};
+ghost use Rattle.std.specs.Prelude.{All, IfOk};
 ghost use Rattle.cal_engine.specs.Finishing.{parts_where};
 ghost use Rattle.cal_engine.specs.Parts.{merged_parts as merged_by_place};
 ghost use Rattle.cal_engine.specs.Rows.{is_below};
@@ -40,7 +41,8 @@ fn totals(
 ) -> Result<Vec<Seq<Part>>, OutOfMemory>
     requires within { All (λ n. n.0 < length context.now.paths) nodes.now }
     requires alike { length parts.now ≡ length nodes.now }
-    ensures { IfOk result (λ totals. AreTotals context.now nodes.now parts.now none.now totals.items) }
+    ensures { IfOk result (λ totals.
+        AreTotals context.now nodes.now parts.now none.now totals.items) }
 {
     let mut totals = copies(alloc, none, context.node_count())?;
     for (number, node) in nodes.iter().enumerate() {

@@ -1,6 +1,7 @@
 ghost use Rattle.std.specs.Prelude.{◌≡◌, ◌++◌, map, IfOk, OnOk};
 ghost use Rattle.std.specs.List.{flat_map, list_any};
-ghost use Rattle.cal_rowset.specs.Hierarchy.{hierarchy, is_of_hierarchy as is_nested, other_entries};
+ghost use Rattle.cal_rowset.specs.Hierarchy.{hierarchy, is_of_hierarchy as is_nested};
+ghost use Rattle.cal_rowset.specs.Hierarchy.{other_entries};
 ghost use Rattle.cal_engine.specs.Answers.{columns_of as columns_by, path_first, plain_column};
 ghost use Rattle.cal_engine.specs.Answers.{shown_names};
 ghost use Rattle.cal_engine.specs.Groups.{has_entries};
@@ -55,11 +56,7 @@ fn group_columns(alloc: Global, names: &[Text], aggs: &[Agg]) -> Result<Seq<Colu
     Ok(Seq::from_vec(columns))
 }
 
-fn add_columns(
-    alloc: Global,
-    columns: &mut Vec<Column>,
-    names: &[Text],
-) -> Result<(), OutOfMemory>
+fn add_columns(alloc: Global, columns: &mut Vec<Column>, names: &[Text]) -> Result<(), OutOfMemory>
     ensures { OnOk result (columns.new.items ≡ columns.old.items ++ map plain_column names.now) }
 {
     for name in names {
@@ -144,7 +141,8 @@ fn learn_entries(
     in_path: bool,
     entries: &[Entry],
 ) -> Result<(), OutOfMemory>
-    ensures { OnOk result (names.new.keys ≡ learned names.old.keys (names_beside in_path entries.now)) }
+    ensures { OnOk result
+        (names.new.keys ≡ learned names.old.keys (names_beside in_path entries.now)) }
 {
     for entry in entries {
         if !(in_path && is_of_hierarchy(&entry.attr)) {

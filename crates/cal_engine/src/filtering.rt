@@ -1,4 +1,4 @@
-ghost use Rattle.std.specs.Prelude.{◌≡◌, IfOk};
+ghost use Rattle.std.specs.Prelude.{◌≡◌, ◌==◌, ◌&&◌, length, IfOk};
 ghost use Rattle.cal_filter.specs.Kept.{kept};
 ghost use Rattle.cal_ql.specs.Valid.{IsValidQuery};
 
@@ -9,12 +9,11 @@ use cal_value::{OutOfMemory, Rec};
 use std::alloc::Global;
 
 /// What LET and WHERE make of a record; without them it is the record itself.
-#[tactic(auto, using(crate::proofs::Folds::kept_plain))]
 pub(crate) fn made(alloc: Global, query: &Query, rec: Rec) -> Result<Option<Rec>, OutOfMemory>
     requires { IsValidQuery query.now }
     ensures { IfOk result (λ made. made ≡ kept query.now rec) }
 {
-    if query.lets.is_empty() && query.conds.is_empty() {
+    if is_plain(query) {
         return Ok(Some(rec));
     }
     if !has_small_numbers(&rec) {
@@ -22,4 +21,11 @@ pub(crate) fn made(alloc: Global, query: &Query, rec: Rec) -> Result<Option<Rec>
     }
     let made = apply(alloc, query, rec)?;
     Ok(made)
+}
+
+/// A query without LET and WHERE.
+fn is_plain(query: &Query) -> bool
+    ensures { result ≡ (length query.now.lets == 0 && length query.now.conds == 0) }
+{
+    query.lets.is_empty() && query.conds.is_empty()
 }

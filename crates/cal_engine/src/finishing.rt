@@ -53,7 +53,7 @@ fn result_at(
         → option_copied own.entry ≡ Some (part_over agg.now.kernel (contributed agg.now lists.own))
         → option_copied all.entry ≡ Some (part_over agg.now.kernel (contributed agg.now lists.all))
         → option_copied below.entry
-          ≡ Some (part_over agg.now.kernel (contributed agg.now lists.below))
+        ≡ Some (part_over agg.now.kernel (contributed agg.now lists.below))
         → entry ≡ entry_of_result lists agg.now) }
 {
     match value_at(agg.kernel, own, all, below) {

@@ -1,6 +1,7 @@
 ghost use Rattle.std.specs.Prelude.{◌≡◌, not, filter, codes, IfOk, true, false};
 ghost use Rattle.cal_value.specs.Flat.{joined};
-ghost use Rattle.cal_engine.specs.Groups.{group_of as group_by, has_entries, taken, takes as name_takes};
+ghost use Rattle.cal_engine.specs.Groups.{group_of as group_by, has_entries, taken};
+ghost use Rattle.cal_engine.specs.Groups.{takes as name_takes};
 
 use cal_rowset::is_of_hierarchy;
 use cal_value::{Entry, OutOfMemory, Rec, Seq, Text};
@@ -45,7 +46,8 @@ fn taken_paths(
     names: &[Text],
     entries: Vec<Entry>,
 ) -> Result<Seq<Seq<Entry>>, OutOfMemory>
-    ensures { IfOk result (λ paths. paths ≡ filter has_entries (taken true names.now entries.items)) }
+    ensures { IfOk result (λ paths. paths
+        ≡ filter has_entries (taken true names.now entries.items)) }
 {
     let mut paths = Vec::new(alloc);
     let mut left = entries;
@@ -60,11 +62,7 @@ fn taken_paths(
 }
 
 /// What each name takes of immediates.
-fn taken_imms(
-    alloc: Global,
-    names: &[Text],
-    entries: Vec<Entry>,
-) -> Result<Seq<Entry>, OutOfMemory>
+fn taken_imms(alloc: Global, names: &[Text], entries: Vec<Entry>) -> Result<Seq<Entry>, OutOfMemory>
     ensures { IfOk result (λ imms. imms ≡ joined (taken false names.now entries.items)) }
 {
     let mut imms = Vec::new(alloc);
@@ -90,7 +88,8 @@ fn pick(
     name: &Text,
     entries: Vec<Entry>,
 ) -> Result<Picked, OutOfMemory>
-    ensures took { IfOk result (λ s. s.took.items ≡ filter (name_takes in_path name.now) entries.items) }
+    ensures took { IfOk result (λ s. s.took.items
+        ≡ filter (name_takes in_path name.now) entries.items) }
     ensures rest { IfOk result (λ s. s.rest.items
         ≡ filter (λ e. not (name_takes in_path name.now e)) entries.items) }
 {

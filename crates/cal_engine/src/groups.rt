@@ -45,14 +45,9 @@ impl Groups {
         }
     }
 
-    #[tactic(auto, using(crate::proofs::Places::number_within, crate::proofs::Places::truncated, crate::proofs::Gathering::put_long))]
+    #[tactic(auto, using(crate::proofs::Gathering::of_gathering))]
     /// Puts what is kept of some records to their group, behind what is there.
-    pub fn gather(
-        &mut self,
-        alloc: Global,
-        key: Rec,
-        fresh: Seq<Part>,
-    ) -> Result<(), OutOfMemory>
+    pub fn gather(&mut self, alloc: Global, key: Rec, fresh: Seq<Part>) -> Result<(), OutOfMemory>
         ensures ok { OnOk result (Gathers self.old key fresh self.new) }
         ensures err { OnErr result (self.new ≡ self.old) }
     {
@@ -122,11 +117,7 @@ impl Groups {
 }
 
 /// Parts taken together.
-fn total(
-    alloc: Global,
-    parts: &[Seq<Part>],
-    none: &Seq<Part>,
-) -> Result<Seq<Part>, OutOfMemory>
+fn total(alloc: Global, parts: &[Seq<Part>], none: &Seq<Part>) -> Result<Seq<Part>, OutOfMemory>
     ensures { IfOk result (λ total. total ≡ fold merged_by_place none.now parts.now) }
 {
     let mut total = none.copy(alloc)?;
@@ -137,7 +128,7 @@ fn total(
 }
 
 /// Puts parts behind those of a number, or at the end.
-#[tactic(auto, using(crate::proofs::Gathering::put_parts_set, crate::proofs::Gathering::put_parts_end))]
+#[tactic(auto, using(crate::proofs::Gathering::of_putting))]
 fn put(
     alloc: Global,
     parts: &mut Vec<Seq<Part>>,

@@ -3,7 +3,8 @@ ghost use Rattle.cal_agg.specs.declared.num.Num.{Num as Number};
 ghost use Rattle.cal_agg.specs.declared.num.Num.TheVariants.{Whole};
 ghost use Rattle.cal_agg.specs.Numbers.{some_fixed, IsSmall};
 ghost use Rattle.cal_agg.specs.Parts.{greatest_over, least_over, sum_over};
-ghost use Rattle.cal_agg.specs.Results.{average_of, count_of, greatest_of, least_of, percent_total_of, sum_of};
+ghost use Rattle.cal_agg.specs.Results.{average_of, count_of, greatest_of, least_of};
+ghost use Rattle.cal_agg.specs.Results.{percent_total_of, sum_of};
 ghost use Rattle.cal_engine.specs.Finishing.{ArePartsOf};
 ghost use Rattle.cal_engine.specs.Kernels.{result_of};
 ghost use Rattle.cal_engine.specs.declared.part.Held.TheVariants as held;
@@ -91,8 +92,8 @@ impl Part {
 
     /// A sum of weights.
     fn count(&self) -> Num
-        ensures { (ns : List Number) → some_fixed ns ≡ false → self.now.held ≡ held.Sum (sum_over ns)
-            → result ≡ Whole (count_of ns) }
+        ensures { (ns : List Number) → some_fixed ns ≡ false
+            → self.now.held ≡ held.Sum (sum_over ns) → result ≡ Whole (count_of ns) }
     {
         self.sum_value().unwrap_or(Num::Whole(0))
     }
@@ -107,7 +108,8 @@ impl Part {
     }
 
     fn least_value(&self) -> Option<Num>
-        ensures { (ns : List Number) → self.now.held ≡ held.Least (least_over ns) → result ≡ least_of ns }
+        ensures { (ns : List Number) → self.now.held ≡ held.Least (least_over ns)
+            → result ≡ least_of ns }
     {
         match &self.held {
             Held::Least(end) => end.value(),
@@ -126,8 +128,8 @@ impl Part {
     }
 
     fn average_value(&self) -> Option<Num>
-        ensures { (ns : List Number) → self.now.held ≡ held.Sum (sum_over ns) → self.now.many ≡ length ns
-            → result ≡ average_of ns }
+        ensures { (ns : List Number) → self.now.held ≡ held.Sum (sum_over ns)
+            → self.now.many ≡ length ns → result ≡ average_of ns }
     {
         match &self.held {
             Held::Sum(sum) => average(sum, u64::from(self.many)),

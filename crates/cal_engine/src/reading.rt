@@ -79,7 +79,8 @@ pub(crate) fn readings_of(alloc: Global, aggs: &[Agg]) -> Result<Vec<Reading>, O
 
 /// What stands before A in the other name that contributes to a kernel.
 fn prefix_of(kernel: KernelName) -> Option<&'static str>
-    ensures { (attr : List ℕ) → contributing kernel attr ≡ attr ∷ option_to_list (option_map (λ prefix. prefix.now ++ attr) result) }
+    ensures { (attr : List ℕ) → contributing kernel attr
+        ≡ attr ∷ option_to_list (option_map (λ prefix. prefix.now ++ attr) result) }
 {
     match kernel {
         KernelName::Avg => None,
@@ -90,7 +91,8 @@ fn prefix_of(kernel: KernelName) -> Option<&'static str>
 }
 
 fn last_numbers(alloc: Global, names: &Seq<Text>, rec: &Rec) -> Result<Vec<Num>, OutOfMemory>
-    ensures { IfOk result (λ numbers. numbers.items ≡ filter_map (λ name. last_number_of name rec.now) names.now) }
+    ensures { IfOk result (λ numbers. numbers.items
+        ≡ filter_map (λ name. last_number_of name rec.now) names.now) }
 {
     let mut numbers = Vec::with_capacity(alloc, names.len())?;
     for name in names.as_slice() {

@@ -3,7 +3,8 @@ ghost use Rattle.std.specs.List.{last_or};
 ghost use Rattle.std.specs.Option.{option_cmp, option_copied};
 ghost use Rattle.cal_value.specs.Order.{value_cmp};
 ghost use Rattle.cal_engine.specs.Ranks.{rank, ranked_cmp, value_in, values_of};
-ghost use Rattle.cal_engine.specs.Sorting.{directed as directed_by, sorted_rows as sorted_by, value_named};
+ghost use Rattle.cal_engine.specs.Sorting.{directed as directed_by, sorted_rows as sorted_by};
+ghost use Rattle.cal_engine.specs.Sorting.{value_named};
 
 use crate::reading::is_named;
 use cal_ql::OrderKey;
@@ -90,7 +91,8 @@ fn last_among<'a>(
     entries: &'a [Entry],
     before: Option<&'a Variant>,
 ) -> Option<&'a Variant>
-    ensures { option_copied result ≡ last_or (option_copied before.entry) (values_of name.now entries.now) }
+    ensures { option_copied result
+        ≡ last_or (option_copied before.entry) (values_of name.now entries.now) }
 {
     let mut last = before;
     for entry in entries {

@@ -2,7 +2,8 @@ ghost use Rattle.std.specs.Prelude.{◌≡◌, ◌<◌, [], ◌∷◌, ◌++◌,
 ghost use Rattle.cal_context.specs.Tree.{Grows};
 ghost use Rattle.cal_value.specs.Flat.{joined};
 ghost use Rattle.cal_engine.specs.Totals.{AreWays, IsStep, Leads};
-ghost use Rattle.cal_engine.specs.Trails.{is_chosen as is_chosen_so, mark as mark_of, trail as trail_of};
+ghost use Rattle.cal_engine.specs.Trails.{is_chosen as is_chosen_so, mark as mark_of};
+ghost use Rattle.cal_engine.specs.Trails.{trail as trail_of};
 
 use cal_context::{Context, NodeNumber};
 use cal_rowset::is_of_hierarchy;

@@ -16,18 +16,18 @@ loop-name-preserved c =
     let before = ap (λ ts. c.loop-name.paths.items ++ filter has_entries ts) (sym next) ∙ c.loop-name.invariant in
     rw rest
     (elim c.if-not-is_empty.branch [
-      then-not-is_empty+in_ok-push w ↦
-        paths_then c.loop-name.paths.items c.if-not-is_empty.paths.items (filter (takes true c.name-item.result) left)
-        (taken true (drop (n + 1) names) (filter (λ e. not (takes true c.name-item.result e)) left))
-        (filter has_entries (taken true names c.args.entries.items))
-        (grind (arith, common_steps, w.paths-is, w.in_ok-push.ensures.items, w.from_vec.ensures, took))
-        (grind (arith, common_steps, w.if-not-is_empty.true, c.is_empty.ensures, took))
-        before
-    | else-not-is_empty w ↦
-        paths_else c.loop-name.paths.items c.if-not-is_empty.paths.items (filter (takes true c.name-item.result) left)
-        (taken true (drop (n + 1) names) (filter (λ e. not (takes true c.name-item.result e)) left))
-        (filter has_entries (taken true names c.args.entries.items))
-        (ap (λ v. v.items) w.paths-is)
-        (grind (arith, common_steps, w.if-not-is_empty.false, c.is_empty.ensures, took))
-        before
+      | then-not-is_empty+in_ok-push w ↦
+          paths_then c.loop-name.paths.items c.if-not-is_empty.paths.items (filter (takes true c.name-item.result) left)
+          (taken true (drop (n + 1) names) (filter (λ e. not (takes true c.name-item.result e)) left))
+          (filter has_entries (taken true names c.args.entries.items))
+          (grind (arith, common_steps, w.paths-is, w.in_ok-push.ensures.items, w.from_vec.ensures, took))
+          (grind (arith, common_steps, w.if-not-is_empty.true, c.is_empty.ensures, took))
+          before
+      | else-not-is_empty w ↦
+          paths_else c.loop-name.paths.items c.if-not-is_empty.paths.items (filter (takes true c.name-item.result) left)
+          (taken true (drop (n + 1) names) (filter (λ e. not (takes true c.name-item.result e)) left))
+          (filter has_entries (taken true names c.args.entries.items))
+          (ap (λ v. v.items) w.paths-is)
+          (grind (arith, common_steps, w.if-not-is_empty.false, c.is_empty.ensures, took))
+          before
     ])

@@ -15,5 +15,5 @@ loop-place-preserved c =
     ap (λ xs. xs ++ rest) (c.in_ok-push.ensures.items ∙ ap (λ x. c.loop-place.merged.items ++ x ∷ []) is)
     ∙ append_assoc c.loop-place.merged.items _ rest
     ∙ ap (λ xs. c.loop-place.merged.items ++ xs)
-      (sym (merged_next parts fresh n c.part-item.result (omega arith) (c.part-item.is ∙ ap (λ xs. get_or xs n c.part-item.result) same)))
+    (sym (merged_next parts fresh n c.part-item.result (omega arith) (c.part-item.is ∙ ap (λ xs. get_or xs n c.part-item.result) same)))
     ∙ c.loop-place.invariant

@@ -12,6 +12,6 @@ returns-then-is_empty c =
 pub returns : goal.returns
 returns c =
     let same = sorted_by_ranks c.as_slice-order.result.now c.args.rows c.in_ok-ranked.ranked.items _
-        c.in_ok-ranked.ensures c.in_ok-sort_by.ensures.sorted c.sort_by.ensures.stable
-        (λ a r q k. search rules) in
+    c.in_ok-ranked.ensures c.in_ok-sort_by.ensures.sorted c.sort_by.ensures.stable
+    (λ a r q k. search rules) in
     grind (arith, common_steps, same, c.rows_of.ensures, c.as_slice-order.ensures)

@@ -17,7 +17,7 @@ loop-number-preserved c = λ q rs ss is also.
     let within : n < length (groups_of q.group ss) = omega (arith, long, c.loop-number-test.true) in
     let at = c.key-item.is ∙ ap (λ ks. get_or ks n key) keys in
     let read = read_map (λ g. parts_over q.aggs (records_of q.group g ss)) (groups_of q.group ss) n key c.index.result.now within at
-        (c.index.ensures ∙ ap (λ ps. get_or ps n c.index.result.now) parts) in
+    (c.index.ensures ∙ ap (λ ps. get_or ps n c.index.result.now) parts) in
     regrouped_more q ss rs n key c.in_ok-parts.parts c.loop-number.self c.gather.new.self within at
     (c.in_ok-parts.ensures ∙ read) (c.loop-number.invariant q rs ss is also)
     (subst (λ k. Gathers c.loop-number.self k c.in_ok-parts.parts c.gather.new.self) c.in_ok-copy.ensures c.in_ok-gather.ensures.ok)
