@@ -28,7 +28,13 @@ const SUMS: [Case; 4] = [
     ),
 ];
 
-const ENDS: [Case; 2] = [
+const ENDS: [Case; 3] = [
+    // LET first: -10, 4 and 2, and the last record's own 0.5
+    (
+        "let y=scale(x,2) aggregate sum(y) group by z",
+        " sum#y=-3.5;",
+        " z sum#y",
+    ),
     (
         "aggregate min(x),max(x) as top group by z",
         " min#x=-5 top=2;",

@@ -1,5 +1,5 @@
 use cal_engine::answer;
-use cal_ql::{Query, parse_query};
+use cal_ql::parse_query;
 use cal_rowset::Rowset;
 use cal_value::{
     Attribute, Entry, Kind, OutOfMemory, Props, Rec, Records, Seq, Text, Variant, parse_value,
@@ -155,8 +155,4 @@ pub(crate) fn columns_text(alloc: Global, answer: &Rowset) -> Result<Text, OutOf
         out.push_str(column.header.as_str())?;
     }
     Ok(out)
-}
-
-pub(crate) fn parsed(alloc: Global, text: &str) -> Result<Query, Fail> {
-    Ok(parse_query(alloc, text)?)
 }
