@@ -1,17 +1,15 @@
 -- One more record in a fold of groups.
-use Rattle.std.proofs.Common.{◌≡◌, ℕ, zero, suc, ◌<◌, Bool, true, false, ◌||◌, List, [], ◌∷◌, ◌++◌, ◌⊎◌, inl, inr, length, filter, map, slice_get, Some, refl, sym, ap, subst, ◌∙◌, arith, true≢false, append_assoc, Contains}
+use Rattle.std.proofs.Common.{◌≡◌, ℕ, zero, suc, ◌<◌, Bool, true, false, ◌||◌, List, [], ◌∷◌, ◌++◌, inl, inr, length, filter, map, slice_get, Some, refl, sym, ap, subst, ◌∙◌, arith, true≢false, Contains}
 use Rattle.std.specs.Prelude.{slice_set, slice_index_or}
 use Rattle.std.specs.Cmp.{IsEquivalence}
-use Rattle.std.specs.Ordering.{eq_by_cmp}
 use Rattle.std.specs.List.{list_any}
 use Rattle.std.proofs.lemmas.List.{length-map, map-append}
 use Rattle.std.proofs.lemmas.Map.Views.{Contains-from_any}
 use Rattle.std.proofs.lemmas.List.Elements.{filter-append}
 use Rattle.cal_value.specs.ExactOrder.{exact_equiv, exact_tells}
-use Rattle.cal_value.specs.Order.{group_cmp}
 use Rattle.cal_value.specs.OrderLaws.{group_exact}
 use Rattle.cal_value.specs.declared.record.Rec.{Rec}
-use Rattle.cal_context.specs.Lists.{AreApart, Interns}
+use Rattle.cal_context.specs.Lists.{Interns}
 use Rattle.cal_ql.specs.declared.query.Query.{Query}
 use Rattle.cal_engine.specs.FirstSeen.{firsts}
 use Rattle.cal_engine.specs.Groups.{is_group, group_of, groups_of, records_of}

@@ -1,14 +1,12 @@
 -- The rows of the groups of a fold are the rows of the query.
-use Rattle.std.proofs.Common.{◌≡◌, ℕ, zero, suc, ◌+◌, ◌<◌, Bool, true, false, List, [], ◌∷◌, ◌++◌, length, filter, map, fold, take, get_or, refl, sym, ap, ◌∙◌, arith}
-use Rattle.std.specs.List.{flat_map}
+use Rattle.std.proofs.Common.{◌≡◌, ℕ, zero, suc, ◌+◌, ◌<◌, true, List, [], ◌∷◌, ◌++◌, length, filter, map, fold, take, get_or, refl, sym, ap, ◌∙◌, arith}
 use Rattle.std.proofs.lemmas.List.{map-append, take_more}
 use Rattle.cal_ql.specs.declared.query.Agg.{Agg}
 use Rattle.cal_ql.specs.declared.query.Query.{Query}
 use Rattle.cal_value.specs.declared.record.Rec.{Rec}
-use Rattle.cal_engine.specs.FirstSeen.{firsts}
 use Rattle.cal_engine.specs.Finishing.{AreGroupParts, AreKept, GroupLists, entries_of_results, lists_at, parts_where, row_with, rows_by}
 use Rattle.cal_engine.specs.Folding.{Grouped, groups_over}
-use Rattle.cal_engine.specs.Groups.{group_of, groups_of, is_group, records_of}
+use Rattle.cal_engine.specs.Groups.{group_of, groups_of, records_of}
 use Rattle.cal_engine.specs.Parts.{Gathered, merged_parts, parts_over}
 use Rattle.cal_engine.specs.Rows.{is_below, records_below, row_of}
 use Rattle.cal_engine.proofs.Gathering.{group_laws, group_same}

@@ -1,7 +1,7 @@
 -- The last numbers and values of a name, among entries in pieces.
-use Rattle.std.proofs.Common.{◌≡◌, ℕ, ◌+◌, ◌<◌, Bool, true, false, List, [], ◌∷◌, ◌++◌, Option, None, Some, filter, length, map, take, get_or, refl, sym, ap, ◌∙◌, arith}
+use Rattle.std.proofs.Common.{◌≡◌, ℕ, ◌+◌, ◌<◌, Bool, true, false, List, [], ◌∷◌, ◌++◌, Option, None, Some, filter, length, map, take, get_or, refl, sym, ap, ◌∙◌}
 use Rattle.std.specs.List.{cons_option, filter_map, last_or}
-use Rattle.std.proofs.lemmas.Grind.{common_steps, flat_map-append, take_at_read}
+use Rattle.std.proofs.lemmas.Grind.{flat_map-append, take_at_read}
 use Rattle.std.proofs.lemmas.List.{map-append}
 use Rattle.std.proofs.lemmas.List.Elements.{filter-append, filter_map-append}
 use Rattle.cal_agg.specs.declared.num.Num.{Num}

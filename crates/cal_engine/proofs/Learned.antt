@@ -1,12 +1,11 @@
 -- Names learned in turn are those names in first-seen order.
-use Rattle.std.proofs.Common.{◌≡◌, ℕ, Bool, true, false, not, ◌||◌, ◌&&◌, if◌then◌else◌, List, [], ◌∷◌, ◌++◌, codes, filter, fold, map, refl, sym, ap, ◌∙◌, arith, append_assoc, append-nil}
-use Rattle.std.specs.Cmp.{IsEquivalence}
+use Rattle.std.proofs.Common.{◌≡◌, ℕ, Bool, true, false, not, ◌||◌, if◌then◌else◌, List, [], ◌∷◌, ◌++◌, codes, filter, map, refl, sym, ap, ◌∙◌, append_assoc, append-nil}
 use Rattle.std.specs.List.{flat_map, list_any}
 use Rattle.std.specs.Ordering.{eq_by_cmp}
-use Rattle.std.proofs.lemmas.Grind.{common_steps, fold-append}
+use Rattle.std.proofs.lemmas.Grind.{fold-append}
 use Rattle.std.proofs.lemmas.List.{map-append}
 use Rattle.cal_rowset.specs.Hierarchy.{hierarchy, is_of_hierarchy, other_entries}
-use Rattle.cal_rowset.specs.Texts.{first_seen, is_same}
+use Rattle.cal_rowset.specs.Texts.{first_seen}
 use Rattle.cal_value.specs.ExactOrder.{exact_equiv, exact_tells, text_exact}
 use Rattle.cal_value.specs.Flat.{joined}
 use Rattle.cal_value.specs.Texts.{text_cmp}

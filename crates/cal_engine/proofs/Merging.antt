@@ -1,20 +1,17 @@
 -- What is kept of records is merged from what is kept of the parts of their list, in any order.
-use Rattle.std.proofs.Common.{◌≡◌, ℕ, ◌+◌, ◌+ℤ◌, List, [], ◌∷◌, ◌++◌, length, map, refl, sym, ap, ◌∙◌, arith, add_comm, add_assoc}
-use Rattle.std.specs.Int.{int_min, int_max}
-use Rattle.std.specs.List.{flat_map}
+use Rattle.std.proofs.Common.{◌≡◌, List, [], ◌∷◌, ◌++◌, length, refl, sym, ap, ◌∙◌, add_comm}
 use Rattle.std.proofs.lemmas.List.{length-append}
 use Rattle.std.proofs.lemmas.Grind.{flat_map-append}
 use Rattle.cal_agg.specs.declared.num.Num.{Num}
 use Rattle.cal_agg.specs.Parts.{greatest_over, least_over, sum_over}
-use Rattle.cal_agg.specs.Joins.{sum_joins, least_joins, greatest_joins, parts_by-append, merged_comm, merged_assoc}
+use Rattle.cal_agg.specs.Joins.{sum_joins, least_joins, greatest_joins, parts_by-append, merged_comm}
 use Rattle.cal_ql.specs.declared.names.KernelName as kernels
 use Rattle.cal_ql.specs.declared.names.KernelName.TheVariants as kernel
 use Rattle.cal_ql.specs.declared.query.Agg.{Agg}
 use Rattle.cal_value.specs.declared.record.Rec.{Rec}
-use Rattle.cal_engine.specs.declared.part.Held as holds
 use Rattle.cal_engine.specs.declared.part.Held.TheVariants as held
 use Rattle.cal_engine.specs.Kernels.{contributions, contributed}
-use Rattle.cal_engine.specs.Parts.{Gathered, held_over, merged_held, merged_part, merged_parts, part_over, parts_over}
+use Rattle.cal_engine.specs.Parts.{held_over, merged_held, merged_part, merged_parts, part_over, parts_over}
 
 held_over-append : (k : kernels.KernelName) (ns ms : List Num) → held_over k (ns ++ ms) ≡ merged_held (held_over k ns) (held_over k ms)
 held_over-append kernel.Min ns ms = ap held.Least (parts_by-append least_joins ns ms)

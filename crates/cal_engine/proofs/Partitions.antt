@@ -1,10 +1,10 @@
 -- What is kept of the groups of a list, taken together, is what is kept of the list.
-use Rattle.std.proofs.Common.{◌≡◌, ℕ, Bool, true, false, not, ◌&&◌, ◌||◌, List, [], ◌∷◌, ◌++◌, filter, fold, map, refl, sym, ap, ◌∙◌, arith, true≢false, append_assoc}
+use Rattle.std.proofs.Common.{◌≡◌, Bool, true, false, not, ◌&&◌, ◌||◌, List, [], ◌∷◌, ◌++◌, filter, fold, map, refl, sym, ap, ◌∙◌, arith, true≢false, append_assoc}
 use Rattle.std.specs.Cmp.{IsEquivalence}
 use Rattle.std.specs.List.{flat_map, list_any}
 use Rattle.std.proofs.lemmas.Grind.{common_steps}
 use Rattle.cal_engine.specs.FirstSeen.{firsts}
-use Rattle.cal_engine.proofs.Firsts.{without, list_any-without, list_any-firsts}
+use Rattle.cal_engine.proofs.Firsts.{without, list_any-firsts}
 
 module _ {A : Type 0} (eq : A → A → Bool) where
   -- no item is equal to one after it

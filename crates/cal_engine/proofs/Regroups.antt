@@ -1,5 +1,5 @@
 -- The groups of two lists, merged, are the groups of their concatenation.
-use Rattle.std.proofs.Common.{◌≡◌, ℕ, zero, suc, ◌+◌, ◌<◌, Bool, true, false, not, ◌||◌, List, [], ◌∷◌, ◌++◌, ◌⊎◌, inl, inr, if◌then◌else◌, length, filter, fold, map, take, get_or, slice_get, Some, refl, sym, ap, subst, ◌∙◌, arith, true≢false, append_assoc, Contains}
+use Rattle.std.proofs.Common.{◌≡◌, ℕ, zero, suc, ◌+◌, ◌<◌, Bool, true, false, not, ◌||◌, List, [], ◌∷◌, ◌++◌, inl, inr, if◌then◌else◌, length, filter, fold, map, take, get_or, slice_get, Some, refl, sym, ap, subst, ◌∙◌, arith, true≢false, append_assoc, Contains}
 use Rattle.std.specs.Prelude.{slice_set, slice_index_or}
 use Rattle.std.specs.List.{AllByRecursion, flat_map, list_any}
 use Rattle.std.proofs.lemmas.Grind.{flat_map-append, fold-append}
@@ -7,11 +7,10 @@ use Rattle.std.proofs.lemmas.List.{length-map, map-append, take_more}
 use Rattle.std.proofs.lemmas.List.Elements.{filter-append}
 use Rattle.std.proofs.lemmas.Map.Views.{Contains-from_any}
 use Rattle.indexmap.specs.IndexSet.{insert_key}
-use Rattle.cal_context.specs.Lists.{AreApart, Interns}
 use Rattle.cal_ql.specs.declared.query.Query.{Query}
 use Rattle.cal_value.specs.declared.record.Rec.{Rec}
 use Rattle.cal_engine.specs.FirstSeen.{firsts}
-use Rattle.cal_engine.specs.Folding.{Gathers, Grouped, groups_over, put_parts}
+use Rattle.cal_engine.specs.Folding.{Gathers, Grouped, groups_over}
 use Rattle.cal_engine.specs.Groups.{group_of, groups_of, is_group, records_of}
 use Rattle.cal_engine.specs.Parts.{Gathered, merged_parts, parts_over}
 use Rattle.cal_engine.proofs.Firsts.{firsts-Adds, firsts-push, list_any-firsts}

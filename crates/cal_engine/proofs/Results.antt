@@ -1,5 +1,5 @@
 -- What the results of a group are made of.
-use Rattle.std.proofs.Common.{◌≡◌, ℕ, zero, suc, ◌+◌, ◌<◌, Bool, true, false, ◌||◌, List, [], ◌∷◌, ◌++◌, Option, None, Some, if◌then◌else◌, length, map, take, filter, get_or, fold, refl, sym, ap, subst, ◌∙◌, arith, slice_get, append_assoc}
+use Rattle.std.proofs.Common.{◌≡◌, ℕ, zero, suc, ◌+◌, ◌<◌, Bool, true, false, List, [], ◌∷◌, ◌++◌, Option, None, Some, if◌then◌else◌, length, map, take, filter, get_or, refl, sym, ap, ◌∙◌, arith, slice_get, append_assoc}
 use Rattle.std.specs.Prelude.{ℤ, ◌+ℤ◌, codes, option_and_then, option_map, unwrap_or, pos}
 use Rattle.std.specs.List.{cons_option, filter_map, flat_map, last_or}
 use Rattle.std.specs.Option.{option_to_list}
@@ -16,7 +16,7 @@ use Rattle.cal_ql.specs.declared.query.Agg.{Agg}
 use Rattle.cal_value.specs.Flat.{flat}
 use Rattle.cal_value.specs.declared.attribute.Entry.{Entry}
 use Rattle.cal_value.specs.declared.record.Rec.{Rec}
-use Rattle.cal_engine.specs.Finishing.{AreKept, Lists, TakesWhole, entries_of_results, entry_of_result, parts_where}
+use Rattle.cal_engine.specs.Finishing.{Lists, TakesWhole, entries_of_results, entry_of_result, parts_where}
 use Rattle.cal_engine.specs.Kernels.{contributed, contributions, last_whole, number_sought, weight}
 use Rattle.cal_engine.specs.Parts.{Gathered, part_over, parts_over}
 use Rattle.cal_engine.proofs.Drops.{filter_map_more}

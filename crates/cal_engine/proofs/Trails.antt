@@ -1,12 +1,10 @@
 -- A group lies below another where its way begins with the other's.
-use Rattle.std.proofs.Common.{◌≡◌, ℕ, zero, suc, ◌+◌, Bool, true, false, ◌&&◌, ◌||◌, List, [], ◌∷◌, ◌++◌, ◌⊎◌, inl, inr, length, take, refl, sym, ap, subst, ◌∙◌, arith, true≢false, append_assoc, append-nil}
+use Rattle.std.proofs.Common.{◌≡◌, List, [], ◌∷◌, ◌++◌, ◌⊎◌, inl, inr, length, take, refl, sym, ap, ◌∙◌, arith, append_assoc}
 use Rattle.std.specs.Bool.{Decides}
-use Rattle.std.specs.Ordering.{eq_by_cmp}
 use Rattle.std.proofs.lemmas.Bool.Decides.{Decides-and, Decides-like, same_from_decides}
 use Rattle.cal_context.specs.Lists.{IsFront}
 use Rattle.cal_rowset.specs.Hierarchy as whole
 use Rattle.cal_value.specs.ExactOrder.{exact_decides, lists_decides, lists_exact}
-use Rattle.cal_value.specs.Order.{entry_cmp, path_cmp}
 use Rattle.cal_value.specs.OrderLaws.{entry_exact}
 use Rattle.cal_value.specs.declared.attribute.Entry.{Entry}
 use Rattle.cal_value.specs.declared.record.Rec.{Rec}

@@ -1,7 +1,6 @@
 -- Rows beside the values by which they are ordered.
-use Rattle.std.specs.Prelude.{ℕ, List, [], ◌∷◌, Option, None, map, drop, filter, slice_get}
-use Rattle.std.specs.Prelude.{option_and_then, option_map}
-use Rattle.std.specs.List.{last_or}
+use Rattle.std.specs.Prelude.{ℕ, List, [], ◌∷◌, Option, map, drop, filter, slice_get}
+use Rattle.std.specs.Prelude.{option_and_then}
 use Rattle.std.specs.Option.{option_cmp}
 use Rattle.std.specs.Ordering.{ordering_then}
 use Rattle.std.specs.declared.cmp.Ordering.{Ordering}

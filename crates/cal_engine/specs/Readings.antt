@@ -1,6 +1,5 @@
 -- What is read of a record for a kernel.
 use Rattle.std.specs.Prelude.{List, map}
-use Rattle.cal_agg.specs.declared.num.Num.{Num}
 use Rattle.cal_ql.specs.declared.query.Agg.{Agg}
 use Rattle.cal_value.specs.declared.record.Rec.{Rec}
 use Rattle.cal_engine.specs.declared.reading.Reading.{Reading}

@@ -1,5 +1,5 @@
 -- The rows of a query.
-use Rattle.std.specs.Prelude.{ℕ, Bool, ◌||◌, ◌&&◌, not, List, [], ◌∷◌, ◌++◌, ◌==◌, length}
+use Rattle.std.specs.Prelude.{ℕ, Bool, ◌||◌, ◌&&◌, not, List, ◌++◌, ◌==◌, length}
 use Rattle.std.specs.Prelude.{Option, filter, is_some, map, option_map, if◌then◌else◌}
 use Rattle.std.specs.List.{filter_map, starts_with}
 use Rattle.std.specs.Ordering.{eq_by_cmp}

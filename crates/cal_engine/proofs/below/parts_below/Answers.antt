@@ -1,4 +1,4 @@
-use Rattle.std.proofs.Common.{◌≡◌, [], map, get_or, subst, ◌∙◌}
+use Rattle.std.proofs.Common.{[], map, get_or, subst, ◌∙◌}
 use Rattle.cal_engine.specs.Totals.{AreTotals}
 use Rattle.cal_engine.proofs.Totalling.{totals_below}
 use Rattle.cal_engine.proofs.below.parts_below.Goals as goal

@@ -1,4 +1,4 @@
-use Rattle.std.proofs.Common.{◌≡◌, arith, refl}
+use Rattle.std.proofs.Common.{arith}
 use Rattle.cal_engine.proofs.Ascents.{read_same}
 use Rattle.cal_engine.proofs.Totalling.{totals_more}
 use Rattle.cal_engine.proofs.below.totals.Goals as goal

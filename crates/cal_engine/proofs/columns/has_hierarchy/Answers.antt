@@ -1,4 +1,4 @@
-use Rattle.std.proofs.Common.{◌≡◌, ap, ◌∙◌}
+use Rattle.std.proofs.Common.{ap, ◌∙◌}
 use Rattle.std.specs.List.{list_any}
 use Rattle.cal_rowset.specs.Hierarchy.{is_of_hierarchy}
 use Rattle.cal_engine.proofs.Learned.{nested_any}

@@ -1,4 +1,4 @@
-use Rattle.std.proofs.Common.{◌≡◌, [], sym, ap, subst, ◌∙◌}
+use Rattle.std.proofs.Common.{[], sym, ap, subst, ◌∙◌}
 use Rattle.cal_engine.specs.Finishing.{AreGroupParts, rows_by}
 use Rattle.cal_engine.specs.Parts.{parts_over}
 use Rattle.cal_engine.proofs.GroupRows.{query_lists, query_parts, query_rows}

@@ -1,4 +1,4 @@
-use Rattle.std.proofs.Common.{◌≡◌, ◌++◌, false, not, filter, drop, sym, ap, ◌∙◌, arith, ◌+◌}
+use Rattle.std.proofs.Common.{◌++◌, false, not, filter, drop, sym, ap, ◌∙◌, arith, ◌+◌}
 use Rattle.cal_value.specs.Flat.{joined}
 use Rattle.cal_engine.specs.Groups.{taken, takes}
 use Rattle.cal_engine.proofs.Takings.{imms_next, taken_next}

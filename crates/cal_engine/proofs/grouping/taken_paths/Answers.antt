@@ -1,4 +1,4 @@
-use Rattle.std.proofs.Common.{◌≡◌, ◌≢◌, ◌++◌, true, not, filter, drop, length, sym, ap, ◌∙◌, arith, ◌+◌}
+use Rattle.std.proofs.Common.{◌++◌, true, not, filter, drop, sym, ap, ◌∙◌, arith, ◌+◌}
 use Rattle.std.proofs.lemmas.Grind.{common_steps}
 use Rattle.cal_engine.specs.Groups.{has_entries, taken, takes}
 use Rattle.cal_engine.proofs.Takings.{paths_then, paths_else, taken_next}

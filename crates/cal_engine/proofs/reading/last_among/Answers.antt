@@ -1,4 +1,4 @@
-use Rattle.std.proofs.Common.{◌≡◌, sym, ap, ◌∙◌, arith}
+use Rattle.std.proofs.Common.{sym, ap, ◌∙◌, arith}
 use Rattle.cal_engine.specs.Kernels.{or_else}
 use Rattle.cal_engine.proofs.Lasts.{numbers_pass, numbers_take}
 use Rattle.cal_engine.proofs.reading.last_among.Goals as goal

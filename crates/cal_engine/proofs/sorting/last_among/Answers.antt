@@ -1,6 +1,5 @@
-use Rattle.std.proofs.Common.{◌≡◌, sym, ap, ◌∙◌, arith}
+use Rattle.std.proofs.Common.{sym, ap, ◌∙◌, arith}
 use Rattle.std.specs.Option.{option_copied}
-use Rattle.std.proofs.lemmas.Grind.{common_steps}
 use Rattle.cal_filter.specs.Named.{is_named}
 use Rattle.cal_engine.proofs.Lasts.{values_pass, values_take}
 use Rattle.cal_engine.proofs.sorting.last_among.Goals as goal

@@ -1,4 +1,4 @@
-use Rattle.std.proofs.Common.{◌≡◌, List, length, sym, ap, subst, ◌∙◌, arith}
+use Rattle.std.proofs.Common.{List, sym, ap, subst, ◌∙◌, arith}
 use Rattle.std.proofs.lemmas.List.{length-set}
 use Rattle.std.specs.Prelude.{slice_set}
 use Rattle.cal_context.specs.Tree.{path_at}

@@ -1,4 +1,4 @@
-use Rattle.std.proofs.Common.{◌≡◌, sym, ap, subst, ◌∙◌}
+use Rattle.std.proofs.Common.{sym, ap, ◌∙◌}
 use Rattle.std.specs.List.{filter_map}
 use Rattle.cal_filter.specs.Kept.{kept}
 use Rattle.cal_engine.proofs.Folds.{stands_with}

@@ -1,4 +1,4 @@
-use Rattle.std.proofs.Common.{◌≡◌, sym, ap, subst, ◌∙◌}
+use Rattle.std.proofs.Common.{sym, ap, subst, ◌∙◌}
 use Rattle.cal_engine.specs.Folding.{Gathers}
 use Rattle.cal_engine.specs.Readings.{parts_of}
 use Rattle.cal_engine.proofs.Folds.{folded_grouped}

@@ -1,4 +1,4 @@
-use Rattle.std.proofs.Common.{◌≡◌, ap, ◌∙◌, arith, pos}
+use Rattle.std.proofs.Common.{ap, ◌∙◌, arith, pos}
 use Rattle.std.specs.Prelude.{unwrap_or}
 use Rattle.cal_agg.specs.declared.num.Num.TheVariants.{Whole}
 use Rattle.cal_engine.proofs.Results.{count_is}
