@@ -1,0 +1,100 @@
+-- The rows of the groups of a fold are the rows of the query.
+use Rattle.std.proofs.Common.{◌≡◌, ℕ, zero, suc, ◌+◌, ◌<◌, true, List, [], ◌∷◌, ◌++◌, length, filter, map, fold, take, get_or, refl, sym, ap, ◌∙◌, arith}
+use Rattle.std.proofs.lemmas.List.{map-append, take_more}
+use Rattle.cal_ql.specs.declared.query.Agg.{Agg}
+use Rattle.cal_ql.specs.declared.query.Query.{Query}
+use Rattle.cal_value.specs.declared.record.Rec.{Rec}
+use Rattle.cal_engine.specs.Finishing.{AreGroupParts, AreKept, GroupLists, entries_of_results, lists_at, parts_where, row_with, rows_by}
+use Rattle.cal_engine.specs.Folding.{Grouped, groups_over}
+use Rattle.cal_engine.specs.Groups.{group_of, groups_of, records_of}
+use Rattle.cal_engine.specs.Parts.{Gathered, merged_parts, parts_over}
+use Rattle.cal_engine.specs.Rows.{is_below, records_below, row_of}
+use Rattle.cal_engine.proofs.Gathering.{group_laws, group_same}
+use Rattle.cal_engine.proofs.Merging.{parts_over-append, parts_over-swap}
+use Rattle.cal_engine.proofs.Partitions.{IsKept, groups_where}
+use Rattle.cal_engine.proofs.Results.{parts_where-map}
+
+pub read_map : {A B : Type 0} (f : A → B) (xs : List A) (n : ℕ) (x : A) (y : B) → n < length xs → x ≡ get_or xs n x → y ≡ get_or (map f xs) n y → y ≡ f x
+read_map f [] n x y l e g = absurd (omega arith)
+read_map f (z ∷ zs) zero x y l e g = g ∙ ap f (sym e)
+read_map f (z ∷ zs) (suc n) x y l e g = read_map f zs n x y (omega arith) e g
+
+-- what is kept for one group
+pub kept_at : (aggs : List Agg) (g : GroupLists) (keys : List Rec) (parts : List (List Gathered)) (all : List Gathered) (below : List (List Gathered))
+    (n : ℕ) (key : Rec) (own lower : List Gathered)
+    → AreGroupParts aggs g keys parts all below → n < length keys
+    → key ≡ get_or keys n key → own ≡ get_or parts n own → lower ≡ get_or below n lower
+    → AreKept aggs (lists_at g key) own all lower
+kept_at aggs g keys parts all below n key own lower are l e f h = record {
+  own = read_map (λ k. parts_over aggs (g.own k)) keys n key own l e (f ∙ ap (λ ps. get_or ps n own) are.own);
+  all = are.all;
+  below = read_map (λ k. parts_over aggs (g.below k)) keys n key lower l e (h ∙ ap (λ ps. get_or ps n lower) are.below);
+}
+
+-- one row more
+pub rows_more : (aggs : List Agg) (g : GroupLists) (keys : List Rec) (n : ℕ) (key : Rec) (before now : List Rec) (row : Rec)
+    → n < length keys → key ≡ get_or keys n key → before ≡ rows_by aggs g (take n keys)
+    → now ≡ before ++ row ∷ [] → row ≡ row_with key (entries_of_results aggs (lists_at g key))
+    → now ≡ rows_by aggs g (take (n + 1) keys)
+rows_more aggs g keys n key before now row l e is step row_is =
+    let f = λ (k : Rec). row_with k (entries_of_results aggs (lists_at g k)) in
+    step
+    ∙ (λ i. is i ++ row_is i ∷ [])
+    ∙ sym (map-append f (take n keys) (key ∷ []))
+    ∙ ap (map f) (sym (take_more keys n key l ∙ ap (λ k. take n keys ++ k ∷ []) (sym e)))
+
+parts_are_kept : (aggs : List Agg) → IsKept (parts_over aggs) merged_parts
+parts_are_kept aggs = record { merges = parts_over-append aggs; commutes = parts_over-swap aggs }
+
+all_pass : {A : Type 0} (xs : List A) → filter (λ x. true) xs ≡ xs
+all_pass [] = refl
+all_pass (x ∷ xs) = ap (λ ys. x ∷ ys) (all_pass xs)
+
+module _ (q : Query) (rs : List Rec) where
+  -- the lists of records of the query's groups
+  abbrev pub query_lists : GroupLists
+  query_lists = record {
+    own = λ key. records_of q.group key rs;
+    all = rs;
+    below = λ key. records_below q.group key rs;
+  }
+
+  all_groups : fold merged_parts (parts_over q.aggs []) (map (λ key. parts_over q.aggs (records_of q.group key rs)) (groups_of q.group rs)) ≡ parts_over q.aggs rs
+  all_groups =
+      ap (λ gs. fold merged_parts (parts_over q.aggs []) (map (λ key. parts_over q.aggs (records_of q.group key rs)) gs)) (sym (all_pass (groups_of q.group rs)))
+      ∙ groups_where (parts_are_kept q.aggs) group_laws group_same (group_of q.group) (λ key. true) rs
+      ∙ ap (parts_over q.aggs) (all_pass rs)
+
+  groups_below : (key : Rec) (parts : List (List Gathered))
+      → parts ≡ map (λ key. parts_over q.aggs (records_of q.group key rs)) (groups_of q.group rs)
+      → fold merged_parts (parts_over q.aggs []) (parts_where (is_below key) (groups_of q.group rs) parts) ≡ parts_over q.aggs (records_below q.group key rs)
+  groups_below key parts is =
+      ap (λ ps. fold merged_parts (parts_over q.aggs []) (parts_where (is_below key) (groups_of q.group rs) ps)) is
+      ∙ ap (fold merged_parts (parts_over q.aggs [])) (parts_where-map (is_below key) (λ key. parts_over q.aggs (records_of q.group key rs)) (groups_of q.group rs))
+      ∙ groups_where (parts_are_kept q.aggs) group_laws group_same (group_of q.group) (is_below key) rs
+
+  map_alike : {A B : Type 0} (f g : A → B) → ((x : A) → f x ≡ g x) → (xs : List A) → map f xs ≡ map g xs
+  map_alike f g same [] = refl
+  map_alike f g same (x ∷ xs) = λ i. same x i ∷ map_alike f g same xs i
+
+  -- So what a fold of groups comes to is what is kept of these lists.
+  pub query_parts : (groups : Grouped) (none all : List Gathered) (below : List (List Gathered))
+      → groups ≡ groups_over q rs → none ≡ parts_over q.aggs []
+      → all ≡ fold merged_parts none groups.parts
+      → below ≡ map (λ key. fold merged_parts none (parts_where (is_below key) groups.keys groups.parts)) groups.keys
+      → AreGroupParts q.aggs query_lists groups.keys groups.parts all below
+  query_parts groups none all below is none_is all_is below_is =
+      let keys = ap (λ g. g.keys) is in
+      let parts = ap (λ g. g.parts) is in
+      record {
+        own = parts ∙ ap (map (λ key. parts_over q.aggs (records_of q.group key rs))) (sym keys);
+        all = all_is ∙ (λ i. fold merged_parts (none_is i) (parts i)) ∙ all_groups;
+        below =
+            below_is
+            ∙ (λ i. map (λ key. fold merged_parts (none_is i) (parts_where (is_below key) (keys i) groups.parts)) groups.keys)
+            ∙ map_alike (λ key. fold merged_parts (parts_over q.aggs []) (parts_where (is_below key) (groups_of q.group rs) groups.parts)) (λ key. parts_over q.aggs (records_below q.group key rs)) (λ key. groups_below key groups.parts parts) groups.keys;
+      }
+
+  -- and their rows are the query's
+  pub query_rows : (keys rows : List Rec) → keys ≡ groups_of q.group rs → rows ≡ rows_by q.aggs query_lists keys → rows ≡ map (row_of q rs) (groups_of q.group rs)
+  query_rows keys rows is step = step ∙ ap (rows_by q.aggs query_lists) is

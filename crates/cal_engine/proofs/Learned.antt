@@ -1,0 +1,98 @@
+-- Names learned in turn are those names in first-seen order.
+use Rattle.std.proofs.Common.{◌≡◌, ℕ, Bool, true, false, not, ◌||◌, if◌then◌else◌, List, [], ◌∷◌, ◌++◌, codes, filter, map, refl, sym, ap, ◌∙◌, append_assoc, append-nil}
+use Rattle.std.specs.List.{flat_map, list_any}
+use Rattle.std.specs.Ordering.{eq_by_cmp}
+use Rattle.std.proofs.lemmas.Grind.{fold-append}
+use Rattle.std.proofs.lemmas.List.{map-append}
+use Rattle.cal_rowset.specs.Hierarchy.{hierarchy, is_of_hierarchy, other_entries}
+use Rattle.cal_rowset.specs.Texts.{first_seen}
+use Rattle.cal_value.specs.ExactOrder.{exact_equiv, exact_tells, text_exact}
+use Rattle.cal_value.specs.Flat.{joined}
+use Rattle.cal_value.specs.Texts.{text_cmp}
+use Rattle.cal_value.specs.declared.attribute.Entry.{Entry}
+use Rattle.cal_value.specs.declared.record.Rec.{Rec}
+use Rattle.cal_engine.specs.Answers.{path_first, shown_names}
+use Rattle.cal_engine.specs.FirstSeen.{firsts}
+use Rattle.cal_engine.specs.Groups.{has_entries}
+use Rattle.cal_engine.specs.Learning.{learned, learned_one, names_beside}
+use Rattle.cal_engine.proofs.Firsts.{firsts-push, list_any-firsts}
+use Rattle.cal_engine.proofs.Takings.{same_texts}
+
+abbrev same_text : List ℕ → List ℕ → Bool
+same_text = eq_by_cmp text_cmp
+
+-- one more name
+learned_next : (done : List (List ℕ)) (name : List ℕ) → learned_one (firsts same_text done) name ≡ firsts same_text (done ++ name ∷ [])
+learned_next done name =
+    ap (λ b. if b then firsts same_text done else firsts same_text done ++ name ∷ []) (list_any-firsts (exact_equiv text_exact) (exact_tells text_exact) name done)
+    ∙ sym (firsts-push (exact_equiv text_exact) (exact_tells text_exact) done name)
+
+learned_all : (done more : List (List ℕ)) → learned (firsts same_text done) more ≡ firsts same_text (done ++ more)
+learned_all done [] = ap (firsts same_text) (sym (append-nil done))
+learned_all done (name ∷ names) =
+    ap (λ seen. learned seen names) (learned_next done name)
+    ∙ learned_all (done ++ name ∷ []) names
+    ∙ ap (firsts same_text) (append_assoc done (name ∷ []) names)
+
+first_seen-firsts : (texts : List (List ℕ)) → firsts same_text texts ≡ first_seen texts
+first_seen-firsts [] = refl
+first_seen-firsts (text ∷ texts) =
+    ap (λ seen. text ∷ filter (λ other. not (same_text other text)) seen) (first_seen-firsts texts)
+    ∙ (λ i. text ∷ filter (λ other. not (sym (same_texts other text) i)) (first_seen texts))
+
+pub learned_shown : (rows : List Rec) (first now : List (List ℕ)) → first ≡ path_first rows
+    → now ≡ learned first (flat_map (λ row. map (λ e. e.attr.name) (other_entries row)) rows)
+    → now ≡ shown_names rows
+learned_shown rows first now is step =
+    step
+    ∙ ap (λ f. learned f (flat_map (λ row. map (λ e. e.attr.name) (other_entries row)) rows)) (is ∙ alone (list_any (λ row. has_entries (hierarchy row)) rows))
+    ∙ learned_all (path_first rows) (flat_map (λ row. map (λ e. e.attr.name) (other_entries row)) rows)
+    ∙ first_seen-firsts (path_first rows ++ flat_map (λ row. map (λ e. e.attr.name) (other_entries row)) rows)
+  where
+    alone : (b : Bool) → (if b then codes "path" ∷ [] else []) ≡ firsts same_text (if b then codes "path" ∷ [] else [])
+    alone true = refl
+    alone false = refl
+
+-- the names of a row: those of its paths beside the hierarchy, and of its immediates
+pub learned_row : (names mid now : List (List ℕ)) (row : Rec)
+    → mid ≡ learned names (names_beside true (joined row.paths))
+    → now ≡ learned mid (names_beside false row.imms)
+    → now ≡ learned names (map (λ e. e.attr.name) (other_entries row))
+learned_row names mid now row first step =
+    step
+    ∙ ap (λ m. learned m (names_beside false row.imms)) first
+    ∙ sym (fold-append learned_one names (names_beside true (joined row.paths)) (names_beside false row.imms))
+    ∙ ap (learned names)
+    (ap (λ es. names_beside true (joined row.paths) ++ map (λ e. e.attr.name) es) (all row.imms)
+    ∙ sym (map-append (λ (e : Entry). e.attr.name) (filter (λ e. not (is_of_hierarchy e.attr)) (joined row.paths)) row.imms))
+  where
+    all : (es : List Entry) → filter (λ e. true) es ≡ es
+    all [] = refl
+    all (e ∷ es) = ap (λ fs. e ∷ fs) (all es)
+
+-- a row has a hierarchy where some entry of some path is of it
+list_any-append : (q : Entry → Bool) (es fs : List Entry) → list_any q (es ++ fs) ≡ (list_any q es || list_any q fs)
+list_any-append q [] fs = refl
+list_any-append q (e ∷ es) fs = by (q e) (list_any-append q es fs)
+  where
+    by : (b : Bool) → list_any q (es ++ fs) ≡ (list_any q es || list_any q fs)
+        → (b || list_any q (es ++ fs)) ≡ ((b || list_any q es) || list_any q fs)
+    by true rest = refl
+    by false rest = rest
+
+has_entries-filter : (q : Entry → Bool) (es : List Entry) → list_any q es ≡ has_entries (filter q es)
+has_entries-filter q [] = refl
+has_entries-filter q (e ∷ es) = by (q e) (has_entries-filter q es)
+  where
+    by : (b : Bool) → list_any q es ≡ has_entries (filter q es)
+        → (b || list_any q es) ≡ has_entries (if b then e ∷ filter q es else filter q es)
+    by true rest = refl
+    by false rest = rest
+
+any_joined : (q : Entry → Bool) (paths : List (List Entry)) → list_any (λ path. list_any q path) paths ≡ list_any q (joined paths)
+any_joined q [] = refl
+any_joined q (path ∷ paths) =
+    ap (λ b. list_any q path || b) (any_joined q paths) ∙ sym (list_any-append q path (joined paths))
+
+pub nested_any : (row : Rec) → list_any (λ path. list_any (λ e. is_of_hierarchy e.attr) path) row.paths ≡ has_entries (hierarchy row)
+nested_any row = any_joined (λ e. is_of_hierarchy e.attr) row.paths ∙ has_entries-filter (λ e. is_of_hierarchy e.attr) (joined row.paths)

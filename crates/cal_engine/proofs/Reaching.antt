@@ -1,0 +1,65 @@
+-- The node to which a path leads.
+use Rattle.std.proofs.Common.{◌≡◌, ℕ, ◌+◌, ◌<◌, List, [], ◌∷◌, ◌++◌, length, get_or, map, take, refl, sym, ap, ◌∙◌, arith}
+use Rattle.std.proofs.lemmas.List.{map-append, take_more}
+use Rattle.std.proofs.lemmas.List.Elements.{All-push}
+use Rattle.std.proofs.lemmas.Option.{get_or_from_slice_get, slice_get_within}
+use Rattle.cal_value.specs.declared.attribute.Attribute.{Attribute}
+use Rattle.cal_value.specs.declared.attribute.Entry.{Entry}
+use Rattle.cal_value.specs.declared.record.Rec.{Rec}
+use Rattle.cal_context.specs.Children.{AddsAttribute, AddsChild}
+use Rattle.cal_context.specs.Tree.{Tree, Grows, IsContext, attribute_at, path_at, no_attribute}
+use Rattle.cal_context.specs.declared.numbers.AttributeNumber.{AttributeNumber}
+use Rattle.cal_context.specs.declared.numbers.NodeNumber.{NodeNumber}
+use Rattle.cal_context.proofs.CallerLemmas.{Grows-trans, path_at-Grows, attribute_at-Grows, within_paths}
+use Rattle.cal_context.proofs.ListLemmas.{map-alike}
+use Rattle.cal_engine.specs.Totals.{AreWays, IsStep, Leads}
+use Rattle.cal_engine.specs.Trails.{trail}
+
+-- an attribute that was added is the one at its number
+attribute-is : (old new : Tree) (a : Attribute) (n : AttributeNumber) → AddsAttribute old a new n → (n.0 < length new.attributes) × (attribute_at new n ≡ a)
+attribute-is old new a n adds =
+    (slice_get_within new.attributes n.0 a adds.attributes.number, get_or_from_slice_get new.attributes n.0 a no_attribute adds.attributes.number)
+
+pub attribute-within : (old new : Tree) (a : Attribute) (n : AttributeNumber) → AddsAttribute old a new n → n.0 < length new.attributes
+attribute-within old new a n adds = (attribute-is old new a n adds).0
+
+pub stepped : (old mid new : Tree) (parent : NodeNumber) (e : Entry) (a : AttributeNumber) (n : NodeNumber) → parent.0 < length old.paths → AddsAttribute old e.attr mid a → Grows old mid
+    → AddsChild mid parent a e.value new n → Grows mid new → IsStep old new parent e n
+stepped old mid new parent e a n within attribute first child grows =
+    let is = attribute-is old mid e.attr a attribute in
+    let same : attribute_at new a ≡ e.attr = attribute_at-Grows grows a is.0 ∙ is.1 in
+    let up = path_at-Grows (Grows-trans old mid new first grows) parent within in
+    record {
+      within = child.child.within;
+      path = child.child.path ∙ (λ j. up j ++ record { attr = same j; value = e.value } ∷ []);
+    }
+
+pub leads-none : (t : Tree) → IsContext t → Leads t [] (record { 0 = 0 })
+leads-none t context = record {
+  within = slice_get_within t.paths 0 [] context.root;
+  is = get_or_from_slice_get t.paths 0 [] [] context.root;
+}
+
+pub leads-more : (old new : Tree) (path : List Entry) (i : ℕ) (e : Entry) (up n : NodeNumber) → i < length path → e ≡ get_or path i e → Leads old (take i path) up → IsStep old new up e n
+    → Leads new (take (i + 1) path) n
+leads-more old new path i e up n within is leads step = record {
+  within = step.within;
+  is = step.path ∙ (λ j. leads.is j ++ is j ∷ []) ∙ sym (take_more path i e within);
+}
+
+-- ---- the ways to groups
+
+pub ways-none : (t : Tree) → AreWays t [] []
+ways-none t = record { within = λ k d l. absurd (omega (arith, l)); paths = refl }
+
+pub ways-more : (old new : Tree) (keys : List Rec) (i : ℕ) (key : Rec) (nodes : List NodeNumber) (n : NodeNumber) (way : List Entry) → Grows old new
+    → i < length keys → key ≡ get_or keys i key → AreWays old (take i keys) nodes → way ≡ trail key → Leads new way n
+    → AreWays new (take (i + 1) keys) (nodes ++ n ∷ [])
+ways-more old new keys i key nodes n way grows within is ways way_is leads = record {
+  within = All-push (λ m. m.0 < length new.paths) nodes n (λ k d l. within_paths grows (get_or nodes k d).0 (ways.within k d l)) leads.within;
+  paths =
+      map-append (path_at new) nodes (n ∷ [])
+      ∙ (λ j. map-alike (path_at new) (path_at old) nodes (λ k d l. path_at-Grows grows (get_or nodes k d) (ways.within k d l)) j ++ leads.is j ∷ [])
+      ∙ (λ j. ways.paths j ++ way_is j ∷ [])
+      ∙ sym (ap (map trail) (take_more keys i key within ∙ ap (λ k. take i keys ++ k ∷ []) (sym is)) ∙ map-append trail (take i keys) (key ∷ []));
+}

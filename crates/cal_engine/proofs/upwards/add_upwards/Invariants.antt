@@ -1,0 +1,16 @@
+use Rattle.std.proofs.Common.{◌≡◌, ◌<◌, true, length}
+use Rattle.cal_context.specs.Tree.{path_at}
+use Rattle.cal_engine.specs.Totals.{IsAddedFrom}
+use Rattle.cal_engine.specs.Trails.{begins}
+use Rattle.cal_engine.proofs.upwards.add_upwards.Given as goal
+
+abbrev pub invariant-loop-total : goal.invariant-loop-total
+invariant-loop-total l = record {
+  within : l.at.0 < length l.context.paths;
+  long : length l.totals.items ≡ length l.context.paths;
+  above : begins (path_at l.context l.at) (path_at l.context l.fn.node) ≡ true;
+  added : IsAddedFrom l.context l.fn.node l.at l.parts l.initial.totals.items l.totals.items;
+}
+
+abbrev pub decreases-loop-total : goal.decreases-loop-total
+decreases-loop-total l = l.at.0

@@ -1,0 +1,14 @@
+pub mod FirstSeen
+pub mod Groups
+pub mod Kernels
+pub mod Parts
+pub mod Readings
+pub mod Sorting
+pub mod Ranks
+pub mod Rows
+pub mod Answers
+pub mod Folding
+pub mod Learning
+pub mod Trails
+pub mod Totals
+pub mod Finishing

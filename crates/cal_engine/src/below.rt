@@ -1,0 +1,80 @@
+ghost use Rattle.std.specs.Prelude.{◌≡◌, ◌<◌, [], length, fold, map, replicate, slice_index_or};
+ghost use Rattle.std.specs.Prelude.{All, IfOk};
+ghost use Rattle.cal_engine.specs.Finishing.{parts_where};
+ghost use Rattle.cal_engine.specs.Parts.{merged_parts as merged_by_place};
+ghost use Rattle.cal_engine.specs.Rows.{is_below};
+ghost use Rattle.cal_engine.specs.Totals.{AreTotals};
+
+use crate::part::Part;
+use crate::upwards::add_upwards;
+use crate::ways::ways_to;
+use cal_context::{Context, NodeNumber};
+use cal_value::{OutOfMemory, Rec, Seq, TryCopy};
+use std::alloc::Global;
+
+/// The parts of the groups at or below each group, taken together. Each group's hierarchy is walked
+/// once down and once up, so that no two groups are compared.
+pub(crate) fn parts_below(
+    alloc: Global,
+    keys: &[Rec],
+    parts: &[Seq<Part>],
+    none: &Seq<Part>,
+) -> Result<Vec<Seq<Part>>, OutOfMemory>
+    requires { length parts.now ≡ length keys.now }
+    ensures { IfOk result (λ below. below.items ≡ map (λ key. fold merged_by_place none.now
+        (parts_where (is_below key) keys.now parts.now)) keys.now) }
+{
+    let mut context = Context::new(alloc);
+    let nodes = ways_to(alloc, &mut context, keys)?;
+    let totals = totals(alloc, &context, &nodes, parts, none)?;
+    let below = picked(alloc, &nodes, &totals)?;
+    Ok(below)
+}
+
+/// The parts of the groups below each node, taken together.
+fn totals(
+    alloc: Global,
+    context: &Context,
+    nodes: &[NodeNumber],
+    parts: &[Seq<Part>],
+    none: &Seq<Part>,
+) -> Result<Vec<Seq<Part>>, OutOfMemory>
+    requires within { All (λ n. n.0 < length context.now.paths) nodes.now }
+    requires alike { length parts.now ≡ length nodes.now }
+    ensures { IfOk result (λ totals.
+        AreTotals context.now nodes.now parts.now none.now totals.items) }
+{
+    let mut totals = copies(alloc, none, context.node_count())?;
+    for (number, node) in nodes.iter().enumerate() {
+        add_upwards(alloc, context, *node, &parts[number], &mut totals)?;
+    }
+    Ok(totals)
+}
+
+fn copies(alloc: Global, parts: &Seq<Part>, count: usize) -> Result<Vec<Seq<Part>>, OutOfMemory>
+    ensures { IfOk result (λ copies. copies.items ≡ replicate count parts.now) }
+{
+    let mut copies = Vec::with_capacity(alloc, count)?;
+    for place in 0..count {
+        let _ = place;
+        copies.push(parts.copy(alloc)?)?;
+    }
+    Ok(copies)
+}
+
+/// The totals at nodes.
+fn picked(
+    alloc: Global,
+    nodes: &[NodeNumber],
+    totals: &[Seq<Part>],
+) -> Result<Vec<Seq<Part>>, OutOfMemory>
+    requires { All (λ n. n.0 < length totals.now) nodes.now }
+    ensures { IfOk result (λ picked. picked.items
+        ≡ map (λ n. slice_index_or totals.now n.0 []) nodes.now) }
+{
+    let mut picked = Vec::with_capacity(alloc, nodes.len())?;
+    for node in nodes {
+        picked.push(totals[node.0 as usize].copy(alloc)?)?;
+    }
+    Ok(picked)
+}

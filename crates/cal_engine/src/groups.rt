@@ -1,0 +1,178 @@
+ghost use Rattle.std.specs.Prelude.{◌≡◌, ◌≤◌, ◌++◌, List, fold, length, map, IfOk, OnOk, OnErr};
+ghost use Rattle.cal_ql.specs.declared.query.Query.{Query as AQuery};
+ghost use Rattle.cal_value.specs.declared.record.Rec.{Rec as ARecord};
+ghost use Rattle.cal_engine.specs.Finishing.{parts_where, rows_by, AreGroupParts, GroupLists};
+ghost use Rattle.cal_engine.specs.Rows.{is_below};
+ghost use Rattle.cal_engine.specs.Folding.{groups_over, no_groups, put_parts, Gathers};
+ghost use Rattle.std.specs.Option.{option_copied};
+ghost use Rattle.cal_engine.specs.Parts.{behind, merged_parts as merged_by_place};
+
+use crate::below::parts_below;
+use crate::finishing::rows;
+use crate::part::Part;
+use cal_context::Interner;
+use cal_ql::Agg;
+use cal_value::{OutOfMemory, Rec, Seq, TryCopy};
+use std::alloc::Global;
+use std::marker::Model;
+
+/// Groups by numbers, in first-seen order, and what is kept of the records of each.
+#[derive(Drop)]
+pub(crate) struct Groups {
+    keys: Interner<Rec>,
+    parts: Vec<Seq<Part>>,
+}
+
+impl Model for Groups {
+    ghost use Rattle.std.specs.Prelude.{◌≡◌, length};
+    ghost use Rattle.cal_engine.specs.Folding.{Grouped};
+
+    ghost Value = { Grouped };
+
+    ghost view = { λ s. record { keys = s.keys; parts = s.parts.items } };
+
+    ghost invariant = { λ s. length s.parts.items ≡ length s.keys };
+}
+
+impl Groups {
+    /// No group. It takes no memory.
+    pub fn new(alloc: Global) -> Groups
+        ensures { result ≡ no_groups }
+    {
+        Groups {
+            keys: Interner::new(alloc),
+            parts: Vec::new(alloc),
+        }
+    }
+
+    #[tactic(auto, using(crate::proofs::Gathering::of_gathering))]
+    /// Puts what is kept of some records to their group, behind what is there.
+    pub fn gather(&mut self, alloc: Global, key: Rec, fresh: Seq<Part>) -> Result<(), OutOfMemory>
+        ensures ok { OnOk result (Gathers self.old key fresh self.new) }
+        ensures err { OnErr result (self.new ≡ self.old) }
+    {
+        let count = self.keys.as_slice().len();
+        let number = self.keys.intern(key)? as usize;
+        let put = put(alloc, &mut self.parts, number, fresh);
+        if put.is_err() {
+            self.keys.truncate(count);
+        }
+        put
+    }
+    /// Puts what is kept of the records of other groups behind, in the order of those groups.
+    pub fn gather_all(&mut self, alloc: Global, other: &Groups) -> Result<(), OutOfMemory>
+        ensures { OnOk result ((q : AQuery) (rs ss : List ARecord) → self.old ≡ groups_over q rs
+            → other.now ≡ groups_over q ss → self.new ≡ groups_over q (rs ++ ss)) }
+    {
+        for (number, key) in other.keys.as_slice().iter().enumerate() {
+            let parts = other.parts[number].copy(alloc)?;
+            self.gather(alloc, key.copy(alloc)?, parts)?;
+        }
+        Ok(())
+    }
+
+    /// The groups of two folds, taken together.
+    pub fn merged(alloc: Global, one: &Groups, other: &Groups) -> Result<Groups, OutOfMemory>
+        ensures { IfOk result (λ merged. (q : AQuery) (rs ss : List ARecord)
+            → one.now ≡ groups_over q rs → other.now ≡ groups_over q ss
+            → merged ≡ groups_over q (rs ++ ss)) }
+    {
+        let mut merged = Groups::new(alloc);
+        merged.gather_all(alloc, one)?;
+        merged.gather_all(alloc, other)?;
+        Ok(merged)
+    }
+
+    /// The parts of all groups, taken together.
+    pub fn all(&self, alloc: Global, none: &Seq<Part>) -> Result<Seq<Part>, OutOfMemory>
+        ensures { IfOk result (λ all. all ≡ fold merged_by_place none.now self.now.parts) }
+    {
+        let _ = &self.keys;
+        total(alloc, &self.parts, none)
+    }
+
+    /// The parts of the groups at or below each group, taken together.
+    pub fn below(&self, alloc: Global, none: &Seq<Part>) -> Result<Vec<Seq<Part>>, OutOfMemory>
+        ensures { IfOk result (λ below. below.items ≡ map (λ key. fold merged_by_place none.now
+            (parts_where (is_below key) self.now.keys self.now.parts)) self.now.keys) }
+    {
+        parts_below(alloc, self.keys.as_slice(), &self.parts, none)
+    }
+
+    /// The rows of the groups.
+    pub fn rows(
+        &self,
+        alloc: Global,
+        aggs: &[Agg],
+        all: &Seq<Part>,
+        below: &[Seq<Part>],
+    ) -> Result<Seq<Rec>, OutOfMemory>
+        requires { length below.now ≡ length self.now.keys }
+        ensures { IfOk result (λ rows. (lists : GroupLists)
+            → AreGroupParts aggs.now lists self.now.keys self.now.parts all.now below.now
+            → rows ≡ rows_by aggs.now lists self.now.keys) }
+    {
+        rows(alloc, aggs, self.keys.as_slice(), &self.parts, all, below)
+    }
+}
+
+/// Parts taken together.
+fn total(alloc: Global, parts: &[Seq<Part>], none: &Seq<Part>) -> Result<Seq<Part>, OutOfMemory>
+    ensures { IfOk result (λ total. total ≡ fold merged_by_place none.now parts.now) }
+{
+    let mut total = none.copy(alloc)?;
+    for more in parts {
+        total = merged_parts(alloc, &total, more)?;
+    }
+    Ok(total)
+}
+
+/// Puts parts behind those of a number, or at the end.
+#[tactic(auto, using(crate::proofs::Gathering::of_putting))]
+fn put(
+    alloc: Global,
+    parts: &mut Vec<Seq<Part>>,
+    number: usize,
+    fresh: Seq<Part>,
+) -> Result<(), OutOfMemory>
+    requires { number ≤ length parts.old.items }
+    ensures ok { OnOk result (parts.new.items ≡ put_parts parts.old.items number fresh) }
+    ensures err { OnErr result (parts.new.items ≡ parts.old.items) }
+{
+    if number < parts.len() {
+        let merged = merged_parts(alloc, &parts[number], &fresh)?;
+        parts[number] = merged;
+    } else {
+        parts.push(fresh)?;
+    }
+    Ok(())
+}
+
+/// Parts merged place by place.
+pub(crate) fn merged_parts(
+    alloc: Global,
+    parts: &Seq<Part>,
+    fresh: &Seq<Part>,
+) -> Result<Seq<Part>, OutOfMemory>
+    ensures { IfOk result (λ merged. merged ≡ merged_by_place parts.now fresh.now) }
+{
+    let mut merged = Vec::with_capacity(alloc, fresh.len())?;
+    for (place, part) in fresh.as_slice().iter().enumerate() {
+        merged.push(merged_part(parts.get(place), part)?)?;
+    }
+    Ok(Seq::from_vec(merged))
+}
+
+/// A part behind another, if there is one.
+fn merged_part(part: Option<&Part>, fresh: &Part) -> Result<Part, OutOfMemory>
+    ensures { IfOk result (λ merged. merged ≡ behind (option_copied part.entry) fresh.now) }
+{
+    match part {
+        None => Ok(*fresh),
+        Some(part) => {
+            let mut merged = *part;
+            merged.merge(fresh)?;
+            Ok(merged)
+        }
+    }
+}
