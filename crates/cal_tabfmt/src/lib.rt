@@ -1,9 +1,8 @@
-//! The plain lines of an answer (`expand`), and its table.
+//! The plain lines of an answer (`expand`).
 //!
-//! `expand_text` and `table_text` give exactly the layouts of `specs/`. `ExpandWriter` takes
-//! snapshots over a context, and its text is the plain lines of the records that they mean; it keeps
-//! no record, and a record costs its entries. Nothing is promised of time, nor of a writer that ran
-//! out of memory.
+//! `ExpandWriter` takes snapshots over a context, and its text is the plain lines of the records that
+//! they mean, by `specs/Expand.antt`; it keeps no record, and a record costs its entries. Nothing is
+//! promised of time, nor of a writer that ran out of memory.
 #![tactic(auto)]
 
 mod hierarchy_cell;
