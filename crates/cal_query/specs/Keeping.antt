@@ -18,6 +18,6 @@ pub HasKept-stays : (kept : Kept) (old new : Tree) (rs : List Rec) → HasKept k
 HasKept-stays kept old new rs has grows = record {
   are_in = λ k d l. IsIn-Grows grows (get_or kept.snapshots.items k d) (has.are_in k d l);
   mean =
-  map-alike (meaning new) (meaning old) kept.snapshots.items
-  (λ k d l. meaning-Grows grows (get_or kept.snapshots.items k d) (has.are_in k d l)) ∙ has.mean;
+      map-alike (meaning new) (meaning old) kept.snapshots.items
+      (λ k d l. meaning-Grows grows (get_or kept.snapshots.items k d) (has.are_in k d l)) ∙ has.mean;
 }

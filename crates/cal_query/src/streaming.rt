@@ -47,10 +47,7 @@ impl<T: Taker + Drop> Fed for Streaming<T> {
         if self.fault.is_some() {
             return Ok(());
         }
-        match self
-            .reader
-            .feed(piece, &mut self.context, &mut self.taker)
-        {
+        match self.reader.feed(piece, &mut self.context, &mut self.taker) {
             Ok(()) => Ok(()),
             Err(StreamEnd::BadLine { line, kind }) => {
                 self.fault = Some(BadLine { line, kind });
@@ -62,11 +59,7 @@ impl<T: Taker + Drop> Fed for Streaming<T> {
 }
 
 impl<T: Taker + Drop> Streaming<T> {
-    fn new(
-        alloc: Global,
-        mut context: Context,
-        taker: T,
-    ) -> Result<Streaming<T>, OutOfMemory>
+    fn new(alloc: Global, mut context: Context, taker: T) -> Result<Streaming<T>, OutOfMemory>
         requires { T.has_taken taker context [] }
         ensures ready { IfOk result (λ s. MayBeFed s.fault s) }
         ensures read { IfOk result (λ s. HasStreamed T.has_taken s []) }

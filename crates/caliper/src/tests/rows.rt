@@ -20,11 +20,7 @@ fn written(script: &'static str, text: &'static str) -> Row {
 }
 
 /// A row that writes a text.
-pub fn written_by(
-    words: &'static [&'static str],
-    script: &'static str,
-    text: &'static str,
-) -> Row {
+pub fn written_by(words: &'static [&'static str], script: &'static str, text: &'static str) -> Row {
     Row {
         words,
         script,

@@ -15,13 +15,13 @@ loop-snapshot-init g c =
     search rules in
     let t = c.args.context.now in
     let joined : List Snapshot → List Rec = λ ss.
-        map (with_entries (map (entry_of t) c.args.globals.now)) (map (meaning t) ss) in
+    map (with_entries (map (entry_of t) c.args.globals.now)) (map (meaning t) ss) in
     record {
       are_in = subst (All (IsIn t)) (sym items) c.requires.kept;
       handed = (
         [],
         (λ rs had. subst (λ (xs : List Rec). g.T.Taker.has_taken c.args.taker.now t xs)
-        (sym (append-nil rs)) had),
+            (sym (append-nil rs)) had),
         ap joined items,
       );
     }
@@ -29,7 +29,7 @@ loop-snapshot-init g c =
 pub take-requires : goal.take-requires
 take-requires g c =
     let first : into_iter_items c.loop-snapshot.snapshot-iterator
-        ≡ c.in-Some.snapshot ∷ into_iter_items c.next.new.self = search rules in
+    ≡ c.in-Some.snapshot ∷ into_iter_items c.next.new.self = search rules in
     full_in c.args.context.now _ c.in-Some.snapshot c.args.globals.now refl
     c.in_ok-add_copies.ensures
     (all_first (IsIn c.args.context.now) _ c.in-Some.snapshot _ first
@@ -42,7 +42,7 @@ loop-snapshot-preserved g c =
     let s = c.in-Some.snapshot in
     let full : Snapshot = record { nodes = s.nodes; imms = c.add_copies.new.imms } in
     let first : into_iter_items c.loop-snapshot.snapshot-iterator
-        ≡ s ∷ into_iter_items c.next.new.self = search rules in
+    ≡ s ∷ into_iter_items c.next.new.self = search rules in
     let has = λ (rs : List Rec). g.T.Taker.has_taken c.take.new.self t rs in
     let join : Rec → Rec = with_entries (map (entry_of t) c.args.globals.now) in
     let handed = c.loop-snapshot.invariant.handed in
@@ -57,10 +57,10 @@ loop-snapshot-preserved g c =
       handed = (
         handed.0 ++ join (meaning t s) ∷ [],
         TakesMore-trans (g.T.Taker.has_taken c.args.taker.now t)
-        (g.T.Taker.has_taken c.loop-snapshot.taker t) (g.T.Taker.has_taken c.take.new.self t)
-        handed.0 (join (meaning t s) ∷ []) handed.1
-        (λ rs had. subst (λ (r : Rec). has (rs ++ r ∷ [])) means (c.in_ok-take.ensures rs had)),
+            (g.T.Taker.has_taken c.loop-snapshot.taker t) (g.T.Taker.has_taken c.take.new.self t)
+            handed.0 (join (meaning t s) ∷ []) handed.1
+            (λ rs had. subst (λ (r : Rec). has (rs ++ r ∷ [])) means (c.in_ok-take.ensures rs had)),
         append_assoc handed.0 (join (meaning t s) ∷ [])
-        (map join (map (meaning t) (into_iter_items c.next.new.self))) ∙ whole,
+            (map join (map (meaning t) (into_iter_items c.next.new.self))) ∙ whole,
       );
     }

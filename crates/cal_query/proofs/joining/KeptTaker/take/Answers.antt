@@ -7,10 +7,10 @@ returns c = λ rs has.
     record { nodes = c.in_ok-copy_of.ensures.nodes; imms = c.in_ok-copy_of.ensures.imms } in
     record {
       are_in =
-      all_more c.args.context.now c.args.self.now.snapshots.items c.push.new.self.items
-      c.in_ok-copy_of.field-0 c.args.snapshot.now has.are_in c.in_ok-push.ensures.items copied
-      c.requires;
+          all_more c.args.context.now c.args.self.now.snapshots.items c.push.new.self.items
+          c.in_ok-copy_of.field-0 c.args.snapshot.now has.are_in c.in_ok-push.ensures.items copied
+          c.requires;
       mean =
-      means_more c.args.context.now c.args.self.now.snapshots.items c.push.new.self.items
-      c.in_ok-copy_of.field-0 c.args.snapshot.now rs has.mean c.in_ok-push.ensures.items copied;
+          means_more c.args.context.now c.args.self.now.snapshots.items c.push.new.self.items
+          c.in_ok-copy_of.field-0 c.args.snapshot.now rs has.mean c.in_ok-push.ensures.items copied;
     }
