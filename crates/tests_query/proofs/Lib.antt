@@ -1,2 +1,1 @@
 mod Doubled
-mod Smalls

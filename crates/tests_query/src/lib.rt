@@ -7,6 +7,4 @@
 #[cfg(test)]
 mod calql;
 #[cfg(test)]
-mod filtering;
-#[cfg(test)]
 mod kernels;
