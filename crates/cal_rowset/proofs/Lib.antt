@@ -2,3 +2,4 @@ pub mod Knowing
 pub mod Seen
 pub mod Showing
 pub mod Filling
+pub mod Placing

@@ -4,3 +4,4 @@ pub mod Cells
 pub mod Names
 pub mod Filling
 pub mod Known
+pub mod Showing

@@ -67,7 +67,8 @@ impl Cells {
         requires { place < length self.old.cells.items }
         ensures cells { self.new.cells.items ≡ self.old.cells.items }
         ensures names { self.new.names ≡ self.old.names }
-        ensures used { OnOk result (used self.new ≡ with_use (is_nothing (nth_cell (cells self.old) place).content)
+        ensures used { OnOk result (used self.new
+            ≡ with_use (is_nothing (nth_cell (cells self.old) place).content)
             (used self.old) place) }
     {
         if self.cells[place].is_empty() {

@@ -1,4 +1,5 @@
-ghost use Rattle.std.specs.Prelude.{◌≡◌, [], ◌∷◌, length, slice_get, IfNone, IfOk, IfSome, OnErr, Some};
+ghost use Rattle.std.specs.Prelude.{◌≡◌, [], ◌∷◌, length, slice_get};
+ghost use Rattle.std.specs.Prelude.{IfNone, IfOk, IfSome, OnErr, Some};
 ghost use Rattle.std.specs.List.{Contains};
 ghost use Rattle.cal_context.specs.Lists.{AreApart, Interns};
 ghost use Rattle.cal_rowset.specs.Cells.{is_path};

@@ -1,3 +1,4 @@
 pub mod Links
 pub mod PartLemmas
 pub mod PlaceLemmas
+pub mod LinesMore

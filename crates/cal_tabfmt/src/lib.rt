@@ -1,14 +1,17 @@
 //! The plain lines of an answer (`expand`).
 //!
-//! `ExpandWriter` takes snapshots over a context, and its text is the plain lines of the records that
-//! they mean, by `specs/Expand.antt`; it keeps no record, and a record costs its entries. Nothing is
-//! promised of time, nor of a writer that ran out of memory.
+//! `expand_text` gives exactly the layout of `specs/`. `ExpandWriter` takes snapshots over a context,
+//! and its text is the plain lines of the records that they mean; it keeps no record, and a record
+//! costs its entries. Nothing is promised of time, nor of a writer that ran out of memory.
 #![tactic(auto)]
 
+mod column_lines;
 mod hierarchy_cell;
+mod lines;
 mod part;
 mod path;
 mod snapshot_cells;
 mod writer;
 
+pub use lines::expand_text;
 pub use writer::ExpandWriter;

@@ -1,0 +1,76 @@
+ghost use Rattle.std.specs.Prelude.{◌≡◌, ◌<◌, List, length, slice_get, true, false};
+ghost use Rattle.std.specs.Prelude.{IfOk, IsSomeAnd, MatchOption, OnOk, Some};
+ghost use Rattle.cal_value.specs.declared.attribute.Entry.{Entry};
+ghost use Rattle.cal_value.specs.declared.record.Rec.{Rec};
+ghost use Rattle.cal_context.specs.Lists.{IsFront};
+ghost use Rattle.cal_rowset.specs.Cells.{is_path, shown_values};
+ghost use Rattle.cal_rowset.specs.Filling.{Holds, Shows, names};
+ghost use Rattle.cal_rowset.specs.Showing.{IsFor, IsPlaceOf, ShowsRow, nth_column};
+ghost use Rattle.cal_rowset.specs.declared.rowset.Column.{Column};
+
+use crate::{Cell, Cells, Column, is_path};
+use cal_value::{OutOfMemory, Rec, Text};
+use std::alloc::Global;
+
+/// The cells of a row in the columns of an answer. Filled again, one serves for all rows, and each
+/// takes time in its entries alone. After an `Err` nothing is promised of it.
+#[derive(Drop)]
+pub struct ShownRow {
+    cells: Cells,
+    hierarchy: Cell,
+    // of each column the place of its name, unless it shows the hierarchy
+    places: Vec<Option<usize>>,
+}
+
+impl ShownRow {
+    /// The cells of these columns, without a row.
+    pub fn new(alloc: Global, columns: &[Column]) -> Result<Self, OutOfMemory>
+        ensures { IfOk result (λ shown. IsFor shown columns.now) }
+    {
+        let mut cells = Cells::new(alloc);
+        let mut places = Vec::new(alloc);
+        for column in columns {
+            places.push(place_of(&mut cells, &column.name)?)?;
+        }
+        Ok(ShownRow {
+            cells,
+            hierarchy: Cell::new(alloc),
+            places,
+        })
+    }
+
+    /// Shows a row, in place of the one before.
+    pub fn fill(&mut self, row: &Rec) -> Result<(), OutOfMemory>
+        ensures { OnOk result ((columns : List Column) → IsFor self.old columns
+            → ShowsRow self.new columns row.now) }
+    {
+        self.cells.fill(row)?;
+        self.hierarchy.show_hierarchy(row)
+    }
+
+    /// The cell in a column.
+    pub fn cell(&self, column: usize) -> Option<&Cell>
+        ensures { (columns : List Column) (row : Rec) → ShowsRow self.now columns row
+            → column < length columns
+            → IsSomeAnd result (λ cell. Shows cell.now
+            (shown_values row (nth_column columns column).name)) }
+    {
+        match self.places.as_slice().get(column)? {
+            None => Some(&self.hierarchy),
+            Some(place) => self.cells.cells().get(*place),
+        }
+    }
+}
+
+// the place of a name, unless it is the hierarchy's
+fn place_of(cells: &mut Cells, name: &Text) -> Result<Option<usize>, OutOfMemory>
+    ensures place { IfOk result (λ place. IsPlaceOf (names cells.new) name.now place) }
+    ensures front { OnOk result (IsFront (names cells.old) (names cells.new)) }
+    ensures holds { OnOk result ((entries : List Entry)
+        → Holds cells.old entries → Holds cells.new entries) }
+{
+    if is_path(name) {
+        return Ok(None);
+    }
+    Ok(Some(cells.learn(name)?))
+}
