@@ -12,7 +12,8 @@ use Rattle.cal_value.specs.declared.record.Rec.{Rec}
 use Rattle.cal_value.specs.declared.record.Records.{Records}
 use Rattle.cal_read.specs.Stream.{IsStream, IsStreamOf, Stream}
 use Rattle.cal_tabfmt.specs.Expand.{expand_lines}
-use Rattle.cal_query.specs.Joining.{HasKept, rows_seen, with_entries}
+use Rattle.cal_query.specs.Joining.{rows_seen, with_entries}
+use Rattle.cal_query.specs.Keeping.{HasKept}
 use Rattle.cal_query.specs.Layout.{LaysOut}
 use Rattle.cal_query.specs.Streaming.{HasFinished}
 use Rattle.cal_query.specs.declared.joining.Kept.{Kept}

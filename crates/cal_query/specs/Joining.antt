@@ -1,13 +1,9 @@
 -- The rows that a query sees: those of a stream, or each with the globals joined to it (ours).
-use Rattle.std.specs.Prelude.{◌≡◌, Bool, true, false, List, ◌++◌, map}
-use Rattle.std.specs.List.{All}
+use Rattle.std.specs.Prelude.{Bool, true, false, List, ◌++◌, map}
 use Rattle.cal_value.specs.Flat.{flat}
 use Rattle.cal_value.specs.declared.attribute.Entry.{Entry}
 use Rattle.cal_value.specs.declared.record.Rec.{Rec}
 use Rattle.cal_value.specs.declared.record.Records.{Records}
-use Rattle.cal_context.specs.Snapshots.{IsIn, meaning}
-use Rattle.cal_context.specs.Tree.{Tree}
-use Rattle.cal_query.specs.declared.joining.Kept.{Kept}
 
 -- a row with entries at the end of its immediates
 abbrev pub with_entries : List Entry → Rec → Rec
@@ -18,8 +14,3 @@ with_entries entries row = record { paths = row.paths; imms = row.imms ++ entrie
 abbrev pub rows_seen : Bool → Records → List Rec
 rows_seen false records = records.rows
 rows_seen true records = map (with_entries (flat records.globals)) records.rows
-
--- the snapshots that are kept mean these records
-pub record HasKept (kept : Kept) (t : Tree) (rs : List Rec) : Type 0 where
-  pub are_in : All (IsIn t) kept.snapshots.items
-  pub mean : map (meaning t) kept.snapshots.items ≡ rs

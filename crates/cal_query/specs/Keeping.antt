@@ -1,4 +1,4 @@
--- Snapshots that are kept mean the same records while the context grows.
+-- Snapshots that are kept, and that they mean the same records while the context grows (private).
 use Rattle.std.proofs.Common.{◌≡◌, ◌<◌, List, length, get_or, map, ◌∙◌}
 use Rattle.std.specs.List.{All}
 use Rattle.cal_value.specs.declared.record.Rec.{Rec}
@@ -6,8 +6,12 @@ use Rattle.cal_context.specs.Snapshots.{IsIn, meaning}
 use Rattle.cal_context.specs.Tree.{Tree, Grows}
 use Rattle.cal_context.proofs.CallerLemmas.{IsIn-Grows, meaning-Grows}
 use Rattle.cal_context.proofs.ListLemmas.{map-alike}
-use Rattle.cal_query.specs.Joining.{HasKept}
 use Rattle.cal_query.specs.declared.joining.Kept.{Kept}
+
+-- the snapshots that are kept mean these records
+pub record HasKept (kept : Kept) (t : Tree) (rs : List Rec) : Type 0 where
+  pub are_in : All (IsIn t) kept.snapshots.items
+  pub mean : map (meaning t) kept.snapshots.items ≡ rs
 
 pub HasKept-stays : (kept : Kept) (old new : Tree) (rs : List Rec) → HasKept kept old rs
     → Grows old new → HasKept kept new rs

@@ -4,7 +4,7 @@ ghost use Rattle.cal_value.specs.Flat.{flat};
 ghost use Rattle.cal_context.specs.Snapshots.{IsIn, entry_of, meaning};
 ghost use Rattle.cal_context.specs.Taking.{TakesMore};
 ghost use Rattle.cal_context.specs.Tree.{path_at};
-ghost use Rattle.cal_query.specs.Joining.{HasKept, with_entries};
+ghost use Rattle.cal_query.specs.Joining.{with_entries};
 
 use cal_context::{Context, Immediate, NodeNumber, Snapshot, Taker};
 use cal_value::{OutOfMemory, TryCopy};
@@ -30,8 +30,7 @@ impl Kept {
 }
 
 impl Taker for Kept {
-    ghost use Rattle.cal_query.specs.Joining.{HasKept};
-    ghost use Rattle.cal_query.specs.Keeping.{HasKept-stays};
+    ghost use Rattle.cal_query.specs.Keeping.{HasKept, HasKept-stays};
 
     ghost has_taken = { HasKept };
 
