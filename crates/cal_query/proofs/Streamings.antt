@@ -9,6 +9,7 @@ use Rattle.cal_line.specs.Lines.{lines_of}
 use Rattle.cal_read.specs.Cuts.{ended_lines}
 use Rattle.cal_read.specs.Reading.{Ends, HasRead, IsReady, IsRefusalOf, TakesBytes, TakesEnd, rows_made}
 use Rattle.cal_read.specs.declared.end.StreamEnd.{StreamEnd}
+use Rattle.cal_read.specs.Standing.{TakesUpTo}
 use Rattle.cal_read.specs.Stream.{IsFault, line_step, no_lines}
 use Rattle.cal_query.specs.Ends.{end_of_stream}
 use Rattle.cal_query.specs.Streaming.{FallsAt, Fell, HasFinished, HasStreamed, MayBeFed, StandsAt}
@@ -17,6 +18,12 @@ use Rattle.cal_query.specs.declared.streaming.Finished.{Finished}
 use Rattle.cal_query.specs.declared.streaming.Streaming.{Streaming}
 use Rattle.cal_query.proofs.Falling.{falls_on}
 use Rattle.cal_query.proofs.Stops.{falls_as_read}
+
+-- what had taken the first rows has taken all of them
+takes_up_to : (had has : List Rec → Type 0) (before after : List Rec)
+    → TakesUpTo had has before after → had before → has after
+takes_up_to had has before after takes taken =
+    subst has (sym takes.rows) (takes.taken before taken)
 
 module _ {T : Type 0} (has_taken : T → Tree → List Rec → Type 0) where
   -- behind a fault nothing is looked at
@@ -38,7 +45,7 @@ module _ {T : Type 0} (has_taken : T → Tree → List Rec → Type 0) where
       (bytes ++ piece))
       → StandsAt has_taken fault old front → StandsAt has_taken fault new (front ++ piece)
   stands_on None old new front piece none read taken stands =
-      (read front stands.0, taken front stands.0 [] stands.1)
+      (read front stands.0, takes_up_to _ _ _ _ (taken front stands.0) stands.1)
   stands_on (Some fault) old new front piece none read taken stands = absurd cc
 
   -- a piece more with the first fault
@@ -91,7 +98,7 @@ module _ {T : Type 0} (has_taken : T → Tree → List Rec → Type 0) where
         stream = end.stream;
         is = end.is;
         rows = subst (λ (rows : List Rec). has_taken f.taker f.context rows) (ap rows_made end.is)
-            (taken bytes stands.0 [] stands.1);
+            (takes_up_to _ _ _ _ (taken bytes stands.0) stands.1);
         within = within;
         globals = end.globals_are;
       }

@@ -1,5 +1,5 @@
 -- What a look-up of a name tells.
-use Rattle.std.proofs.Common.{◌≡◌, ℕ, true, false, List, Option, None, Some, IfSome, IfNone, is_some, position, slice_get, ◌∙◌, subst, Contains}
+use Rattle.std.proofs.Common.{◌≡◌, ℕ, zero, suc, Bool, true, false, ◌||◌, refl, sym, arith, List, [], ◌∷◌, Option, None, Some, IfSome, IfNone, is_some, position, slice_get, ◌∙◌, subst, Contains}
 use Rattle.std.specs.List.{list_any}
 use Rattle.std.specs.Ordering.{eq_by_cmp}
 use Rattle.std.proofs.lemmas.Map.Views.{list_any-from_Contains}
@@ -8,6 +8,7 @@ use Rattle.cal_context.specs.Lists.{Interns}
 use Rattle.indexmap.specs.IndexSet.{insert_key}
 use Rattle.cal_value.specs.Texts.{text_cmp}
 use Rattle.cal_rowset.specs.Known.{is_known}
+use Rattle.cal_rowset.specs.Texts.{is_same}
 use Rattle.cal_rowset.proofs.Seen.{is_same-refl, is_same-other}
 use Rattle.cal_value.specs.ExactOrder.{exact_equiv, exact_tells, text_exact}
 
