@@ -17,39 +17,39 @@ use Rattle.caliper.specs.declared.fault.Fault as faults
 use Rattle.caliper.specs.declared.fault.Fault.TheVariants as fault
 use Rattle.caliper.specs.declared.fault.InputKind.{InputKind}
 use Rattle.caliper.specs.declared.fault.InputKind.TheVariants.{Stream}
-use Rattle.caliper.specs.declared.words.Command.{Command}
-use Rattle.caliper.specs.declared.words.Command.TheVariants.{Serial, Query}
+use Rattle.caliper.specs.Tasks.{Task, SerialTask, QueryTask, Refusal, by_word, by_text}
 
 none_and_some : {A : Type 0} (o : Option A) (P : A → Type 0) → IsNone o → IsSomeAnd o P → ⊥
 none_and_some None P none some = some
 none_and_some (Some x) P none some = absurd cc
 
 -- bytes with a text have no first fault
-fault_and_text : (command : Command) (bytes text : List ℕ) (line : ℕ) (kind : InputKind)
-    → IsFaultOf command bytes line kind → IsTextOf command bytes text → ⊥
-fault_and_text Serial bytes text line kind faulty is =
+fault_and_text : (task : Task) (bytes text : List ℕ) (line : ℕ) (kind : InputKind)
+    → IsFaultOf task bytes line kind → IsTextOf task bytes text → ⊥
+fault_and_text SerialTask bytes text line kind faulty is =
     none_and_some _ _ (none_from_fault (lines_of bytes) line faulty.0) is
-fault_and_text (Query join) bytes text line kind faulty is =
+
+fault_and_text (QueryTask query join) bytes text line kind faulty is =
     let falls : after_lines line_step no_lines (lines.lines_of bytes) ≡ Err faulty.0 =
     falls_whole line_step no_lines (lines.lines_of bytes) line faulty.0 faulty.2 in
     let stands = is.stream.stream in
     absurd cc
 
 -- bytes have one first fault
-one_fault : (command : Command) (bytes : List ℕ) (line other : ℕ) (kind others : InputKind)
-    → IsFaultOf command bytes line kind → IsFaultOf command bytes other others → (line ≡ other)
+one_fault : (task : Task) (bytes : List ℕ) (line other : ℕ) (kind others : InputKind)
+    → IsFaultOf task bytes line kind → IsFaultOf task bytes other others → (line ≡ other)
     × (kind ≡ others)
-one_fault Serial bytes line other kind others faulty also =
+one_fault SerialTask bytes line other kind others faulty also =
     (first_fault_one (lines_of bytes) line other faulty.0 also.0, cc (faulty.1, also.1))
-one_fault (Query join) bytes line other kind others faulty also =
+one_fault (QueryTask query join) bytes line other kind others faulty also =
     let one =
     one_first line_step no_lines (lines.lines_of bytes) line other faulty.0 also.0 faulty.2
     also.2 in
     (one.0, faulty.1 ∙ ap Stream one.1 ∙ sym also.1)
 
-module _ (command : Command) (bytes : List ℕ) (output : Change) where
+module _ (task : Task) (bytes : List ℕ) (output : Change) where
   -- too many bytes
-  due_over : input_limit < length bytes → IsDue command bytes output (Some fault.TooLong)
+  due_over : input_limit < length bytes → IsDue task bytes output (Some fault.TooLong)
   due_over over = record {
     too_long = (λ _. over, λ _. refl);
     bad_input = λ line kind. (λ is. absurd cc, λ both. absurd (omega (arith, both.0)));
@@ -58,8 +58,8 @@ module _ (command : Command) (bytes : List ℕ) (output : Change) where
 
   -- a first fault
   due_fault : (line : ℕ) (kind : InputKind) → length bytes ≤ input_limit
-      → IsFaultOf command bytes line kind
-      → IsDue command bytes output (Some (fault.BadInput line kind))
+      → IsFaultOf task bytes line kind
+      → IsDue task bytes output (Some (fault.BadInput line kind))
   due_fault line kind within faulty = record {
     too_long = (λ is. absurd cc, λ over. absurd (omega arith));
     bad_input = λ other others. (
@@ -67,19 +67,19 @@ module _ (command : Command) (bytes : List ℕ) (output : Change) where
           let line_is : line ≡ other = cc in
           let kind_is : kind ≡ others = cc in (within, rw (← line_is, ← kind_is) faulty),
       λ both.
-          let one = one_fault command bytes line other kind others faulty both.1 in
+          let one = one_fault task bytes line other kind others faulty both.1 in
           rw (one.0, one.1) refl,
     );
     written = λ sound. (
       λ is. absurd cc,
-      λ both. absurd (fault_and_text command bytes both.1 line kind faulty both.2),
+      λ both. absurd (fault_and_text task bytes both.1 line kind faulty both.2),
     );
   }
 
   -- a text
   due_text : (answer : Option faults.Fault) (text : List ℕ)
       → (answer ≡ None) ⊎ ((answer ≡ Some fault.WriteFault) × HasFailed output)
-      → length bytes ≤ input_limit → IsTextOf command bytes text → IsDue command bytes output answer
+      → length bytes ≤ input_limit → IsTextOf task bytes text → IsDue task bytes output answer
   due_text answer text which within is = record {
     too_long = (
       λ long. elim which [ inl none ↦ absurd cc | inr failed ↦ absurd (cc failed.0) ],
@@ -87,7 +87,7 @@ module _ (command : Command) (bytes : List ℕ) (output : Change) where
     );
     bad_input = λ line kind. (
       λ bad. elim which [ inl none ↦ absurd cc | inr failed ↦ absurd (cc failed.0) ],
-      λ both. absurd (fault_and_text command bytes text line kind both.1 is),
+      λ both. absurd (fault_and_text task bytes text line kind both.1 is),
     );
     written = λ sound. (
       λ none. (within, text, is),
@@ -111,24 +111,27 @@ of_the_left input P Q reads then =
     subst Q (sym same) (then reads.0 reads.1.within reads.2))
 
 -- what is answered is what the bytes call for
-pub answers_decide : (asked : Result Command ℕ) (input output : Change)
+pub answers_decide : (asked : Result Task Refusal) (input output : Change)
     (answer : Option faults.Fault) → Answers asked input output answer
     → BytesDecide asked input output answer
-answers_decide (Err place) input output answer given = tt
-answers_decide (Ok command) input output None given = λ sound memory.
+answers_decide (Err (by_word place)) input output answer given = tt
+answers_decide (Err (by_text f)) input output answer given = λ memory.
+    elim given [ inl told ↦ told | inr ran ↦ absurd (memory ran) ]
+answers_decide (Ok task) input output None given = λ sound memory.
     of_the_left input _ _ given (λ bytes within written.
-    due_text command bytes output None written.0 (inl refl) within written.1)
-answers_decide (Ok command) input output (Some (fault.Usage word)) given = absurd given
-answers_decide (Ok command) input output (Some (fault.BadInput line kind)) given = λ sound memory.
+    due_text task bytes output None written.0 (inl refl) within written.1)
+answers_decide (Ok task) input output (Some (fault.Usage word)) given = absurd given
+answers_decide (Ok task) input output (Some (fault.BadInput line kind)) given = λ sound memory.
     of_the_left input _ _ given (λ bytes within faulty.
-    due_fault command bytes output line kind within faulty)
-answers_decide (Ok command) input output (Some fault.ReadFault) given =
+    due_fault task bytes output line kind within faulty)
+answers_decide (Ok task) input output (Some (fault.BadQuery place kind)) given = absurd given
+answers_decide (Ok task) input output (Some fault.ReadFault) given =
     λ sound memory. absurd (sound given.0)
-answers_decide (Ok command) input output (Some fault.WriteFault) given = λ sound memory.
+answers_decide (Ok task) input output (Some fault.WriteFault) given = λ sound memory.
     of_the_left input _ _ given.1 (λ bytes within written.
-    due_text command bytes output _ written.0 (inr (refl, given.0)) within written.1)
-answers_decide (Ok command) input output (Some fault.OutOfMemory) given =
+    due_text task bytes output _ written.0 (inr (refl, given.0)) within written.1)
+answers_decide (Ok task) input output (Some fault.OutOfMemory) given =
     λ sound memory. absurd (memory refl)
-answers_decide (Ok command) input output (Some fault.TooLong) given = λ sound memory.
+answers_decide (Ok task) input output (Some fault.TooLong) given = λ sound memory.
     IfSome_then input.old (left_over input_limit input.old input.new given) (λ left over.
-    due_over command left output over)
+    due_over task left output over)

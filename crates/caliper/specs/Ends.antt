@@ -5,7 +5,8 @@ use Rattle.cal_base.specs.Change.{Change, HasFailed}
 use Rattle.cal_base.specs.Told.{Appends, AppendsFront}
 use Rattle.caliper.specs.Causes.{Answers, BytesDecide}
 use Rattle.caliper.specs.Faults.{report_of, status_of}
-use Rattle.caliper.specs.Words.{asked, told_about}
+use Rattle.caliper.specs.Tasks.{tasked}
+use Rattle.caliper.specs.Words.{told_about}
 use Rattle.caliper.specs.declared.fault.Fault as faults
 use Rattle.caliper.specs.declared.fault.Fault.TheVariants.{WriteFault}
 
@@ -31,6 +32,6 @@ pub record Serves (help version : List ℕ) (words : List (String Global)) (stat
   pub shown : IfSome (told_about help version (map string_bytes words)) (λ text.
       Shows text output answer)
   pub ran : IsNone (told_about help version (map string_bytes words))
-      → Answers (asked words) input output answer
+      → Answers (tasked words) input output answer
   pub decided : IsNone (told_about help version (map string_bytes words))
-      → BytesDecide (asked words) input output answer
+      → BytesDecide (tasked words) input output answer

@@ -1,5 +1,6 @@
 -- What a fault is told as (ours).
 use Rattle.std.specs.Prelude.{ℕ, ◌+◌, List, [], ◌++◌, Option, Some, None, codes, decimal}
+use Rattle.cal_ql.specs.Kinds as text
 use Rattle.cal_read.specs.Kinds as stream
 use Rattle.cal_first_form.specs.Kinds as script
 use Rattle.caliper.specs.declared.fault.Fault as faults
@@ -17,6 +18,8 @@ abbrev pub message_of : faults.Fault → List ℕ
 message_of (fault.Usage word) = codes "usage: word " ++ decimal (word + 1)
 message_of (fault.BadInput line kind) =
     codes "line " ++ decimal line ++ codes ": " ++ input_kind_name kind
+message_of (fault.BadQuery place kind) =
+    codes "query: byte " ++ decimal place ++ codes ": " ++ text.kind_name kind
 message_of fault.ReadFault = codes "read failed"
 message_of fault.WriteFault = codes "write failed"
 message_of fault.OutOfMemory = codes "out of memory"
@@ -36,6 +39,7 @@ abbrev pub status_of : Option faults.Fault → ℕ
 status_of None = 0
 status_of (Some (fault.Usage word)) = 2
 status_of (Some (fault.BadInput line kind)) = 3
+status_of (Some (fault.BadQuery place kind)) = 4
 status_of (Some fault.ReadFault) = 5
 status_of (Some fault.WriteFault) = 6
 status_of (Some fault.OutOfMemory) = 7

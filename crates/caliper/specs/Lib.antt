@@ -1,4 +1,5 @@
 pub mod Words
+pub mod Tasks
 pub mod Texts
 pub mod Faults
 pub mod Inputs

@@ -9,9 +9,9 @@ caliper: runs annotation scripts and queries their .cali streams, in whole numbe
 usage: caliper COMMAND < INPUT > OUTPUT
 
     serial      reads a script, and writes the .cali text of its records, the threads one after another
-    query [--globals=off|join]
+    query [--q=TEXT] [--globals=off|join]
                 reads a .cali stream, and writes a line of its entries for each row; with join the
-                globals stand at the end of each
+                globals stand at the end of each. TEXT is a query, as yet only 'format expand'
     --help      this text
     --version   the version, and what it is proved with
 

@@ -2,6 +2,7 @@ ghost use Rattle.std.specs.Prelude.{◌≡◌, Some};
 ghost use Rattle.caliper.specs.Faults.{input_kind_name, status_of};
 
 use cal_first_form::ScriptKind;
+use cal_ql::QueryKind;
 use cal_read::StreamKind;
 
 /// Why a call wrote less than it was asked for.
@@ -12,6 +13,8 @@ pub enum Fault {
     Usage { word: u32 },
     /// The input's first fault. All its lines are counted, from 1.
     BadInput { line: u64, kind: InputKind },
+    /// The first fault of a query's text. The place is its byte, from 0.
+    BadQuery { place: u64, kind: QueryKind },
     ReadFault,
     WriteFault,
     /// The input has more than 268,435,456 bytes.
@@ -46,6 +49,7 @@ impl Fault {
         match self {
             Fault::Usage { .. } => 2,
             Fault::BadInput { .. } => 3,
+            Fault::BadQuery { .. } => 4,
             Fault::ReadFault => 5,
             Fault::WriteFault => 6,
             Fault::OutOfMemory => 7,

@@ -7,6 +7,7 @@
 #![tactic(auto)]
 
 mod about;
+mod asking;
 mod fault;
 mod outcome;
 mod query;

@@ -50,6 +50,12 @@ fn add_message(line: &mut Line, fault: &Fault)
             add(line, ": ");
             add(line, kind.name());
         }
+        Fault::BadQuery { place, kind } => {
+            add(line, "query: byte ");
+            add_number(line, *place);
+            add(line, ": ");
+            add(line, kind.name());
+        }
         Fault::ReadFault => add(line, "read failed"),
         Fault::WriteFault => add(line, "write failed"),
         Fault::OutOfMemory => add(line, "out of memory"),

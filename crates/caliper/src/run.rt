@@ -6,7 +6,7 @@ ghost use Rattle.cal_first_form.specs.Shape.{IsScript};
 ghost use Rattle.caliper.specs.Causes.{Answers, BytesDecide, Causes, ReadsInput};
 ghost use Rattle.caliper.specs.Ends.{Tells};
 ghost use Rattle.caliper.specs.Faults.{report_of, status_of};
-ghost use Rattle.caliper.specs.Words.{asked};
+ghost use Rattle.caliper.specs.Tasks.{SerialTask, tasked};
 
 use crate::outcome::end;
 use crate::query::query;
@@ -20,8 +20,8 @@ pub const INPUT_LIMIT: u64 = 268_435_456;
 
 /// Does what the words ask for. It reads the input to its end, makes the whole text, and only then
 /// writes it on the output; where it does less, the fault says why, and its line is put on
-/// `errors`. What is asked first is refused first: the words, then reading, then the script, then
-/// writing; memory may be refused at any point before the first byte is written. It takes time in
+/// `errors`. What is asked first is refused first: the words, then the text of a query, then reading,
+/// then the script or the stream, then writing; memory may be refused at any point before the first byte is written. It takes time in
 /// the bytes of the script and the text, and in the lengths of the paths of the snapshots.
 pub fn run<S: Source, W: Sink, E: Sink>(
     alloc: Global,
@@ -35,15 +35,15 @@ pub fn run<S: Source, W: Sink, E: Sink>(
         (change_of E.written E.faults errors.old errors.new) }
 
     // The text of the input was written whole, or the fault has its cause.
-    ensures answers { Answers (asked words.now) (change_of S.left S.faults input.old input.new)
+    ensures answers { Answers (tasked words.now) (change_of S.left S.faults input.old input.new)
         (change_of W.written W.faults output.old output.new) result.fault }
 
     // An input that tells its bytes and doesn't fail decides the answer, but for want of memory.
-    ensures decided { BytesDecide (asked words.now) (change_of S.left S.faults input.old input.new)
+    ensures decided { BytesDecide (tasked words.now) (change_of S.left S.faults input.old input.new)
         (change_of W.written W.faults output.old output.new) result.fault }
 
     // What is left as it was.
-    ensures input { IsErr (asked words.now) → input.new ≡ input.old }
+    ensures input { IsErr (tasked words.now) → input.new ≡ input.old }
     ensures output { IfSome result.fault (λ fault.
         fault ≢ Fault.WriteFault → output.new ≡ output.old) }
     ensures errors { IfNone result.fault (errors.new ≡ errors.old) }
@@ -59,21 +59,21 @@ fn carry_out<S: Source, W: Sink>(
     input: &mut S,
     output: &mut W,
 ) -> Option<Fault>
-    ensures answers { Answers (asked words.now) (change_of S.left S.faults input.old input.new)
+    ensures answers { Answers (tasked words.now) (change_of S.left S.faults input.old input.new)
         (change_of W.written W.faults output.old output.new) result }
-    ensures input { IsErr (asked words.now) → input.new ≡ input.old }
+    ensures input { IsErr (tasked words.now) → input.new ≡ input.old }
     ensures output { IfSome result (λ fault. fault ≢ Fault.WriteFault → output.new ≡ output.old) }
 {
     match read_words(words) {
         Ok(Command::Serial) => serial(alloc, input, output).err(),
-        Ok(Command::Query { join }) => query(alloc, join, input, output).err(),
+        Ok(Command::Query { q, join }) => query(alloc, words, q, join, input, output).err(),
         Err(word) => Some(Fault::Usage { word }),
     }
 }
 
 /// Reads a script, and writes the text of its run.
 fn serial<S: Source, W: Sink>(alloc: Global, input: &mut S, output: &mut W) -> Result<(), Fault>
-    ensures answers { Answers (Ok Command.Serial) (change_of S.left S.faults input.old input.new)
+    ensures answers { Answers (Ok SerialTask) (change_of S.left S.faults input.old input.new)
         (change_of W.written W.faults output.old output.new) (result_err result) }
     ensures output { IfErr result (λ fault. fault ≢ Fault.WriteFault → output.new ≡ output.old) }
 {
@@ -94,7 +94,7 @@ fn read_input<S: Source>(alloc: Global, input: &mut S) -> Result<Script, Fault>
     ensures shape { IfOk result (λ script. IsScript script) }
 
     // The cause lies in the input, whatever becomes of the output.
-    ensures caused { IfErr result (λ fault. (output : Change) → Causes Command.Serial
+    ensures caused { IfErr result (λ fault. (output : Change) → Causes SerialTask
         (change_of S.left S.faults input.old input.new) output fault) }
 {
     let bytes = match read_all(alloc, input, INPUT_LIMIT) {

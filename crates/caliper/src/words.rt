@@ -1,42 +1,77 @@
 ghost use Rattle.std.specs.Prelude.{◌≡◌, map, string_bytes};
-ghost use Rattle.caliper.specs.Words.{asked, no_options, query_of, with_word};
+ghost use Rattle.std.specs.Option.{option_copied};
+ghost use Rattle.caliper.specs.Words.{asked, given_once, no_options, q_text, query_of, text_at};
+ghost use Rattle.caliper.specs.Words.{with_join, with_q, with_word};
 
 /// What the program is asked to do.
 #[derive(Clone, Copy, Debug, PartialEq, Eq)]
 pub enum Command {
     /// Runs the threads of a script one after another, and writes the `.cali` text of its records.
     Serial,
-    /// Reads a stream and lays out its rows, with the globals joined to each where that is asked.
-    Query { join: bool },
+    /// Reads a stream and lays out the answer of a query, with the globals joined to each row where
+    /// that is asked. The text of the query stands in the word at the place `q`, if it is there.
+    Query { q: Option<u32>, join: bool },
 }
 
 /// What the options of `query` say so far.
 #[derive(Clone, Copy, Debug)]
 pub struct Options {
+    q: Option<u32>,
     join: Option<bool>,
+}
+
+/// The text of a word `--q=TEXT`.
+fn q_text(word: &str) -> Option<&str>
+    ensures { option_copied result ≡ q_text word.now }
+{
+    word.strip_prefix("--q=")
 }
 
 impl Options {
     fn new() -> Options
         ensures { result ≡ no_options }
     {
-        Options { join: None }
+        Options {
+            q: None,
+            join: None,
+        }
     }
 
-    /// The options with those of one word more, where it is one of `query` and comes once.
-    fn with_word(self, word: &str) -> Option<Options>
-        ensures { result ≡ with_word self word.now }
+    /// The options with those of the word at a place, where it is one of `query` and comes once.
+    fn with_word(self, place: u32, word: &str) -> Option<Options>
+        ensures { result ≡ with_word place self word.now }
     {
-        let join = if word == "--globals=off" {
-            false
-        } else if word == "--globals=join" {
-            true
-        } else {
-            return None;
-        };
+        if q_text(word).is_some() {
+            return self.with_q(place);
+        }
+        match word {
+            "--globals=off" => self.with_join(false),
+            "--globals=join" => self.with_join(true),
+            _ => None,
+        }
+    }
+
+    fn with_q(self, place: u32) -> Option<Options>
+        ensures { result ≡ with_q self (given_once self.q place) }
+    {
+        match self.q {
+            Some(_) => None,
+            None => Some(Options {
+                q: Some(place),
+                join: self.join,
+            }),
+        }
+    }
+
+    fn with_join(self, join: bool) -> Option<Options>
+        ensures { result ≡ with_join self (given_once self.join join) }
+    {
         match self.join {
             Some(_) => None,
-            None => Some(Options { join: Some(join) }),
+            None => Some(Options {
+                q: self.q,
+                join: Some(join),
+            }),
         }
     }
 }
@@ -63,12 +98,27 @@ fn read_query(words: &[String]) -> Result<Command, u32>
 {
     let mut options = Options::new();
     for (index, word) in words.iter().enumerate() {
-        match options.with_word(word.as_str()) {
+        let place = index as u32 + 1;
+        match options.with_word(place, word.as_str()) {
             Some(next) => options = next,
-            None => return Err(index as u32 + 1),
+            None => return Err(place),
         }
     }
     Ok(Command::Query {
+        q: options.q,
         join: options.join.unwrap_or(false),
     })
+}
+
+/// The text of a query whose word has this place; without one it is empty.
+pub fn text_at(words: &[String], q: Option<u32>) -> &str
+    ensures { result.now ≡ text_at words.now q }
+{
+    let Some(place) = q else {
+        return "";
+    };
+    match words.get(place as usize) {
+        Some(word) => q_text(word.as_str()).unwrap_or(""),
+        None => "",
+    }
 }

@@ -87,6 +87,41 @@ fn words_of_query_come_once(rt: HostRuntime) -> Result<(), Fail> {
     assert_rows(&rt, &rows)
 }
 
+#[test]
+fn texts_of_queries_are_read(rt: HostRuntime) -> Result<(), Fail> {
+    let count = &["query", "--q=select count( where x"];
+    let xml = &["query", "--globals=join", "--q=format xml"];
+    let rows = [
+        written_by(&["query", "--q="], TIMES, "function=main,time.duration=0.25\n"),
+        written_by(
+            &["query", "--q=FORMAT \"expand\"", "--globals=join"],
+            TIMES,
+            "function=main/main,time.duration=0.25\n",
+        ),
+        refused(count, "x", "caliper: query: byte 14: ExpectedName\n", 4),
+        refused(xml, "x", "caliper: query: byte 7: UnknownFormat\n", 4),
+        refused(
+            &["query", "--q=group path"],
+            "x",
+            "caliper: query: byte 6: ExpectedBy\n",
+            4,
+        ),
+        refused(
+            &["query", "--globals=off", "--q=select a"],
+            "x",
+            "caliper: usage: word 3\n",
+            2,
+        ),
+        refused(
+            &["query", "--q=", "--q="],
+            "x",
+            "caliper: usage: word 3\n",
+            2,
+        ),
+    ];
+    assert_rows(&rt, &rows)
+}
+
 /// A read that fails behind a faulty line goes before that line's fault.
 #[test]
 fn a_read_that_fails_behind_a_fault_is_told(rt: HostRuntime) -> Result<(), Fail> {

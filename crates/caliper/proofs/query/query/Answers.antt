@@ -1,8 +1,11 @@
+use Rattle.std.proofs.Common.{refl}
 use Rattle.std.proofs.lemmas.Result.{err_from_is_err_and}
+use Rattle.caliper.proofs.Tasks.{text_refused}
 use Rattle.caliper.proofs.query.query.Goals as goal
 
 -- the cause that reading gave
 pub returns-in_err-text-clause-answers : goal.returns-in_err-text-clause-answers
 returns-in_err-text-clause-answers g c =
-    let p = err_from_is_err_and c.from_residual.result c.from_residual.ensures.1 in
-    rw (p.1, p.2) (c.in_err-text.ensures.caused _)
+    let gone = c.from_residual-in_err-text in
+    let p = err_from_is_err_and gone.result gone.ensures.1 in
+    rw (p.1, p.2, c.in_ok-_query.ensures.asked c.args.join) (c.in_err-text.ensures.caused _ _)

@@ -1,0 +1,51 @@
+-- What is answered where the text of a query is refused, or memory runs out while it is read.
+use Rattle.std.proofs.Common.{◌≡◌, ◌⊎◌, ℕ, ◌≤◌, Bool, true, false, List, [], ◌++◌, length, Option, Some, None, Result, Ok, Err, refl, sym, ap, subst, ◌∙◌, arith, inl, inr}
+use Rattle.std.specs.Prelude.{String}
+use Rattle.std.specs.Global.{Global}
+use Rattle.cal_base.specs.Change.{Change}
+use Rattle.cal_base.specs.Told.{Takes, TakesUpTo}
+use Rattle.cal_ql.specs.Clauses.{reading}
+use Rattle.cal_ql.specs.Tokens.{Fault}
+use Rattle.cal_ql.specs.declared.query.Query.{Query}
+use Rattle.caliper.specs.Causes.{Answers, input_limit}
+use Rattle.caliper.specs.Tasks.{Refusal, Task, by_text, is_plain, query_task, task_of}
+use Rattle.caliper.specs.Words.{text_at}
+use Rattle.caliper.specs.declared.fault.Fault as faults
+use Rattle.caliper.specs.declared.fault.Fault.TheVariants as fault
+use Rattle.caliper.specs.declared.words.Command.TheVariants as command
+
+takes_nothing : (told : Option (List ℕ)) → Takes told told []
+takes_nothing None = tt
+takes_nothing (Some left) = refl
+
+-- memory may run out before anything was read
+pub nothing_read : (limit : ℕ) (told : Option (List ℕ)) → TakesUpTo limit told told
+nothing_read limit told = ([], omega arith, takes_nothing told)
+
+module _ (input output : Change) (same : input.new ≡ input.old) where
+  ran_out_if : (q : Option ℕ) (join plain : Bool) (query : Query) → is_plain query ≡ plain
+      → Answers (query_task q join (Ok query)) input output (Some fault.OutOfMemory)
+  ran_out_if q join true query is =
+      rw is (subst (λ (new : Option (List ℕ)). TakesUpTo input_limit input.old new) (sym same)
+      (nothing_read input_limit input.old))
+  ran_out_if q join false query is = rw is (inr refl)
+
+  ran_out : (q : Option ℕ) (join : Bool) (read : Result Query Fault)
+      → Answers (query_task q join read) input output (Some fault.OutOfMemory)
+  ran_out q join (Err found) = inr refl
+  ran_out q join (Ok query) = ran_out_if q join (is_plain query) query refl
+
+  told : (tasked : Result Task Refusal) (f : faults.Fault) → tasked ≡ Err (by_text f)
+      → Answers tasked input output (Some f)
+  told tasked f is = rw is (inl refl)
+
+  -- the text of a query is refused, or memory ran out
+  pub text_refused : (words : List (String Global)) (q : Option ℕ) (join : Bool) (f : faults.Fault)
+      → (f ≡ fault.OutOfMemory)
+      ⊎ ((j : Bool) → task_of words (command.Query q j) ≡ Err (by_text f))
+      → Answers (task_of words (command.Query q join)) input output (Some f)
+  text_refused words q join f (inl memory) =
+      rw memory (ran_out q join (reading (text_at words q)))
+  text_refused words q join f (inr refused) =
+      told (task_of words (command.Query q join)) f (refused join)
+

@@ -1,0 +1,61 @@
+-- What the words ask for, once the text of a query is read.
+use Rattle.std.specs.Prelude.{ℕ, Bool, true, false, List, [], ◌∷◌, Option, None, Some, Result, Ok, Err, String}
+use Rattle.std.specs.Prelude.{unwrap_or, ◌&&◌, if◌then◌else◌}
+use Rattle.std.specs.Global.{Global}
+use Rattle.cal_ql.specs.Clauses.{reading}
+use Rattle.cal_ql.specs.Tokens.{Fault}
+use Rattle.cal_ql.specs.declared.names.Format as formats
+use Rattle.cal_ql.specs.declared.names.Format.TheVariants as format
+use Rattle.cal_ql.specs.declared.query.Query.{Query}
+use Rattle.caliper.specs.Words.{asked, text_at}
+use Rattle.caliper.specs.declared.fault.Fault as faults
+use Rattle.caliper.specs.declared.fault.Fault.TheVariants as fault
+use Rattle.caliper.specs.declared.words.Command as commands
+use Rattle.caliper.specs.declared.words.Command.TheVariants as command
+
+-- what a command does: `query` answers a query, with the globals joined to each row or not
+pub data Task : Type 0 where
+  SerialTask : Task
+  QueryTask : Query → Bool → Task
+
+-- why the words are refused: for the word at a place, or for what the text of a query says
+pub data Refusal : Type 0 where
+  by_word : ℕ → Refusal
+  by_text : faults.Fault → Refusal
+
+abbrev pub is_nil : {X : Type 0} → List X → Bool
+is_nil [] = true
+is_nil (x ∷ xs) = false
+
+abbrev pub is_none : {X : Type 0} → Option X → Bool
+is_none None = true
+is_none (Some x) = false
+
+abbrev pub is_expand : formats.Format → Bool
+is_expand format.Expand = true
+is_expand _ = false
+
+-- a query without clauses but FORMAT expand, which is all that the program answers yet
+abbrev pub is_plain : Query → Bool
+is_plain query =
+    is_nil query.lets && is_none query.select && is_nil query.aggs && is_nil query.conds
+    && is_none query.group && is_nil query.order && is_expand query.format
+
+-- A text that is no query is refused for its first fault, and a query that isn't answered yet at its
+-- word.
+abbrev pub query_task : Option ℕ → Bool → Result Query Fault → Result Task Refusal
+query_task q join (Err found) = Err (by_text (fault.BadQuery found.place found.kind))
+query_task q join (Ok query) =
+    if is_plain query then Ok (QueryTask query join) else Err (by_text (fault.Usage (unwrap_or q 0)))
+
+abbrev pub task_of : List (String Global) → commands.Command → Result Task Refusal
+task_of words command.Serial = Ok SerialTask
+task_of words (command.Query q join) = query_task q join (reading (text_at words q))
+
+abbrev pub task_asked : List (String Global) → Result commands.Command ℕ → Result Task Refusal
+task_asked words (Err place) = Err (by_word place)
+task_asked words (Ok command) = task_of words command
+
+-- what the words behind the program's name ask for, or why they are refused
+abbrev pub tasked : List (String Global) → Result Task Refusal
+tasked words = task_asked words (asked words)
