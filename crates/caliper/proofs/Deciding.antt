@@ -28,7 +28,6 @@ fault_and_text : (task : Task) (bytes text : List ℕ) (line : ℕ) (kind : Inpu
     → IsFaultOf task bytes line kind → IsTextOf task bytes text → ⊥
 fault_and_text SerialTask bytes text line kind faulty is =
     none_and_some _ _ (none_from_fault (lines_of bytes) line faulty.0) is
-
 fault_and_text (QueryTask query join) bytes text line kind faulty is =
     let falls : after_lines line_step no_lines (lines.lines_of bytes) ≡ Err faulty.0 =
     falls_whole line_step no_lines (lines.lines_of bytes) line faulty.0 faulty.2 in

@@ -48,4 +48,3 @@ module _ (input output : Change) (same : input.new ≡ input.old) where
       rw memory (ran_out q join (reading (text_at words q)))
   text_refused words q join f (inr refused) =
       told (task_of words (command.Query q join)) f (refused join)
-

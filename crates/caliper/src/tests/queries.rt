@@ -92,7 +92,11 @@ fn texts_of_queries_are_read(rt: HostRuntime) -> Result<(), Fail> {
     let count = &["query", "--q=select count( where x"];
     let xml = &["query", "--globals=join", "--q=format xml"];
     let rows = [
-        written_by(&["query", "--q="], TIMES, "function=main,time.duration=0.25\n"),
+        written_by(
+            &["query", "--q="],
+            TIMES,
+            "function=main,time.duration=0.25\n",
+        ),
         written_by(
             &["query", "--q=FORMAT \"expand\"", "--globals=join"],
             TIMES,
