@@ -6,8 +6,6 @@
 #![tactic(auto)]
 
 #[cfg(test)]
-mod histories;
-#[cfg(test)]
 mod tables;
 #[cfg(test)]
 mod trees;
