@@ -67,7 +67,7 @@ abbrev pub is_ascii : List ℕ → Bool
 is_ascii [] = true
 is_ascii (b ∷ bytes) = nat_lt b 128 && is_ascii bytes
 
-is_utf8_key : (key : List ℕ) → is_ascii key ≡ true → IsUtf8 key
+pub is_utf8_key : (key : List ℕ) → is_ascii key ≡ true → IsUtf8 key
 is_utf8_key key is = IsUtf8-from_ascii key (ascii key is)
   where
     ascii : (bytes : List ℕ) → is_ascii bytes ≡ true → IsAscii bytes

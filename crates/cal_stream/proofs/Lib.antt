@@ -1,3 +1,12 @@
 mod Texts
 mod Fields
 mod Steps
+mod Knows
+mod Attributes
+mod NewNodes
+mod Needed
+mod Values
+mod NeededLists
+mod Records
+mod Begin
+mod ReadsBack

@@ -3,4 +3,4 @@
 #![tactic(auto)]
 
 mod laws;
-pub use laws::first;
+pub use laws::records_read_back;
