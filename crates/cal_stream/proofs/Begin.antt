@@ -64,7 +64,7 @@ built_in-has n h = subst IsThereAt (node_at_id built_in n [] h)
     (id_in built_in n) (id_within built_in n h))
 
 -- no node has an id from 12 on
-node_at-none : (named : List Named) (id : ℕ) → AllByRecursion (λ n. n.id < 12) named → 12 ≤ id → node_at named id ≡ None
+node_at-none : (named : List Named) (id : ℕ) → AllByRecursion (λ (n : Named). n.id < 12) named → 12 ≤ id → node_at named id ≡ None
 node_at-none [] id small past = refl
 node_at-none (n ∷ named) id small past =
     let first_small : n.id < 12 = small.0 in

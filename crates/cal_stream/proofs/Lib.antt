@@ -5,6 +5,7 @@ mod Knows
 mod Attributes
 mod NewNodes
 mod Needed
+mod Premises
 mod Values
 mod NeededLists
 mod Records

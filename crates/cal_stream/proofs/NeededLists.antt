@@ -2,9 +2,9 @@
 use Rattle.std.proofs.Common.{◌≡◌, ◌+◌, ◌<◌, ◌≤◌, ◌^◌, ◌∙◌, ℕ, Bool, true, false, List, [], ◌∷◌, ◌++◌, length, pos, fold, refl, sym, ap, subst, arith, lit<, lit≤, eqb, if◌then◌else◌}
 use Rattle.std.specs.Prelude.{◌==◌, Some, None, is_some, nat_lt}
 use Rattle.std.specs.List.{AllByRecursion, flat_map}
+use Rattle.std.specs.Str.{IsUtf8}
 use Rattle.std.proofs.lemmas.Bool.Decides.{nat_tests}
 use Rattle.std.proofs.lemmas.List.{length_push}
-use Rattle.std.proofs.lemmas.List.Elements.{recursion_from_All}
 use Rattle.cal_value.specs.Kinds.{kind_node}
 use Rattle.cal_value.specs.Reading.{value_of}
 use Rattle.cal_value.specs.Values.{value_text}
@@ -24,25 +24,26 @@ use Rattle.cal_write.proofs.BuiltInLemmas.{kind-at, knows-built_in}
 use Rattle.cal_write.proofs.PlaceLemmas.{fold-front, Has-with_node, HasAll-fold, IsAt-grown, IsThere-grown, KnowsAttribute-grown}
 use Rattle.cal_read.specs.Nodes.{props_in}
 use Rattle.cal_read.specs.Stream.{Stream}
-use Rattle.cal_stream.specs.Readable.{IsHeldAttribute, IsPlain, IsReadableEntry, IsReadablePath, IsReadableRecord}
+use Rattle.cal_stream.specs.Readable.{IsPlain}
 use Rattle.cal_stream.proofs.Attributes.{kind_below-props}
 use Rattle.cal_stream.proofs.Knows.{Knows}
 use Rattle.cal_stream.proofs.Needed.{HasRoom, ReadsNeeded, needed-append, needed-none, needed-one, room-left, room-right}
 use Rattle.cal_stream.proofs.NewNodes.{CanRead}
+use Rattle.cal_stream.proofs.Premises.{IsGoodEntry, IsGoodPath, IsGoodRecord}
 use Rattle.cal_stream.proofs.Values.{utf8-value}
 
 -- ---- which nodes can be read
 
-pub readable-value : (e : Entry) → IsReadableEntry e → value_of e.attr.kind (value_text e.value) ≡ Some e.value
+pub readable-value : (e : Entry) → IsGoodEntry e → value_of e.attr.kind (value_text e.value) ≡ Some e.value
 readable-value e is =
-    subst (λ (k : kinds.Kind). value_of k (value_text e.value) ≡ Some e.value) is.entry.kind
-    (reads_back e.value is.range (record { small = is.small; proper = is.entry.proper }))
+    subst (λ (k : kinds.Kind). value_of k (value_text e.value) ≡ Some e.value) is.readable.entry.kind
+    (reads_back e.value is.held.range (record { small = is.readable.small; proper = is.readable.entry.proper }))
 
-plain-can : (up : Node) (e : Entry) → IsReadableEntry e → IsPlain e.attr → length up < 1024 → CanRead up e
+plain-can : (up : Node) (e : Entry) → IsGoodEntry e → IsPlain e.attr → length up < 1024 → CanRead up e
 plain-can up e is plain depth = record {
-  props = is.attribute.props;
+  props = is.held.props;
   value = readable-value e is;
-  text = utf8-value e.value is.range is.small is.text;
+  text = utf8-value e.value is.held.range is.readable.small is.held.text;
   property = λ same. absurd (plain.no_props same);
   kind = λ same. absurd (plain.no_name same);
   depth = depth;
@@ -67,11 +68,11 @@ props-can p k small = record {
     fits : nat_lt p.0 (2 ^ 32) ≡ true
     fits = grind (arith, nat_tests)
 
-name-can : (a : Attribute) → IsHeldAttribute a → CanRead (node_of_props a.props a.kind) (record { attr = name_attribute; value = value.Text a.name })
-name-can a is = record {
+name-can : (a : Attribute) → IsUtf8 a.name → CanRead (node_of_props a.props a.kind) (record { attr = name_attribute; value = value.Text a.name })
+name-can a text = record {
   props = omega arith;
   value = refl;
-  text = is.name;
+  text = text;
   property = λ same. absurd (apart (sym same));
   kind = λ same ns g. ap is_some (kind_below-props ns g a.props a.kind);
   depth = by (eqb a.props.0 0);
@@ -115,78 +116,69 @@ props-there ns a kind_there = by (fold with_node ns (needed_by_props a)) kind_th
         (sym is) has
     by all has needed false is = (subst (λ (b : Bool). HasAll all (if b then [] else node_of_props a.props a.kind ∷ [])) is needed).0
 
-pub needed-attribute : (ns : List Node) (s : Stream) (a : Attribute) → Knows ns s.nodes → IsHeldAttribute a → HasRoom ns (needed_by_attribute a) → ReadsNeeded ns s (needed_by_attribute a)
-needed-attribute ns s a k held room =
-    let first = needed-props ns s a k held.props (room-left ns (needed_by_props a) (node_of_attribute a ∷ []) room) in
+pub needed-attribute : (ns : List Node) (s : Stream) (a : Attribute) → Knows ns s.nodes → IsUtf8 a.name → a.props.0 < 2 ^ 32 → HasRoom ns (needed_by_attribute a) → ReadsNeeded ns s (needed_by_attribute a)
+needed-attribute ns s a k text small room =
+    let first = needed-props ns s a k small (room-left ns (needed_by_props a) (node_of_attribute a ∷ []) room) in
     let now = fold with_node ns (needed_by_props a) in
     let kind_there = (IsAt-grown built_in now first.knows.front (node_of_kind a.kind) (kind_node a.kind) (kind-at a.kind)).has in
     let above = props-there ns a kind_there in
     let described = (KnowsAttribute-grown built_in now first.knows.front name_attribute 8 (knows-built_in OfNames)).needed in
     needed-append ns s (needed_by_props a) (node_of_attribute a ∷ []) first
     (needed-one now (record s { nodes = first.nodes }) (node_of_props a.props a.kind) (record { attr = name_attribute; value = value.Text a.name })
-    first.knows (name-can a held) (there-has now (node_of_props a.props a.kind) above) described
+    first.knows (name-can a text) (there-has now (node_of_props a.props a.kind) above) described
     (room-right ns (needed_by_props a) (node_of_attribute a ∷ []) room))
 
 -- ---- what a path needs
 
-pub record IsPathEntry (e : Entry) : Type 0 where
-  pub readable : IsReadableEntry e
-  pub plain : IsPlain e.attr
-
-needed-path : (up path : Node) (ns : List Node) (s : Stream) → Knows ns s.nodes → IsThere ns up → AllByRecursion IsPathEntry path → length up + length path ≤ 1024
+needed-path : (up path : Node) (ns : List Node) (s : Stream) → Knows ns s.nodes → IsThere ns up → AllByRecursion IsGoodEntry path → AllByRecursion (λ (e : Entry). IsPlain e.attr) path → length up + length path ≤ 1024
     → HasRoom ns (needed_below up path) → ReadsNeeded ns s (needed_below up path)
-needed-path up [] ns s k there are depth room = needed-none ns s k
-needed-path up (e ∷ path) ns s k there are depth room =
+needed-path up [] ns s k there are plain depth room = needed-none ns s k
+needed-path up (e ∷ path) ns s k there are plain depth room =
     let of_attribute = needed_by_attribute e.attr in
     let node = (up ++ e ∷ []) ∷ [] in
     let below = needed_below (up ++ e ∷ []) path in
-    let first = needed-attribute ns s e.attr k are.0.readable.attribute (room-left ns of_attribute (node ++ below) room) in
+    let first = needed-attribute ns s e.attr k are.0.held.name are.0.held.props (room-left ns of_attribute (node ++ below) room) in
     let now = fold with_node ns of_attribute in
     let more = room-right ns of_attribute (node ++ below) room in
-    let second = needed-one now (record s { nodes = first.nodes }) up e first.knows (plain-can up e are.0.readable are.0.plain (omega arith))
+    let second = needed-one now (record s { nodes = first.nodes }) up e first.knows (plain-can up e are.0 plain.0 (omega arith))
     (IsThere-grown ns now (fold-front ns of_attribute) up there) (HasAll-fold ns of_attribute) (room-left now node below more)
     in
     let last = with_node now (up ++ e ∷ []) in
     let deeper : length (up ++ e ∷ []) + length path ≤ 1024 = (let longer = length_push up e in omega arith) in
     let rest = needed-path (up ++ e ∷ []) path last (record s { nodes = second.nodes }) second.knows
-    (there-has last (up ++ e ∷ []) (Has-with_node now (up ++ e ∷ []))) are.1 deeper (room-right now node below more)
+    (there-has last (up ++ e ∷ []) (Has-with_node now (up ++ e ∷ []))) are.1 plain.1 deeper (room-right now node below more)
     in
     needed-append ns s of_attribute (node ++ below) first
     (needed-append now (record s { nodes = first.nodes }) node below second rest)
 
-path-entries : (path : Node) → AllByRecursion IsReadableEntry path → AllByRecursion (λ e. IsPlain e.attr) path → AllByRecursion IsPathEntry path
-path-entries [] are plain = tt
-path-entries (e ∷ path) are plain = (record { readable = are.0; plain = plain.0 }, path-entries path are.1 plain.1)
-
 -- ---- what a record needs
 
-needed-paths : (paths : List Node) (ns : List Node) (s : Stream) → Knows ns s.nodes → AllByRecursion IsReadablePath paths
+needed-paths : (paths : List Node) (ns : List Node) (s : Stream) → Knows ns s.nodes → AllByRecursion IsGoodPath paths
     → HasRoom ns (flat_map (needed_below []) paths) → ReadsNeeded ns s (flat_map (needed_below []) paths)
 needed-paths [] ns s k are room = needed-none ns s k
 needed-paths (path ∷ paths) ns s k are room =
     let of_path = needed_below [] path in
     let of_rest = flat_map (needed_below []) paths in
-    let entries = path-entries path (recursion_from_All IsReadableEntry path are.0.entries) (recursion_from_All (λ e. IsPlain e.attr) path are.0.plain) in
     let short = are.0.short in
-    let first = needed-path [] path ns s k tt entries (omega arith) (room-left ns of_path of_rest room) in
+    let first = needed-path [] path ns s k tt are.0.entries are.0.plain (omega arith) (room-left ns of_path of_rest room) in
     needed-append ns s of_path of_rest first
     (needed-paths paths (fold with_node ns of_path) (record s { nodes = first.nodes }) first.knows are.1 (room-right ns of_path of_rest room))
 
-needed-imms : (imms : List Entry) (ns : List Node) (s : Stream) → Knows ns s.nodes → AllByRecursion IsReadableEntry imms
-    → HasRoom ns (flat_map (λ e. needed_by_attribute e.attr) imms) → ReadsNeeded ns s (flat_map (λ e. needed_by_attribute e.attr) imms)
+needed-imms : (imms : List Entry) (ns : List Node) (s : Stream) → Knows ns s.nodes → AllByRecursion IsGoodEntry imms
+    → HasRoom ns (flat_map (λ (e : Entry). needed_by_attribute e.attr) imms) → ReadsNeeded ns s (flat_map (λ (e : Entry). needed_by_attribute e.attr) imms)
 needed-imms [] ns s k are room = needed-none ns s k
 needed-imms (e ∷ imms) ns s k are room =
     let of_first = needed_by_attribute e.attr in
     let of_rest = flat_map (λ (d : Entry). needed_by_attribute d.attr) imms in
-    let first = needed-attribute ns s e.attr k are.0.attribute (room-left ns of_first of_rest room) in
+    let first = needed-attribute ns s e.attr k are.0.held.name are.0.held.props (room-left ns of_first of_rest room) in
     needed-append ns s of_first of_rest first
     (needed-imms imms (fold with_node ns of_first) (record s { nodes = first.nodes }) first.knows are.1 (room-right ns of_first of_rest room))
 
-pub needed-record : (ns : List Node) (s : Stream) (r : Rec) → Knows ns s.nodes → IsReadableRecord r → HasRoom ns (needed_by_record r) → ReadsNeeded ns s (needed_by_record r)
+pub needed-record : (ns : List Node) (s : Stream) (r : Rec) → Knows ns s.nodes → IsGoodRecord r → HasRoom ns (needed_by_record r) → ReadsNeeded ns s (needed_by_record r)
 needed-record ns s r k is room =
     let of_paths = flat_map (needed_below []) r.paths in
     let of_imms = flat_map (λ (e : Entry). needed_by_attribute e.attr) r.imms in
-    let first = needed-paths r.paths ns s k (recursion_from_All IsReadablePath r.paths is.paths) (room-left ns of_paths of_imms room) in
+    let first = needed-paths r.paths ns s k is.paths (room-left ns of_paths of_imms room) in
     needed-append ns s of_paths of_imms first
-    (needed-imms r.imms (fold with_node ns of_paths) (record s { nodes = first.nodes }) first.knows (recursion_from_All IsReadableEntry r.imms is.imms)
+    (needed-imms r.imms (fold with_node ns of_paths) (record s { nodes = first.nodes }) first.knows is.imms
     (room-right ns of_paths of_imms room))

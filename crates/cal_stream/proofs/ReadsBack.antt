@@ -5,7 +5,6 @@ use Rattle.std.specs.List.{AllByRecursion}
 use Rattle.std.proofs.lemmas.Bool.{and_parts}
 use Rattle.std.proofs.lemmas.Bool.Decides.{Decides-eqb}
 use Rattle.std.proofs.lemmas.List.{append_assoc, append-nil, length-append}
-use Rattle.std.proofs.lemmas.List.Elements.{recursion_from_All}
 use Rattle.cal_context.specs.Lists.{IsFront}
 use Rattle.cal_context.proofs.ListLemmas.{IsFront-refl, IsFront-trans}
 use Rattle.cal_input.specs.FirstFault.{after_lines}
@@ -18,10 +17,11 @@ use Rattle.cal_write.proofs.PlaceLemmas.{fold-front}
 use Rattle.cal_read.specs.BuiltIn as first
 use Rattle.cal_read.specs.Nodes.{Named}
 use Rattle.cal_read.specs.Stream.{IsStreamOf, Stream, line_step, no_lines}
-use Rattle.cal_stream.specs.Readable.{AreReadable, IsReadablePath, IsReadableRecord}
+use Rattle.cal_stream.specs.Readable.{AreHeld, AreReadable}
 use Rattle.cal_stream.proofs.Begin.{begins}
 use Rattle.cal_stream.proofs.Knows.{Knows}
 use Rattle.cal_stream.proofs.Needed.{length-front}
+use Rattle.cal_stream.proofs.Premises.{IsGoodRecord, good-record, good-records}
 use Rattle.cal_stream.proofs.Records.{ends-all, reads-globals, reads-row, with_row}
 use Rattle.cal_stream.proofs.Steps.{Reads, reads-more, reads-nothing}
 
@@ -39,7 +39,7 @@ record AreRowsRead (ns : List Node) (s : Stream) (rows : List Rec) : Type 0 wher
   reads : Reads s (rows_text ns rows) (record s { nodes = nodes; rows = s.rows ++ rows })
   knows : Knows (fold with_record ns rows) nodes
 
-reads-rows : (rows : List Rec) (ns : List Node) (s : Stream) → Knows ns s.nodes → AllByRecursion IsReadableRecord rows → length (fold with_record ns rows) ≤ 2 ^ 64 → AreRowsRead ns s rows
+reads-rows : (rows : List Rec) (ns : List Node) (s : Stream) → Knows ns s.nodes → AllByRecursion IsGoodRecord rows → length (fold with_record ns rows) ≤ 2 ^ 64 → AreRowsRead ns s rows
 reads-rows [] ns s k are room = record {
   nodes = s.nodes;
   reads = subst (λ (l : List Rec). Reads s [] (record s { rows = l })) (sym (append-nil s.rows)) (reads-nothing s);
@@ -70,7 +70,7 @@ record AreGlobalsRead (ns : List Node) (s : Stream) (g : Rec) : Type 0 where
   reads : Reads s (globals_text ns g) (record s { nodes = nodes; globals = g })
 
 -- globals that begin empty
-read-globals : (ns : List Node) (s : Stream) (g : Rec) → Knows ns s.nodes → IsReadableRecord g → length (with_record ns g) ≤ 2 ^ 64
+read-globals : (ns : List Node) (s : Stream) (g : Rec) → Knows ns s.nodes → IsGoodRecord g → length (with_record ns g) ≤ 2 ^ 64
     → s.globals ≡ record { paths = []; imms = [] } → AreGlobalsRead ns s g
 read-globals ns s g k is room empty = by ((length (ends g) == 0) && (length g.imms == 0)) refl
   where
@@ -82,7 +82,7 @@ read-globals ns s g k is room empty = by ((length (ends g) == 0) && (length g.im
         let parts = and_parts (length (ends g) == 0) (length g.imms == 0) none in
         let no_paths = (Decides-eqb (length (ends g)) 0).0 parts.0 in
         let no_imms = (Decides-eqb (length g.imms) 0).0 parts.1 in
-        let same_paths = none-there (ends g) no_paths ∙ ends-all g.paths (recursion_from_All IsReadablePath g.paths is.paths) in
+        let same_paths = none-there (ends g) no_paths ∙ ends-all g.paths is.paths in
         let same_imms = none-there g.imms no_imms in
         let same : s.globals ≡ g = empty ∙ (λ j. record { paths = same_paths j; imms = same_imms j }) in
         record {
@@ -100,13 +100,13 @@ read-globals ns s g k is room empty = by ((length (ends g) == 0) && (length g.im
 
 -- ---- the law
 
-pub reads-back : (rs : Records) → AreReadable rs → IsStreamOf (canonical_text rs) rs
-reads-back rs are =
+pub reads-back : (rs : Records) → AreHeld rs → AreReadable rs → IsStreamOf (canonical_text rs) rs
+reads-back rs held are =
     let less = length-front (nodes rs.rows) (with_record (nodes rs.rows) rs.globals) (front-record (nodes rs.rows) rs.globals) in
-    let ids = are.ids in
-    let rows = reads-rows rs.rows built_in no_lines begins (recursion_from_All IsReadableRecord rs.rows are.rows) (omega arith) in
+    let ids = held.ids in
+    let rows = reads-rows rs.rows built_in no_lines begins (good-records rs.rows held.rows are.rows) (omega arith) in
     let mid : Stream = record { nodes = rows.nodes; rows = rs.rows; globals = record { paths = []; imms = [] } } in
-    let globals = read-globals (nodes rs.rows) mid rs.globals rows.knows are.globals are.ids refl in
+    let globals = read-globals (nodes rs.rows) mid rs.globals rows.knows (good-record rs.globals held.globals are.globals) held.ids refl in
     let end : Stream = record { nodes = globals.nodes; rows = rs.rows; globals = rs.globals } in
     let whole = reads-more no_lines mid end (rows_text built_in rs.rows) (globals_text (nodes rs.rows) rs.globals) rows.reads globals.reads in
     record {

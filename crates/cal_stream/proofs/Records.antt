@@ -5,7 +5,6 @@ use Rattle.std.specs.List.{AllByRecursion, flat_map, zip}
 use Rattle.std.specs.Str.{IsUtf8}
 use Rattle.std.proofs.lemmas.Bool.Decides.{Decides-eqb}
 use Rattle.std.proofs.lemmas.List.{append_assoc, length-map}
-use Rattle.std.proofs.lemmas.List.Elements.{recursion_from_All}
 use Rattle.cal_input.specs.FirstFault.{◌>>=◌}
 use Rattle.cal_line.specs.Escapes.{escaped}
 use Rattle.cal_value.specs.Values.{value_text}
@@ -28,13 +27,13 @@ use Rattle.cal_read.specs.Stream as streams
 use Rattle.cal_read.specs.Stream.{Stream, step_by_fields}
 use Rattle.cal_read.specs.declared.kind.StreamKind.{StreamKind}
 use Rattle.cal_read.specs.declared.kind.StreamKind.TheVariants as kind
-use Rattle.cal_stream.specs.Readable.{IsReadableEntry, IsReadablePath, IsReadableRecord}
 use Rattle.cal_stream.proofs.Attributes.{attribute-known, path-known}
 use Rattle.cal_stream.proofs.Fields.{first_field, is_utf8_key, line_text, record_fields, record_fields-texts, record_line-is}
 use Rattle.cal_stream.proofs.Knows.{Knows, steps_of}
 use Rattle.cal_stream.proofs.Needed.{HasRoom, ReadsNeeded}
 use Rattle.cal_stream.proofs.NeededLists.{needed-record, readable-value}
 use Rattle.cal_stream.proofs.NewNodes.{small_id}
+use Rattle.cal_stream.proofs.Premises.{IsGoodEntry, IsGoodPath, IsGoodRecord}
 use Rattle.cal_stream.proofs.Steps.{Reads, reads-line, reads-more, record-read, step-globals, step-row}
 use Rattle.cal_stream.proofs.Values.{utf8-value}
 
@@ -50,7 +49,7 @@ record ArePathsRead (ns : List Node) (named : List Named) (paths : List Node) : 
   are : map path_of nodes ≡ paths
   small : AllByRecursion (λ id. id < 2 ^ 64) (map (id_in ns) paths)
 
-paths-read : (ns : List Node) (named : List Named) → Knows ns named → length ns ≤ 2 ^ 64 → (paths : List Node) → AllByRecursion IsReadablePath paths
+paths-read : (ns : List Node) (named : List Named) → Knows ns named → length ns ≤ 2 ^ 64 → (paths : List Node) → AllByRecursion IsGoodPath paths
     → HasAll ns (flat_map (needed_below []) paths) → ArePathsRead ns named paths
 paths-read ns named k room [] are there = record { nodes = []; known_by = refl; are = refl; small = tt }
 paths-read ns named k room ([] ∷ paths) are there = absurd (are.0.some refl)
@@ -67,7 +66,7 @@ paths-read ns named k room ((d ∷ up) ∷ paths) are there =
       small = (small_id ns (d ∷ up) here room, rest.small);
     }
 
-pub ends-all : (paths : List Node) → AllByRecursion IsReadablePath paths → filter has_entry paths ≡ paths
+pub ends-all : (paths : List Node) → AllByRecursion IsGoodPath paths → filter has_entry paths ≡ paths
 ends-all [] are = refl
 ends-all ([] ∷ paths) are = absurd (are.0.some refl)
 ends-all ((d ∷ up) ∷ paths) are = ap (λ (l : List Node). (d ∷ up) ∷ l) (ends-all paths are.1)
@@ -88,14 +87,14 @@ record AreImmsRead (ns : List Node) (named : List Named) (imms : List Entry) : T
   small : AllByRecursion (λ id. id < 2 ^ 64) (columns_of ns imms)
   texts : AllByRecursion IsUtf8 (texts_of imms)
 
-imms-read : (ns : List Node) (named : List Named) → Knows ns named → length ns ≤ 2 ^ 64 → (imms : List Entry) → AllByRecursion IsReadableEntry imms
-    → HasAll ns (flat_map (λ e. needed_by_attribute e.attr) imms) → AreImmsRead ns named imms
+imms-read : (ns : List Node) (named : List Named) → Knows ns named → length ns ≤ 2 ^ 64 → (imms : List Entry) → AllByRecursion IsGoodEntry imms
+    → HasAll ns (flat_map (λ (e : Entry). needed_by_attribute e.attr) imms) → AreImmsRead ns named imms
 imms-read ns named k room [] are there =
     record { nodes = []; known_by = refl; attributes = refl; entries = refl; small = tt; texts = tt }
 imms-read ns named k room (e ∷ imms) are there =
     let of_rest = flat_map (λ (d : Entry). needed_by_attribute d.attr) imms in
     let here = needed-described ns e (HasAll-left ns (needed_by_attribute e.attr) of_rest there) in
-    let is = attribute-known ns named k e.attr are.0.attribute.props here in
+    let is = attribute-known ns named k e.attr are.0.held.props here in
     let rest = imms-read ns named k room imms are.1 (HasAll-right ns (needed_by_attribute e.attr) of_rest there) in
     record {
       nodes = is.node ∷ rest.nodes;
@@ -106,7 +105,7 @@ imms-read ns named k room (e ∷ imms) are there =
       entries = (λ i. (or_fault kind.BadValue (readable-value e are.0 i) >>= (λ (v : Variant). as_entry e.attr v)) >>= (λ (first : Entry). each entry_of (zip (map (λ (d : Entry). d.attr) imms) (texts_of imms)) >>= (λ (more : List Entry). Ok (first ∷ more))))
           ∙ (λ i. rest.entries i >>= (λ (more : List Entry). Ok (e ∷ more)));
       small = (small_id ns (node_of_attribute e.attr) here room, rest.small);
-      texts = (utf8-value e.value are.0.range are.0.small are.0.text, rest.texts);
+      texts = (utf8-value e.value are.0.held.range are.0.readable.small are.0.held.text, rest.texts);
     }
   where
     as_entry : Attribute → Variant → Result Entry StreamKind
@@ -121,16 +120,15 @@ even ns imms =
     (length-map (columns_of ns imms) decimal ∙ length-map imms (λ (e : Entry). id_in ns (node_of_attribute e.attr))
     ∙ sym (length-map (map (λ (e : Entry). e.value) imms) value_text ∙ length-map imms (λ (e : Entry). e.value)))
 
-reads-record_line : (ns : List Node) (s t : Stream) (sort : List ℕ) (r : Rec) → Knows ns s.nodes → length ns ≤ 2 ^ 64 → IsReadableRecord r → HasAll ns (needed_by_record r)
+reads-record_line : (ns : List Node) (s t : Stream) (sort : List ℕ) (r : Rec) → Knows ns s.nodes → length ns ≤ 2 ^ 64 → IsGoodRecord r → HasAll ns (needed_by_record r)
     → escaped sort ≡ sort → IsUtf8 sort
     → ((refs columns texts : List (List ℕ)) → record_of s.nodes (first_field sort ∷ record_fields refs columns texts) ≡ Ok r → step_by_fields s (first_field sort ∷ record_fields refs columns texts) ≡ Ok t)
     → Reads s (line_of_record sort ns r) t
 reads-record_line ns s t sort r k room is there plain text step =
     let of_paths = flat_map (needed_below []) r.paths in
     let of_imms = flat_map (λ (e : Entry). needed_by_attribute e.attr) r.imms in
-    let all_paths = recursion_from_All IsReadablePath r.paths is.paths in
-    let paths = paths-read ns s.nodes k room r.paths all_paths (HasAll-left ns of_paths of_imms there) in
-    let imms = imms-read ns s.nodes k room r.imms (recursion_from_All IsReadableEntry r.imms is.imms) (HasAll-right ns of_paths of_imms there) in
+    let paths = paths-read ns s.nodes k room r.paths is.paths (HasAll-left ns of_paths of_imms there) in
+    let imms = imms-read ns s.nodes k room r.imms is.imms (HasAll-right ns of_paths of_imms there) in
     let refs = map (id_in ns) r.paths in
     let columns = columns_of ns r.imms in
     let texts = texts_of r.imms in
@@ -142,7 +140,7 @@ reads-record_line ns s t sort r k room is there plain text step =
     ∙ (λ i. Ok (record { paths = paths.are i; imms = r.imms }))
     in
     let line : line_of_record sort ns r ≡ line_text sort (record_fields (map decimal refs) (map decimal columns) texts) ++ 10 ∷ [] =
-    (λ i. record_line sort (map (id_in ns) (ends-all r.paths all_paths i)) columns (map (λ (e : Entry). e.value) r.imms))
+    (λ i. record_line sort (map (id_in ns) (ends-all r.paths is.paths i)) columns (map (λ (e : Entry). e.value) r.imms))
     ∙ record_line-is sort refs columns (map (λ (e : Entry). e.value) r.imms) plain
     in
     subst (λ (l : List ℕ). Reads s l t) (sym line)
@@ -160,7 +158,7 @@ pub record IsRecordRead (ns : List Node) (s : Stream) (sort : List ℕ) (r : Rec
   pub reads : Reads s (record_text sort ns r) (t nodes)
   pub knows : Knows (with_record ns r) nodes
 
-reads-record : (ns : List Node) (s : Stream) (sort : List ℕ) (r : Rec) (t : List Named → Stream) → Knows ns s.nodes → IsReadableRecord r → HasRoom ns (needed_by_record r)
+reads-record : (ns : List Node) (s : Stream) (sort : List ℕ) (r : Rec) (t : List Named → Stream) → Knows ns s.nodes → IsGoodRecord r → HasRoom ns (needed_by_record r)
     → escaped sort ≡ sort → IsUtf8 sort
     → ((nodes : List Named) (refs columns texts : List (List ℕ)) → record_of nodes (first_field sort ∷ record_fields refs columns texts) ≡ Ok r
     → step_by_fields (record s { nodes = nodes }) (first_field sort ∷ record_fields refs columns texts) ≡ Ok (t nodes))
@@ -178,7 +176,7 @@ reads-record ns s sort r t k is room plain text step =
 abbrev pub with_row : Stream → Rec → List Named → Stream
 with_row s r nodes = record s { nodes = nodes; rows = s.rows ++ r ∷ [] }
 
-pub reads-row : (ns : List Node) (s : Stream) (r : Rec) → Knows ns s.nodes → IsReadableRecord r → HasRoom ns (needed_by_record r) → IsRecordRead ns s (codes "ctx") r (with_row s r)
+pub reads-row : (ns : List Node) (s : Stream) (r : Rec) → Knows ns s.nodes → IsGoodRecord r → HasRoom ns (needed_by_record r) → IsRecordRead ns s (codes "ctx") r (with_row s r)
 reads-row ns s r k is room =
     reads-record ns s (codes "ctx") r (with_row s r) k is room refl (is_utf8_key (codes "ctx") refl)
     (λ nodes refs columns texts means. step-row (record s { nodes = nodes }) refs columns texts r means)
@@ -186,7 +184,7 @@ reads-row ns s r k is room =
 abbrev pub with_globals : Stream → Rec → List Named → Stream
 with_globals s r nodes = record s { nodes = nodes; globals = streams.with_record s.globals r }
 
-pub reads-globals : (ns : List Node) (s : Stream) (r : Rec) → Knows ns s.nodes → IsReadableRecord r → HasRoom ns (needed_by_record r) → IsRecordRead ns s (codes "globals") r (with_globals s r)
+pub reads-globals : (ns : List Node) (s : Stream) (r : Rec) → Knows ns s.nodes → IsGoodRecord r → HasRoom ns (needed_by_record r) → IsRecordRead ns s (codes "globals") r (with_globals s r)
 reads-globals ns s r k is room =
     reads-record ns s (codes "globals") r (with_globals s r) k is room refl (is_utf8_key (codes "globals") refl)
     (λ nodes refs columns texts means. step-globals (record s { nodes = nodes }) refs columns texts r means)
