@@ -11,3 +11,4 @@ mod NeededLists
 mod Records
 mod Begin
 mod ReadsBack
+mod Counted
