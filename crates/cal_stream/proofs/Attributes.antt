@@ -11,13 +11,9 @@ use Rattle.cal_value.specs.declared.kind.Kind.{Kind}
 use Rattle.cal_value.specs.declared.props.Props.{Props}
 use Rattle.cal_value.specs.declared.variant.Variant.TheVariants as value
 use Rattle.cal_context.specs.Lists.{IsFront}
-use Rattle.cal_write.specs.BuiltIn.{built_in_attribute, built_in_id}
 use Rattle.cal_write.specs.CanonicalText.{id_in, parent_id}
 use Rattle.cal_write.specs.Nodes.{Node, built_in, name_attribute, type_attribute, prop_attribute, node_of_kind, node_of_props, node_of_attribute}
 use Rattle.cal_write.specs.Places.{Has, IsThere, KnowsAttribute}
-use Rattle.cal_write.specs.declared.built_in.BuiltIn.{BuiltIn}
-use Rattle.cal_write.specs.declared.built_in.BuiltIn.TheVariants.{OfNames, OfKinds, OfProps}
-use Rattle.cal_write.proofs.BuiltInLemmas.{knows-built_in}
 use Rattle.cal_write.proofs.PlaceLemmas.{KnowsAttribute-grown}
 use Rattle.cal_read.specs.Fields.{or_fault, if_there}
 use Rattle.cal_read.specs.NodeLines.{known, steps_down}
@@ -68,22 +64,35 @@ parent-known ns named k (d ∷ up) there =
 
 -- ---- the kind and the properties above an attribute's name
 
-pub id-built_in : (ns : List Node) → IsFront built_in ns → (b : BuiltIn) → id_in ns (node_of_attribute (built_in_attribute b)) ≡ built_in_id b
-id-built_in ns g b = sym (KnowsAttribute-grown built_in ns g (built_in_attribute b) (built_in_id b) (knows-built_in b)).at.is
+-- the built-in attributes have their ids in each stream
+pub knows-names : KnowsAttribute built_in name_attribute 8
+unfolding built_in
+knows-names = record { at = record { has = refl; is = refl }; needed = (refl, tt) }
+
+pub knows-kinds : KnowsAttribute built_in type_attribute 9
+unfolding built_in
+knows-kinds = record { at = record { has = refl; is = refl }; needed = (refl, tt) }
+
+pub knows-props : KnowsAttribute built_in prop_attribute 10
+unfolding built_in
+knows-props = record { at = record { has = refl; is = refl }; needed = (refl, tt) }
+
+pub id-built_in : (ns : List Node) → IsFront built_in ns → (a : Attribute) (id : ℕ) → KnowsAttribute built_in a id → id_in ns (node_of_attribute a) ≡ id
+id-built_in ns g a id knows = sym (KnowsAttribute-grown built_in ns g a id knows).at.is
 
 module _ (ns : List Node) (g : IsFront built_in ns) (p : Props) (k : Kind) where
-  kind_step : ℕ → Step
+  abbrev kind_step : ℕ → Step
   kind_step id = record { attribute = id; entry = record { attr = type_attribute; value = value.Kind k } }
 
-  props_step : ℕ → Step
+  abbrev props_step : ℕ → Step
   props_step id = record { attribute = id; entry = record { attr = prop_attribute; value = value.Int (pos p.0) } }
 
   pub kind_below-props : kind_below (steps_of ns (node_of_props p k)) ≡ Some k
   kind_below-props = by (eqb p.0 0)
     where
       by : (b : Bool) → kind_below (steps_of ns (if b then node_of_kind k else node_of_kind k ++ (record { attr = prop_attribute; value = value.Int (pos p.0) }) ∷ [])) ≡ Some k
-      by true = λ i. kind_below (kind_step (id-built_in ns g OfKinds i) ∷ [])
-      by false = λ i. kind_below (kind_step (id-built_in ns g OfKinds i) ∷ props_step (id-built_in ns g OfProps i) ∷ [])
+      by true = λ i. kind_below (kind_step (id-built_in ns g type_attribute 9 knows-kinds i) ∷ [])
+      by false = λ i. kind_below (kind_step (id-built_in ns g type_attribute 9 knows-kinds i) ∷ props_step (id-built_in ns g prop_attribute 10 knows-props i) ∷ [])
 
   pub props_below-props : p.0 < 2 ^ 32 → props_below (steps_of ns (node_of_props p k)) ≡ p.0
   props_below-props small = by (eqb p.0 0) ((Decides-eqb p.0 0).0)
@@ -93,9 +102,9 @@ module _ (ns : List Node) (g : IsFront built_in ns) (p : Props) (k : Kind) where
 
       by : (b : Bool) → (b ≡ true → p.0 ≡ 0)
           → props_below (steps_of ns (if b then node_of_kind k else node_of_kind k ++ (record { attr = prop_attribute; value = value.Int (pos p.0) }) ∷ [])) ≡ p.0
-      by true none = (λ i. props_below (kind_step (id-built_in ns g OfKinds i) ∷ [])) ∙ sym (none refl)
+      by true none = (λ i. props_below (kind_step (id-built_in ns g type_attribute 9 knows-kinds i) ∷ [])) ∙ sym (none refl)
       by false none =
-          (λ i. props_below (kind_step (id-built_in ns g OfKinds i) ∷ props_step (id-built_in ns g OfProps i) ∷ []))
+          (λ i. props_below (kind_step (id-built_in ns g type_attribute 9 knows-kinds i) ∷ props_step (id-built_in ns g prop_attribute 10 knows-props i) ∷ []))
           ∙ ap (λ (b : Bool). unwrap_or (if b then Some p.0 else None) 0) fits
 
 -- ---- the attribute that a node is
@@ -103,7 +112,7 @@ module _ (ns : List Node) (g : IsFront built_in ns) (p : Props) (k : Kind) where
 attribute_of-node : (ns : List Node) → IsFront built_in ns → (a : Attribute) → a.props.0 < 2 ^ 32
     → attribute_of (stream_node ns (node_of_props a.props a.kind) (record { attr = name_attribute; value = value.Text a.name })) ≡ Some a
 attribute_of-node ns g a small =
-    (λ i. if eqb (id-built_in ns g OfNames i) 8
+    (λ i. if eqb (id-built_in ns g name_attribute 8 knows-names i) 8
     then attribute_named a.name (kind_below-props ns g a.props a.kind i) (props_below-props ns g a.props a.kind small i) else None)
 
 -- the attribute's node is known, and is the attribute

@@ -1,10 +1,10 @@
 -- The lines that the writer writes, as lists of fields.
-use Rattle.std.proofs.Common.{◌≡◌, ◌≢◌, ◌<◌, ◌^◌, ◌∙◌, ℕ, Bool, true, ◌&&◌, List, [], ◌∷◌, ◌++◌, length, map, refl, sym, ap, subst, lit<, eqb-false}
+use Rattle.std.proofs.Common.{◌≡◌, ◌≢◌, ◌<◌, ◌^◌, ◌∙◌, ℕ, Bool, true, ◌&&◌, List, [], ◌∷◌, ◌++◌, length, map, refl, sym, ap, subst, lit<}
 use Rattle.std.specs.Prelude.{codes, decimal, Option, option_to_list, nat_lt}
 use Rattle.std.specs.List.{AllByRecursion, flat_map}
 use Rattle.std.specs.Str.{IsUtf8, IsAscii}
 use borrow.Author.Tests.{ltb-true}
-use Rattle.std.proofs.lemmas.Bool.{and_parts}
+use Rattle.std.proofs.lemmas.Bool.{and_parts, eqb-false}
 use Rattle.std.proofs.lemmas.List.{append_assoc, append-nil}
 use Rattle.std.proofs.lemmas.List.Elements.{All-nil, All-cons, All-append}
 use Rattle.std.proofs.lemmas.Simd.{map-map}
@@ -151,18 +151,17 @@ node_fields id attribute text parent =
     fields_if (codes "id") (decimal id ∷ []) ++ fields_if (codes "attr") (decimal attribute ∷ [])
     ++ fields_if (codes "data") (text ∷ []) ++ fields_if (codes "parent") (map decimal (option_to_list parent))
 
-regroup4 : (h i a d p e : List ℕ) → h ++ i ++ a ++ d ++ p ++ e ≡ (h ++ i ++ a ++ d ++ p) ++ e
-regroup4 h i a d p e = simp append_assoc
+regroup4 : (h i a d p : List ℕ) → h ++ i ++ a ++ d ++ p ≡ h ++ (i ++ a ++ d ++ p)
+regroup4 h i a d p = simp append_assoc
 
 pub node_line-is : (id attribute : ℕ) (v : Variant) (parent : Option ℕ)
     → node_line id attribute v parent ≡ line_text (codes "node") (node_fields id attribute (value_text v) parent) ++ 10 ∷ []
 node_line-is id attribute v parent =
     (λ j. codes "__rec=node" ++ decimals-written (codes "id") (id ∷ []) refl j ++ decimals-written (codes "attr") (attribute ∷ []) refl j
     ++ values-written (codes "data") (v ∷ []) refl j ++ decimals-written (codes "parent") (option_to_list parent) refl j ++ codes "\n")
-    ∙ regroup4 (codes "__rec=node") (further_text of_id) (further_text of_attribute) (further_text of_value) (further_text of_parent) (codes "\n")
-    ∙ sym (λ j. (codes "__rec=node" ++ (further-append of_id (of_attribute ++ of_value ++ of_parent)
-    ∙ (λ k. further_text of_id ++ (further-append of_attribute (of_value ++ of_parent)
-    ∙ (λ l. further_text of_attribute ++ further-append of_value of_parent l)) k)) j) ++ 10 ∷ [])
+    ∙ ap (λ (l : List ℕ). l ++ codes "\n")
+    (regroup4 (codes "__rec=node") (further_text of_id) (further_text of_attribute) (further_text of_value) (further_text of_parent)
+    ∙ ap (λ (l : List ℕ). codes "__rec=node" ++ l) (sym joined))
   where
     of_id : List Field
     of_id = fields_if (codes "id") (decimal id ∷ [])
@@ -176,24 +175,29 @@ node_line-is id attribute v parent =
     of_parent : List Field
     of_parent = fields_if (codes "parent") (map decimal (option_to_list parent))
 
+    joined : further_text (of_id ++ of_attribute ++ of_value ++ of_parent) ≡ further_text of_id ++ further_text of_attribute ++ further_text of_value ++ further_text of_parent
+    joined =
+        further-append (of_id ++ of_attribute ++ of_value) of_parent
+        ∙ ap (λ (l : List ℕ). l ++ further_text of_parent) (further-append (of_id ++ of_attribute) of_value
+        ∙ ap (λ (l : List ℕ). l ++ further_text of_value) (further-append of_id of_attribute))
+
 -- ---- the line of a record
 
 abbrev pub record_fields : List (List ℕ) → List (List ℕ) → List (List ℕ) → List Field
 record_fields refs columns texts =
     fields_if (codes "ref") refs ++ fields_if (codes "attr") columns ++ fields_if (codes "data") texts
 
-regroup3 : (h r a d e : List ℕ) → h ++ r ++ a ++ d ++ e ≡ (h ++ r ++ a ++ d) ++ e
-regroup3 h r a d e = simp append_assoc
+regroup3 : (h r a d : List ℕ) → h ++ r ++ a ++ d ≡ h ++ (r ++ a ++ d)
+regroup3 h r a d = simp append_assoc
 
 pub record_line-is : (sort : List ℕ) (refs columns : List ℕ) (values : List Variant) → escaped sort ≡ sort
     → record_line sort refs columns values ≡ line_text sort (record_fields (map decimal refs) (map decimal columns) (map value_text values)) ++ 10 ∷ []
 record_line-is sort refs columns values plain =
     (λ j. codes "__rec=" ++ sym plain j ++ decimals-written (codes "ref") refs refl j ++ decimals-written (codes "attr") columns refl j
     ++ values-written (codes "data") values refl j ++ codes "\n")
-    ∙ sym (append_assoc (codes "__rec=") (escaped sort) (further_text of_refs ++ further_text of_columns ++ further_text of_values ++ codes "\n"))
-    ∙ regroup3 (codes "__rec=" ++ escaped sort) (further_text of_refs) (further_text of_columns) (further_text of_values) (codes "\n")
-    ∙ sym (λ j. ((codes "__rec=" ++ escaped sort) ++ (further-append of_refs (of_columns ++ of_values)
-    ∙ (λ k. further_text of_refs ++ further-append of_columns of_values k)) j) ++ 10 ∷ [])
+    ∙ ap (λ (l : List ℕ). l ++ codes "\n")
+    (regroup3 (codes "__rec=" ++ escaped sort) (further_text of_refs) (further_text of_columns) (further_text of_values)
+    ∙ ap (λ (l : List ℕ). (codes "__rec=" ++ escaped sort) ++ l) (sym joined))
   where
     of_refs : List Field
     of_refs = fields_if (codes "ref") (map decimal refs)
@@ -203,6 +207,11 @@ record_line-is sort refs columns values plain =
 
     of_values : List Field
     of_values = fields_if (codes "data") (map value_text values)
+
+    joined : further_text (of_refs ++ of_columns ++ of_values) ≡ further_text of_refs ++ further_text of_columns ++ further_text of_values
+    joined =
+        further-append (of_refs ++ of_columns) of_values
+        ∙ ap (λ (l : List ℕ). l ++ further_text of_values) (further-append of_refs of_columns)
 
 -- ---- their fields are texts
 
@@ -221,27 +230,41 @@ utf8-decimals (id ∷ ids) small = (utf8-decimal id small.0, utf8-decimals ids s
 pub node_fields-texts : (id attribute : ℕ) (text : List ℕ) (parent : Option ℕ) → id < 2 ^ 64 → attribute < 2 ^ 64 → IsUtf8 text
     → AllByRecursion (λ p. p < 2 ^ 64) (option_to_list parent) → AllByRecursion IsTextField (node_fields id attribute text parent)
 node_fields-texts id attribute text parent small_id small_attribute is small_parent =
-    let of_parent = fields_if (codes "parent") (map decimal (option_to_list parent)) in
-    let of_value = fields_if (codes "data") (text ∷ []) in
-    let of_attribute = fields_if (codes "attr") (decimal attribute ∷ []) in
-    let of_id = fields_if (codes "id") (decimal id ∷ []) in
-    texts-append of_id (of_attribute ++ of_value ++ of_parent)
+    texts-append (of_id ++ of_attribute ++ of_value) of_parent
+    (texts-append (of_id ++ of_attribute) of_value
+    (texts-append of_id of_attribute
     (texts-if (codes "id") (decimal id ∷ []) (λ e. cc) (is_utf8_key (codes "id") refl) (utf8-decimal id small_id, tt))
-    (texts-append of_attribute (of_value ++ of_parent)
-    (texts-if (codes "attr") (decimal attribute ∷ []) (λ e. cc) (is_utf8_key (codes "attr") refl) (utf8-decimal attribute small_attribute, tt))
-    (texts-append of_value of_parent
-    (texts-if (codes "data") (text ∷ []) (λ e. cc) (is_utf8_key (codes "data") refl) (is, tt))
+    (texts-if (codes "attr") (decimal attribute ∷ []) (λ e. cc) (is_utf8_key (codes "attr") refl) (utf8-decimal attribute small_attribute, tt)))
+    (texts-if (codes "data") (text ∷ []) (λ e. cc) (is_utf8_key (codes "data") refl) (is, tt)))
     (texts-if (codes "parent") (map decimal (option_to_list parent)) (λ e. cc) (is_utf8_key (codes "parent") refl)
-    (utf8-decimals (option_to_list parent) small_parent))))
+    (utf8-decimals (option_to_list parent) small_parent))
+  where
+    of_id : List Field
+    of_id = fields_if (codes "id") (decimal id ∷ [])
+
+    of_attribute : List Field
+    of_attribute = fields_if (codes "attr") (decimal attribute ∷ [])
+
+    of_value : List Field
+    of_value = fields_if (codes "data") (text ∷ [])
+
+    of_parent : List Field
+    of_parent = fields_if (codes "parent") (map decimal (option_to_list parent))
 
 pub record_fields-texts : (refs columns : List ℕ) (texts : List (List ℕ)) → AllByRecursion (λ id. id < 2 ^ 64) refs → AllByRecursion (λ id. id < 2 ^ 64) columns
     → AllByRecursion IsUtf8 texts → AllByRecursion IsTextField (record_fields (map decimal refs) (map decimal columns) texts)
 record_fields-texts refs columns texts small_refs small_columns are =
-    let of_values = fields_if (codes "data") texts in
-    let of_columns = fields_if (codes "attr") (map decimal columns) in
-    let of_refs = fields_if (codes "ref") (map decimal refs) in
-    texts-append of_refs (of_columns ++ of_values)
+    texts-append (of_refs ++ of_columns) of_values
+    (texts-append of_refs of_columns
     (texts-if (codes "ref") (map decimal refs) (λ e. cc) (is_utf8_key (codes "ref") refl) (utf8-decimals refs small_refs))
-    (texts-append of_columns of_values
-    (texts-if (codes "attr") (map decimal columns) (λ e. cc) (is_utf8_key (codes "attr") refl) (utf8-decimals columns small_columns))
-    (texts-if (codes "data") texts (λ e. cc) (is_utf8_key (codes "data") refl) are))
+    (texts-if (codes "attr") (map decimal columns) (λ e. cc) (is_utf8_key (codes "attr") refl) (utf8-decimals columns small_columns)))
+    (texts-if (codes "data") texts (λ e. cc) (is_utf8_key (codes "data") refl) are)
+  where
+    of_refs : List Field
+    of_refs = fields_if (codes "ref") (map decimal refs)
+
+    of_columns : List Field
+    of_columns = fields_if (codes "attr") (map decimal columns)
+
+    of_values : List Field
+    of_values = fields_if (codes "data") texts

@@ -12,14 +12,10 @@ use Rattle.cal_value.specs.declared.attribute.Entry.{Entry}
 use Rattle.cal_value.specs.declared.kind.Kind.{Kind}
 use Rattle.cal_value.specs.declared.props.Props.{Props}
 use Rattle.cal_value.specs.declared.variant.Variant.TheVariants as value
-use Rattle.cal_write.specs.BuiltIn.{built_in_attribute, built_in_id}
 use Rattle.cal_write.specs.CanonicalText.{id_in, parent_id}
 use Rattle.cal_write.specs.Nodes.{Node, same_node, built_in, name_attribute, type_attribute, prop_attribute}
 use Rattle.cal_write.specs.Nodes.{node_of_kind, node_of_props, node_of_attribute, needed_by_attribute, needed_below}
 use Rattle.cal_write.specs.Places.{Has, HasAll, IsThere, IsClosed, IsParent, KnowsAttribute}
-use Rattle.cal_write.specs.declared.built_in.BuiltIn.{BuiltIn}
-use Rattle.cal_write.specs.declared.built_in.BuiltIn.TheVariants.{OfNames, OfKinds, OfProps}
-use Rattle.cal_write.proofs.BuiltInLemmas.{knows-built_in}
 use Rattle.cal_write.proofs.PlaceLemmas.{id_within, HasAll-left, HasAll-right, Has-push_cases, id_in-grown, id_in-last, parent_id-grown, KnowsAttribute-grown}
 use Rattle.cal_write.proofs.StreamLemmas.{closed-there, closed-parent, closed-attribute, needed-described, new-closed}
 use Rattle.cal_read.specs.Fields.{or_fault, if_there}

@@ -12,19 +12,16 @@ use Rattle.cal_value.specs.declared.attribute.Attribute.{Attribute}
 use Rattle.cal_value.specs.declared.attribute.Entry.{Entry}
 use Rattle.cal_value.specs.declared.variant.Variant.TheVariants as value
 use Rattle.cal_value.proofs.RoundTrip.{reads_back}
-use Rattle.cal_write.specs.BuiltIn.{built_in_attribute, built_in_id}
 use Rattle.cal_write.specs.CanonicalText.{lines_of_new, line_of_node}
 use Rattle.cal_write.specs.Nodes.{Node, same_node, built_in, name_attribute, prop_attribute, node_of_kind, node_of_props, node_of_attribute}
 use Rattle.cal_write.specs.Nodes.{needed_by_attribute, needed_by_props, needed_below, with_node}
 use Rattle.cal_write.specs.Places.{Has, HasAll, IsThere, KnowsAttribute}
-use Rattle.cal_write.specs.declared.built_in.BuiltIn.{BuiltIn}
-use Rattle.cal_write.specs.declared.built_in.BuiltIn.TheVariants.{OfNames, OfProps}
 use Rattle.cal_write.proofs.AfterLemmas.{lines_of_new-append}
-use Rattle.cal_write.proofs.BuiltInLemmas.{kind-at, knows-built_in}
+use Rattle.cal_write.proofs.BuiltInLemmas.{kind-at}
 use Rattle.cal_write.proofs.PlaceLemmas.{fold-front, Has-grown, Has-with_node, HasAll-fold, HasAll-grown, IsAt-grown, KnowsAttribute-grown}
 use Rattle.cal_read.specs.Nodes.{Named}
 use Rattle.cal_read.specs.Stream.{Stream}
-use Rattle.cal_stream.proofs.Attributes.{kind_below-props}
+use Rattle.cal_stream.proofs.Attributes.{kind_below-props, knows-names, knows-props}
 use Rattle.cal_stream.proofs.Knows.{Knows, knows-more, stream_node}
 use Rattle.cal_stream.proofs.NewNodes.{CanRead, reads-new}
 use Rattle.cal_stream.proofs.Steps.{Reads, reads-more, reads-nothing}

@@ -19,13 +19,12 @@ use Rattle.cal_value.proofs.RoundTrip.{reads_back}
 use Rattle.cal_write.specs.Nodes.{Node, built_in, name_attribute, prop_attribute, node_of_kind, node_of_props, node_of_attribute}
 use Rattle.cal_write.specs.Nodes.{needed_by_attribute, needed_by_props, needed_by_record, needed_below, with_node}
 use Rattle.cal_write.specs.Places.{Has, HasAll, IsThere}
-use Rattle.cal_write.specs.declared.built_in.BuiltIn.TheVariants.{OfNames, OfProps}
-use Rattle.cal_write.proofs.BuiltInLemmas.{kind-at, knows-built_in}
+use Rattle.cal_write.proofs.BuiltInLemmas.{kind-at}
 use Rattle.cal_write.proofs.PlaceLemmas.{fold-front, Has-with_node, HasAll-fold, IsAt-grown, IsThere-grown, KnowsAttribute-grown}
 use Rattle.cal_read.specs.Nodes.{props_in}
 use Rattle.cal_read.specs.Stream.{Stream}
 use Rattle.cal_stream.specs.Readable.{IsPlain}
-use Rattle.cal_stream.proofs.Attributes.{kind_below-props}
+use Rattle.cal_stream.proofs.Attributes.{kind_below-props, knows-names, knows-props}
 use Rattle.cal_stream.proofs.Knows.{Knows}
 use Rattle.cal_stream.proofs.Needed.{HasRoom, ReadsNeeded, needed-append, needed-none, needed-one, room-left, room-right}
 use Rattle.cal_stream.proofs.NewNodes.{CanRead}
@@ -101,7 +100,7 @@ needed-props ns s a k small room = by (eqb a.props.0 0) refl
     by true is = subst (λ (b : Bool). ReadsNeeded ns s (list b)) (sym is) (needed-none ns s k)
     by false is =
         let there = (IsAt-grown built_in ns k.front (node_of_kind a.kind) (kind_node a.kind) (kind-at a.kind)).has in
-        let described = (KnowsAttribute-grown built_in ns k.front prop_attribute 10 (knows-built_in OfProps)).needed in
+        let described = (KnowsAttribute-grown built_in ns k.front prop_attribute 10 knows-props).needed in
         subst (λ (b : Bool). ReadsNeeded ns s (list b)) (sym is)
         (needed-one ns s (node_of_kind a.kind) e k (props-can a.props a.kind small) there described (subst (λ (b : Bool). HasRoom ns (list b)) is room))
 
@@ -122,7 +121,7 @@ needed-attribute ns s a k text small room =
     let now = fold with_node ns (needed_by_props a) in
     let kind_there = (IsAt-grown built_in now first.knows.front (node_of_kind a.kind) (kind_node a.kind) (kind-at a.kind)).has in
     let above = props-there ns a kind_there in
-    let described = (KnowsAttribute-grown built_in now first.knows.front name_attribute 8 (knows-built_in OfNames)).needed in
+    let described = (KnowsAttribute-grown built_in now first.knows.front name_attribute 8 knows-names).needed in
     needed-append ns s (needed_by_props a) (node_of_attribute a ∷ []) first
     (needed-one now (record s { nodes = first.nodes }) (node_of_props a.props a.kind) (record { attr = name_attribute; value = value.Text a.name })
     first.knows (name-can a text) (there-has now (node_of_props a.props a.kind) above) described

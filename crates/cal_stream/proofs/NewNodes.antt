@@ -12,14 +12,10 @@ use Rattle.cal_value.specs.Values.{value_text}
 use Rattle.cal_value.specs.declared.attribute.Attribute.{Attribute}
 use Rattle.cal_value.specs.declared.attribute.Entry.{Entry}
 use Rattle.cal_value.specs.declared.variant.Variant.{Variant}
-use Rattle.cal_write.specs.BuiltIn.{built_in_attribute, built_in_id}
 use Rattle.cal_write.specs.CanonicalText.{id_in, parent_id, line_of_node}
 use Rattle.cal_write.specs.Lines.{node_line}
 use Rattle.cal_write.specs.Nodes.{Node, same_node, built_in, name_attribute, prop_attribute, node_of_attribute, needed_by_attribute}
 use Rattle.cal_write.specs.Places.{Has, HasAll, IsThere, KnowsAttribute}
-use Rattle.cal_write.specs.declared.built_in.BuiltIn.{BuiltIn}
-use Rattle.cal_write.specs.declared.built_in.BuiltIn.TheVariants.{OfNames, OfProps}
-use Rattle.cal_write.proofs.BuiltInLemmas.{knows-built_in}
 use Rattle.cal_write.proofs.PlaceLemmas.{id_within, KnowsAttribute-grown}
 use Rattle.cal_write.proofs.StreamLemmas.{needed-described, new-line}
 use Rattle.cal_read.specs.Fields.{or_fault, if_there}
@@ -29,8 +25,7 @@ use Rattle.cal_read.specs.Nodes.{Named, Step, kind_below, node_at, props_in}
 use Rattle.cal_read.specs.Stream.{Stream}
 use Rattle.cal_read.specs.declared.kind.StreamKind.{StreamKind}
 use Rattle.cal_read.specs.declared.kind.StreamKind.TheVariants as kind
-use Rattle.cal_read.specs.declared.node_texts.NodeIds.{NodeIds}
-use Rattle.cal_stream.proofs.Attributes.{IsAttributeKnown, IsParentKnown, attribute-known, attribute-one, id-built_in, parent-known}
+use Rattle.cal_stream.proofs.Attributes.{IsAttributeKnown, IsParentKnown, attribute-known, attribute-one, id-built_in, knows-names, knows-props, parent-known}
 use Rattle.cal_stream.proofs.Fields.{first_field, line_text, node_fields, node_fields-texts, node_line-is, is_utf8_key}
 use Rattle.cal_stream.proofs.Knows.{Knows, step_to, steps_of, stream_node}
 use Rattle.cal_stream.proofs.Steps.{Reads, reads-line, step-node}
@@ -46,15 +41,15 @@ pub record CanRead (up : Node) (e : Entry) : Type 0 where
 
 module _ (ns : List Node) (named : List Named) (up : Node) (e : Entry) (k : Knows ns named) (can : CanRead up e) (own : Has ns (node_of_attribute e.attr)) where
   -- where its attribute has the id of a built-in one, it is that one
-  is-built_in : (b : BuiltIn) → (built_in_attribute b).props.0 < 2 ^ 32 → id_in ns (node_of_attribute e.attr) ≡ built_in_id b → e.attr ≡ built_in_attribute b
-  is-built_in b small same =
-      let there = (KnowsAttribute-grown built_in ns k.front (built_in_attribute b) (built_in_id b) (knows-built_in b)).at.has in
-      attribute-one ns named k e.attr (built_in_attribute b) can.props small own there (same ∙ sym (id-built_in ns k.front b))
+  is-built_in : (b : Attribute) (id : ℕ) → KnowsAttribute built_in b id → b.props.0 < 2 ^ 32 → id_in ns (node_of_attribute e.attr) ≡ id → e.attr ≡ b
+  is-built_in b id knows small same =
+      let there = (KnowsAttribute-grown built_in ns k.front b id knows).at.has in
+      attribute-one ns named k e.attr b can.props small own there (same ∙ sym (id-built_in ns k.front b id knows))
 
   value-read : node_value (id_in ns (node_of_attribute e.attr)) e.attr (value_text e.value) ≡ Ok e.value
   value-read =
       (λ i. or_fault kind.BadValue (can.value i) >>= (λ (v : Variant). tested v (id_in ns (node_of_attribute e.attr) == 10)))
-      ∙ by (id_in ns (node_of_attribute e.attr) == 10) (λ h. can.property (is-built_in OfProps (omega arith) ((Decides-eqb (id_in ns (node_of_attribute e.attr)) 10).0 h)))
+      ∙ by (id_in ns (node_of_attribute e.attr) == 10) (λ h. can.property (is-built_in prop_attribute 10 knows-props (omega arith) ((Decides-eqb (id_in ns (node_of_attribute e.attr)) 10).0 h)))
     where
       tested : Variant → Bool → Result Variant StreamKind
       tested v b = if b && not (is_some (props_in v)) then Err kind.BadValue else Ok v
@@ -64,7 +59,7 @@ module _ (ns : List Node) (named : List Named) (up : Node) (e : Entry) (k : Know
       by false good = refl
 
   fits : misfit (id_in ns (node_of_attribute e.attr)) (steps_of ns up) ≡ None
-  fits = by (id_in ns (node_of_attribute e.attr) == 8) (λ h. can.kind (is-built_in OfNames (omega arith) ((Decides-eqb (id_in ns (node_of_attribute e.attr)) 8).0 h)) ns k.front)
+  fits = by (id_in ns (node_of_attribute e.attr) == 8) (λ h. can.kind (is-built_in name_attribute 8 knows-names (omega arith) ((Decides-eqb (id_in ns (node_of_attribute e.attr)) 8).0 h)) ns k.front)
     where
       short : nat_lt (length (steps_of ns up)) 1024 ≡ true
       short = let same = length-map up (step_to ns) in let depth = can.depth in grind (arith, nat_tests)
@@ -83,19 +78,22 @@ module _ (ns : List Node) (named : List Named) (up : Node) (e : Entry) (k : Know
   made there =
       let of_attribute = attribute-known ns named k e.attr can.props own in
       let of_parent = parent-known ns named k up there in
-      let site : site_of named ids ≡ Ok (record { attribute = e.attr; above = steps_of ns up }) =
+      let site : site_of named (record { id = length ns; attribute = id_in ns (node_of_attribute e.attr); parent = parent_id ns up }) ≡ Ok (record { attribute = e.attr; above = steps_of ns up }) =
       (λ i. or_fault kind.UnknownNode (of_attribute.at i) >>= (λ (n : reader.Node). if_there (known named) (parent_id ns up) >>= (λ (p : Option reader.Node). as_attribute n >>= (λ (a : Attribute). as_site a (steps_down p)))))
       ∙ (λ i. of_parent.known_by i >>= (λ (p : Option reader.Node). as_attribute of_attribute.node >>= (λ (a : Attribute). as_site a (steps_down p))))
       ∙ (λ i. or_fault kind.NotAttribute (of_attribute.is i) >>= (λ (a : Attribute). as_site a (steps_down of_parent.parent)))
       ∙ ap (as_site e.attr) of_parent.steps
       in
-      (λ i. site i >>= (λ (s : Site). node_value ids.attribute s.attribute (value_text e.value) >>= (λ (v : Variant). with_fitting named ids.id (node_there ids s v) (misfit ids.attribute s.above))))
-      ∙ (λ i. value-read i >>= (λ (v : Variant). with_fitting named ids.id (node_there ids (record { attribute = e.attr; above = steps_of ns up }) v) (misfit ids.attribute (steps_of ns up))))
-      ∙ ap (with_fitting named ids.id (stream_node ns up e)) fits
-      ∙ ap (with_node named ids.id (stream_node ns up e)) (k.free (length ns) (omega arith))
+      (λ i. site i >>= (λ (s : Site). node_value own_id s.attribute (value_text e.value) >>= (λ (v : Variant). with_fitting named (length ns) (there_at s v) (misfit own_id s.above))))
+      ∙ (λ i. value-read i >>= (λ (v : Variant). with_fitting named (length ns) (there_at (record { attribute = e.attr; above = steps_of ns up }) v) (misfit own_id (steps_of ns up))))
+      ∙ ap (with_fitting named (length ns) (stream_node ns up e)) fits
+      ∙ ap (with_node named (length ns) (stream_node ns up e)) (k.free (length ns) (omega arith))
     where
-      ids : NodeIds
-      ids = record { id = length ns; attribute = id_in ns (node_of_attribute e.attr); parent = parent_id ns up }
+      own_id : ℕ
+      own_id = id_in ns (node_of_attribute e.attr)
+
+      there_at : Site → Variant → reader.Node
+      there_at s v = node_there (record { id = length ns; attribute = own_id; parent = parent_id ns up }) s v
 
       as_site : Attribute → List Step → Result Site StreamKind
       as_site a above = Ok (record { attribute = a; above = above })

@@ -13,16 +13,13 @@ use Rattle.cal_line.specs.declared.field.Field.{Field}
 use Rattle.cal_line.proofs.FieldSteps.{fields_of-IsFields}
 use Rattle.cal_line.proofs.Inputs.{lines_of-newline}
 use Rattle.cal_value.specs.declared.record.Rec.{Rec}
-use Rattle.cal_read.specs.Fields.{or_fault, each, id_of, if_there, repeats_key, values_of}
+use Rattle.cal_read.specs.Fields.{or_fault, each, id_of, if_there, repeats_key, sort_of}
 use Rattle.cal_read.specs.NodeLines.{ids_of, texts_of, with_ids}
 use Rattle.cal_read.specs.Nodes.{Named}
 use Rattle.cal_read.specs.RecordLines.{record_of, record_of_ids}
 use Rattle.cal_read.specs.Stream.{Stream, line_step, step_by_fields, step_by_sort, step_by_text, with_record}
 use Rattle.cal_read.specs.declared.kind.StreamKind.{StreamKind}
 use Rattle.cal_read.specs.declared.kind.StreamKind.TheVariants as kind
-use Rattle.cal_read.specs.declared.node_texts.NodeIds.{NodeIds}
-use Rattle.cal_read.specs.declared.node_texts.NodeTexts.{NodeTexts}
-use Rattle.cal_read.specs.declared.sort.Sort.TheVariants.{OfNode, OfRow, OfGlobals}
 use Rattle.cal_stream.proofs.Texts.{uint_of-decimal}
 use Rattle.cal_stream.proofs.Fields.{IsTextField, first_field, fields_if, line_text, node_fields, record_fields, line-IsFields, no_newline-line, utf8-line}
 
@@ -70,12 +67,9 @@ ids-read : (id a : ℕ) (text : List ℕ) (p : Option ℕ) → id < 2 ^ 64 → a
     → ids_of (record { id = decimal id; attribute = decimal a; value = text; parent = option_map decimal p })
     ≡ Ok (record { id = id; attribute = a; parent = p })
 ids-read id a text p small_id small_a small_p =
-    (λ i. id_of-decimal id small_id i >>= (λ (n : ℕ). id_of (decimal a) >>= (λ (m : ℕ). if_there id_of (option_map decimal p) >>= (λ (q : Option ℕ). as_ids n m q))))
-    ∙ (λ i. id_of-decimal a small_a i >>= (λ (m : ℕ). if_there id_of (option_map decimal p) >>= (λ (q : Option ℕ). as_ids id m q)))
-    ∙ (λ i. parent-decimal p small_p i >>= (λ (q : Option ℕ). as_ids id a q))
-  where
-    as_ids : ℕ → ℕ → Option ℕ → Result NodeIds StreamKind
-    as_ids n m q = Ok (record { id = n; attribute = m; parent = q })
+    (λ i. id_of-decimal id small_id i >>= (λ (n : ℕ). id_of (decimal a) >>= (λ (m : ℕ). if_there id_of (option_map decimal p) >>= (λ (q : Option ℕ). Ok (record { id = n; attribute = m; parent = q })))))
+    ∙ (λ i. id_of-decimal a small_a i >>= (λ (m : ℕ). if_there id_of (option_map decimal p) >>= (λ (q : Option ℕ). Ok (record { id = id; attribute = m; parent = q }))))
+    ∙ (λ i. parent-decimal p small_p i >>= (λ (q : Option ℕ). Ok (record { id = id; attribute = a; parent = q })))
 
 node_texts : (id a : ℕ) (text : List ℕ) (p : Option ℕ)
     → texts_of (first_field (codes "node") ∷ node_fields id a text p)
@@ -91,13 +85,14 @@ pub step-node : (s : Stream) (id a : ℕ) (text : List ℕ) (p : Option ℕ) (no
     → with_ids s.nodes (record { id = id; attribute = a; parent = p }) text ≡ Ok nodes
     → step_by_fields s (first_field (codes "node") ∷ node_fields id a text p) ≡ Ok (record s { nodes = nodes })
 step-node s id a text p nodes small_id small_a small_p made =
-    let fields = first_field (codes "node") ∷ node_fields id a text p in
-    let texts = record { id = decimal id; attribute = decimal a; value = text; parent = option_map decimal p } in
-    ap (λ (b : Bool). if b then Err kind.BadField else step_by_sort s fields OfNode) (node-once id a text p)
-    ∙ (λ i. (node_texts id a text p i >>= (λ (found : NodeTexts). ids_of found >>= (λ (ids : NodeIds). with_ids s.nodes ids found.value))) >>= with_nodes)
-    ∙ (λ i. (ids-read id a text p small_id small_a small_p i >>= (λ (ids : NodeIds). with_ids s.nodes ids text)) >>= with_nodes)
+    ap (λ (b : Bool). if b then Err kind.BadField else (sort_of fields >>= (λ sort. step_by_sort s fields sort))) (node-once id a text p)
+    ∙ (λ i. (node_texts id a text p i >>= (λ found. ids_of found >>= (λ ids. with_ids s.nodes ids found.value))) >>= with_nodes)
+    ∙ (λ i. (ids-read id a text p small_id small_a small_p i >>= (λ ids. with_ids s.nodes ids text)) >>= with_nodes)
     ∙ (λ i. made i >>= with_nodes)
   where
+    fields : List Field
+    fields = first_field (codes "node") ∷ node_fields id a text p
+
     with_nodes : List Named → Result Stream StreamKind
     with_nodes found = Ok (record s { nodes = found })
 
@@ -154,11 +149,11 @@ record-read nodes sort refs columns texts r small_refs small_columns even means 
 pub step-row : (s : Stream) (refs columns texts : List (List ℕ)) (r : Rec) → record_of s.nodes (first_field (codes "ctx") ∷ record_fields refs columns texts) ≡ Ok r
     → step_by_fields s (first_field (codes "ctx") ∷ record_fields refs columns texts) ≡ Ok (record s { rows = s.rows ++ r ∷ [] })
 step-row s refs columns texts r means =
-    ap (λ (b : Bool). if b then Err kind.BadField else step_by_sort s (first_field (codes "ctx") ∷ record_fields refs columns texts) OfRow) (record-once (codes "ctx") refs columns texts)
+    ap (λ (b : Bool). if b then Err kind.BadField else (sort_of (first_field (codes "ctx") ∷ record_fields refs columns texts) >>= (λ sort. step_by_sort s (first_field (codes "ctx") ∷ record_fields refs columns texts) sort))) (record-once (codes "ctx") refs columns texts)
     ∙ (λ i. means i >>= (λ (row : Rec). Ok (record s { rows = s.rows ++ row ∷ [] })))
 
 pub step-globals : (s : Stream) (refs columns texts : List (List ℕ)) (r : Rec) → record_of s.nodes (first_field (codes "globals") ∷ record_fields refs columns texts) ≡ Ok r
     → step_by_fields s (first_field (codes "globals") ∷ record_fields refs columns texts) ≡ Ok (record s { globals = with_record s.globals r })
 step-globals s refs columns texts r means =
-    ap (λ (b : Bool). if b then Err kind.BadField else step_by_sort s (first_field (codes "globals") ∷ record_fields refs columns texts) OfGlobals) (record-once (codes "globals") refs columns texts)
+    ap (λ (b : Bool). if b then Err kind.BadField else (sort_of (first_field (codes "globals") ∷ record_fields refs columns texts) >>= (λ sort. step_by_sort s (first_field (codes "globals") ∷ record_fields refs columns texts) sort))) (record-once (codes "globals") refs columns texts)
     ∙ (λ i. means i >>= (λ (more : Rec). Ok (record s { globals = with_record s.globals more })))
