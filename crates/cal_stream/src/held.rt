@@ -1,21 +1,46 @@
-ghost use Rattle.std.specs.Prelude.{All};
-ghost use Rattle.cal_stream.specs.Readable.{IsHeldEntry, IsHeldRecord};
+ghost use Rattle.std.specs.Prelude.{◌<◌, ◌^◌, All, IsUtf8};
+ghost use Rattle.cal_stream.specs.Readable.{IsHeldEntry, IsHeldRecord, IsHeldText};
 
-use cal_value::{Entry, Rec, Seq, Variant, printed_reads_back};
+use cal_value::{Entry, Props, Rec, Seq, Text, Variant, printed_reads_back};
 
-// What the types say of an entry, which reading it shows.
+// What the types say of records, which reading them shows.
+
+fn see_text(text: &Text)
+    ensures { IsUtf8 text.now }
+{
+    let _ = text.as_str();
+}
+
+fn see_props(props: Props)
+    ensures { props.0 < 2 ^ 32 }
+{
+    let _bits = props.0;
+}
+
+fn see_value(value: &Variant)
+    ensures { IsHeldText value.now }
+{
+    match value {
+        Variant::Text(text) => see_text(text),
+        Variant::Real(text) => see_text(text),
+        Variant::Usr(text) => see_text(text),
+        Variant::Ptr(text) => see_text(text),
+        Variant::Int(_) => {}
+        Variant::Uint(_) => {}
+        Variant::Bool(_) => {}
+        Variant::Addr(_) => {}
+        Variant::Kind(_) => {}
+        Variant::Fixed(_) => {}
+    }
+}
+
 fn see_entry(entry: &Entry)
     ensures { IsHeldEntry entry.now }
 {
-    let _ = entry.attr.name.as_str();
-    let _ = entry.attr.props.0;
+    see_text(&entry.attr.name);
+    see_props(entry.attr.props);
+    see_value(&entry.value);
     printed_reads_back(&entry.value);
-    let _ = match &entry.value {
-        Variant::Text(text) | Variant::Real(text) | Variant::Usr(text) | Variant::Ptr(text) => {
-            text.as_str()
-        }
-        _ => "",
-    };
 }
 
 fn see_entries(entries: &Seq<Entry>)
