@@ -1,5 +1,5 @@
--- There are no more new nodes than bytes.
-use Rattle.std.proofs.Common.{◌≡◌, ◌+◌, ◌-◌, ◌<◌, ◌≤◌, ℕ, Bool, true, false, ◌&&◌, List, [], ◌∷◌}
+-- Each new node has two bytes of the text at least, so 64 bits hold the ids of a text in memory.
+use Rattle.std.proofs.Common.{◌≡◌, ◌+◌, ◌*◌, ◌-◌, ◌<◌, ◌≤◌, ℕ, Bool, true, false, ◌&&◌, List, [], ◌∷◌}
 use Rattle.std.proofs.Common.{◌++◌, length, pos, fold, refl, sym, subst, arith, eqb, lit<}
 use Rattle.std.proofs.Common.{if◌then◌else◌}
 use Rattle.std.specs.Prelude.{◌==◌, Option, codes, filter}
@@ -78,14 +78,14 @@ some-record r =
 
 -- ---- so each new one has a line
 
-line-some : (ns : List Node) (n : Node) → 0 < length n → 0 < length (line_of_node ns n)
+line-some : (ns : List Node) (n : Node) → 0 < length n → 1 < length (line_of_node ns n)
 line-some ns [] some = absurd (omega arith)
 line-some ns (e ∷ up) some =
     let at = slice_get-get_or (e ∷ up) (length (e ∷ up) - 1) e (omega arith) in
-    subst (λ (o : Option Entry). 0 < length (line_of_entry ns (e ∷ up) o)) (sym at) (omega arith)
+    subst (λ (o : Option Entry). 1 < length (line_of_entry ns (e ∷ up) o)) (sym at) (omega arith)
 
 counted : (ns needed : List Node) → AllByRecursion IsSomeNode needed
-    → length (fold with_node ns needed) ≤ length ns + length (lines_of_new ns needed)
+    → 2 * length (fold with_node ns needed) ≤ 2 * length ns + length (lines_of_new ns needed)
 counted ns [] some = omega arith
 counted ns (n ∷ needed) some =
     let line : List ℕ = if list_any (same_node n) ns then [] else line_of_node (ns ++ n ∷ []) n in
@@ -94,14 +94,16 @@ counted ns (n ∷ needed) some =
     let joined = length-append line (lines_of_new (with_node ns n) needed) in
     omega arith
   where
-    by : (b : Bool) → length (if b then ns else ns ++ n ∷ []) ≤ length ns + length
-        (if b then [] else line_of_node (ns ++ n ∷ []) n)
+    by : (b : Bool) → 2 * length (if b then ns else ns ++ n ∷ [])
+        ≤ 2 * length ns + length (if b then [] else line_of_node (ns ++ n ∷ []) n)
     by true = omega arith
-    by false = let longer = length_push ns n in let written = line-some
-        (ns ++ n ∷ []) n some.0 in omega arith
+    by false =
+        let longer = length_push ns n in
+        let written = line-some (ns ++ n ∷ []) n some.0 in
+        omega arith
 
 counted-record : (ns : List Node) (sort : List ℕ) (r : Rec)
-    → length (with_record ns r) ≤ length ns + length (record_text sort ns r)
+    → 2 * length (with_record ns r) ≤ 2 * length ns + length (record_text sort ns r)
 counted-record ns sort r =
     let some = counted ns (needed_by_record r) (some-record r) in
     let joined = length-append (lines_of_new ns (needed_by_record r))
@@ -109,7 +111,7 @@ counted-record ns sort r =
     omega arith
 
 counted-rows : (rows : List Rec) (ns : List Node)
-    → length (fold with_record ns rows) ≤ length ns + length (rows_text ns rows)
+    → 2 * length (fold with_record ns rows) ≤ 2 * length ns + length (rows_text ns rows)
 counted-rows [] ns = omega arith
 counted-rows (r ∷ rows) ns =
     let one = counted-record ns (codes "ctx") r in
@@ -131,14 +133,14 @@ nothing-described [] none = refl
 nothing-described (e ∷ imms) none = absurd (omega arith)
 
 counted-globals : (ns : List Node) (g : Rec)
-    → length (with_record ns g) ≤ length ns + length (globals_text ns g)
+    → 2 * length (with_record ns g) ≤ 2 * length ns + length (globals_text ns g)
 counted-globals ns g = by ((length (ends g) == 0) && (length g.imms == 0)) refl
   where
     text : Bool → List ℕ
     text b = if b then [] else record_text (codes "globals") ns g
 
     by : (b : Bool) → ((length (ends g) == 0) && (length g.imms == 0)) ≡ b
-        → length (with_record ns g) ≤ length ns + length (globals_text ns g)
+        → 2 * length (with_record ns g) ≤ 2 * length ns + length (globals_text ns g)
     by true none =
         let parts = and_parts (length (ends g) == 0) (length g.imms == 0) none in
         let no_paths = nothing-needed g.paths ((Decides-eqb (length (ends g)) 0).0 parts.0) in
@@ -146,11 +148,11 @@ counted-globals ns g = by ((length (ends g) == 0) && (length g.imms == 0)) refl
         let same : length (with_record ns g)
         ≡ length ns = λ j. length (fold with_node ns (no_paths j ++ no_imms j)) in
         omega arith
-    by false some = subst (λ (b : Bool). length (with_record ns g) ≤ length ns + length (text b))
+    by false some = subst (λ (b : Bool). 2 * length (with_record ns g) ≤ 2 * length ns + length (text b))
         (sym some) (counted-record ns (codes "globals") g)
 
 pub counted-nodes : (rs : Records)
-    → length (with_record (nodes rs.rows) rs.globals) ≤ 12 + length (canonical_text rs)
+    → 2 * length (with_record (nodes rs.rows) rs.globals) ≤ 24 + length (canonical_text rs)
 unfolding built_in
 counted-nodes rs =
     let rows = counted-rows rs.rows built_in in

@@ -12,3 +12,4 @@ mod Records
 mod Begin
 mod ReadsBack
 mod Counted
+mod Back

@@ -1,4 +1,4 @@
-ghost use Rattle.std.specs.Prelude.{◌<◌, ◌^◌, All, IsUtf8};
+ghost use Rattle.std.specs.Prelude.{◌<◌, ◌^◌, All, IsUtf8, length};
 ghost use Rattle.cal_stream.specs.Readable.{IsHeldEntry, IsHeldRecord, IsHeldText};
 
 use cal_value::{Entry, Props, Rec, Seq, Text, Variant, printed_reads_back};
@@ -9,6 +9,12 @@ fn see_text(text: &Text)
     ensures { IsUtf8 text.now }
 {
     let _ = text.as_str();
+}
+
+pub(crate) fn see_length(text: &Text)
+    ensures { length text.now < 2 ^ 64 }
+{
+    let _length = text.len();
 }
 
 fn see_props(props: Props)

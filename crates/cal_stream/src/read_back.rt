@@ -2,8 +2,7 @@ ghost use Rattle.std.specs.Prelude.{◌≡◌, IfErr, IfOk};
 ghost use Rattle.cal_read.specs.declared.end.StreamEnd.TheVariants.{OutOfMemory};
 ghost use Rattle.cal_stream.specs.Readable.{AreReadable};
 
-use crate::held::{see_record, see_rows};
-use crate::records_read_back;
+use crate::held::{see_length, see_record, see_rows};
 use cal_read::{StreamEnd, one_reading, read_records};
 use cal_value::Records;
 use cal_write::cali_text;
@@ -16,8 +15,8 @@ pub fn read_back(alloc: Global, records: &Records) -> Result<Records, StreamEnd>
 {
     see_rows(&records.rows);
     see_record(&records.globals);
-    records_read_back();
     one_reading();
     let text = cali_text(alloc, records)?;
+    see_length(&text);
     read_records(alloc, text.as_str().as_bytes())
 }
