@@ -1,5 +1,6 @@
 -- Each new node has two bytes of the text at least, so 64 bits hold the ids of a text in memory.
-use Rattle.std.proofs.Common.{◌≡◌, ◌+◌, ◌*◌, ◌-◌, ◌<◌, ◌≤◌, ℕ, Bool, true, false, ◌&&◌, List, [], ◌∷◌}
+use Rattle.std.proofs.Common.{◌≡◌, ◌+◌, ◌*◌, ◌-◌, ◌<◌, ◌≤◌, ℕ, Bool, true, false, ◌&&◌, List, []}
+use Rattle.std.proofs.Common.{◌∷◌}
 use Rattle.std.proofs.Common.{◌++◌, length, pos, fold, refl, sym, subst, arith, eqb, lit<}
 use Rattle.std.proofs.Common.{if◌then◌else◌}
 use Rattle.std.specs.Prelude.{◌==◌, Option, codes, filter}
@@ -148,7 +149,8 @@ counted-globals ns g = by ((length (ends g) == 0) && (length g.imms == 0)) refl
         let same : length (with_record ns g)
         ≡ length ns = λ j. length (fold with_node ns (no_paths j ++ no_imms j)) in
         omega arith
-    by false some = subst (λ (b : Bool). 2 * length (with_record ns g) ≤ 2 * length ns + length (text b))
+    by false some = subst
+        (λ (b : Bool). 2 * length (with_record ns g) ≤ 2 * length ns + length (text b))
         (sym some) (counted-record ns (codes "globals") g)
 
 pub counted-nodes : (rs : Records)

@@ -5,7 +5,7 @@
 
 mod held;
 mod laws;
-mod read_back;
+mod round_trip;
 
 pub use laws::records_read_back;
-pub use read_back::read_back;
+pub use round_trip::read_back;

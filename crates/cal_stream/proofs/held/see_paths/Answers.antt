@@ -14,11 +14,14 @@ loop-path-preserved c =
     let at : c.path-item.result ≡ get_or c.args.paths.now i c.path-item.result =
     c.path-item.is ∙ ap (λ xs. get_or xs i c.path-item.result) c.as_slice-path-items.ensures
     in
-    All-more (λ (path : List Entry). All IsHeldEntry path) c.args.paths.now i c.path-item.result within c.loop-path.invariant (subst (λ (path : List Entry). All IsHeldEntry path) at c.see_entries.ensures)
+    All-more (λ (path : List Entry). All IsHeldEntry path) c.args.paths.now i c.path-item.result
+    within c.loop-path.invariant
+    (subst (λ (path : List Entry). All IsHeldEntry path) at c.see_entries.ensures)
 
 pub returns : goal.returns
 returns c =
     let i = c.loop-path.path-index in
     let same = ap length c.as_slice-path-items.ensures in
     let past : length c.args.paths.now ≤ i = omega arith in
-    All-same (λ (path : List Entry). All IsHeldEntry path) c.args.paths.now (take i c.args.paths.now) (sym (take_all i c.args.paths.now past)) c.loop-path.invariant
+    All-same (λ (path : List Entry). All IsHeldEntry path) c.args.paths.now
+    (take i c.args.paths.now) (sym (take_all i c.args.paths.now past)) c.loop-path.invariant

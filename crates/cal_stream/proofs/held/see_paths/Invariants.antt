@@ -5,4 +5,5 @@ use Rattle.cal_stream.specs.Readable.{IsHeldEntry}
 use Rattle.cal_stream.proofs.held.see_paths.Given as goal
 
 abbrev pub invariant-loop-path : goal.invariant-loop-path
-invariant-loop-path l = All (λ (path : List Entry). All IsHeldEntry path) (take l.path-index l.paths)
+invariant-loop-path l = All (λ (path : List Entry). All IsHeldEntry path)
+    (take l.path-index l.paths)
