@@ -1,9 +1,9 @@
-mod EscapeLemmas
+pub mod EscapeLemmas
 mod LineLemmas
-mod PlaceLemmas
-mod AfterLemmas
-mod StreamLemmas
-mod BuiltInLemmas
+pub mod PlaceLemmas
+pub mod AfterLemmas
+pub mod StreamLemmas
+pub mod BuiltInLemmas
 mod DescribeLemmas
 mod KeptLemmas
 mod RecordLemmas

@@ -1,0 +1,15 @@
+mod Texts
+mod Fields
+mod Steps
+mod Knows
+mod Attributes
+mod NewNodes
+mod Needed
+mod Premises
+mod Values
+mod NeededLists
+mod Records
+mod Begin
+mod ReadsBack
+mod Counted
+mod Back
