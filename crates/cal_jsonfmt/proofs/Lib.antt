@@ -1,0 +1,4 @@
+pub mod Escapes
+pub mod Texts
+pub mod MemberLemmas
+pub mod CellValues
