@@ -7,10 +7,10 @@ use Rattle.cal_jsonfmt.specs.Strings.{escaped_byte, string_json}
 -- one test after another; the library tests the letter, which isn't 0
 chosen : (q b f n r t low : Bool) (x : ℕ) (long : List ℕ) → (q ≡ true → nat_lt 0 x ≡ true)
     → cond (nat_lt 0 (cond q x (cond b 98 (cond f 102 (cond n 110 (cond r 114 (cond t 116 0)))))))
-        (92 ∷ cond q x (cond b 98 (cond f 102 (cond n 110 (cond r 114 (cond t 116 0))))) ∷ [])
-        (cond low long (x ∷ []))
+    (92 ∷ cond q x (cond b 98 (cond f 102 (cond n 110 (cond r 114 (cond t 116 0))))) ∷ [])
+    (cond low long (x ∷ []))
     ≡ (if q then 92 ∷ x ∷ [] else (if b then codes "\\b" else (if f then codes "\\f" else (if n then codes "\\n"
-        else (if r then codes "\\r" else (if t then codes "\\t" else (if low then long else x ∷ [])))))))
+    else (if r then codes "\\r" else (if t then codes "\\t" else (if low then long else x ∷ [])))))))
 chosen true b f n r t low x long above = rw (above refl) refl
 chosen false true f n r t low x long above = refl
 chosen false false true n r t low x long above = refl

@@ -40,7 +40,7 @@ fn put_member(
         → ShowsRow shown.now columns row → place < length columns
         → column.now ≡ nth_column columns place → PrintMembers members.old.entries before
         → PrintMembers members.new.entries (with_member before column.now.header
-            (json_of (shown_values row column.now.name)))) }
+        (json_of (shown_values row column.now.name)))) }
 {
     let Some(cell) = shown.cell(place) else {
         return Ok(());

@@ -22,11 +22,7 @@ pub fn json_text(alloc: Global, answer: &Rowset) -> Result<Text, OutOfMemory>
 }
 
 /// The object of each row.
-fn row_values(
-    alloc: Global,
-    columns: &[Column],
-    rows: &[Rec],
-) -> Result<Vec<Value>, OutOfMemory>
+fn row_values(alloc: Global, columns: &[Column], rows: &[Rec]) -> Result<Vec<Value>, OutOfMemory>
     ensures { IfOk result (λ values.
         PrintEach values.items (map (row_json columns.now) rows.now)) }
 {
