@@ -1,4 +1,3 @@
 pub mod Escapes
 pub mod Texts
 pub mod MemberLemmas
-pub mod CellValues

@@ -4,7 +4,7 @@ use Rattle.std.proofs.Common.{String, Global, string_bytes}
 use Rattle.std.specs.List.{All, join_with_byte}
 use Rattle.std.specs.Map.{values_of}
 use Rattle.std.proofs.lemmas.List.Elements.{All-head, All-tail}
-use Rattle.serde_json.specs.Data.{Data, array, item, object, string}
+use Rattle.serde_json.specs.Data.{array, item, object, string}
 use Rattle.serde_json.specs.View.{items_of, members_view, view}
 use Rattle.serde_json.specs.Written.{compact_text, has_float, items_have_float, items_text, members_have_float, members_text}
 use Rattle.serde_json.specs.declared.value.Value.{Value}
@@ -34,7 +34,9 @@ member-before : (key value rest : List ℕ) → string_json key ++ 58 ∷ (value
 member-before key value rest = sym (append_assoc (string_json key) (58 ∷ value) rest)
 
 members_text-joined : (e : Entry) (es : List Entry) → members_text false (members_view (e ∷ es)) ≡ join_with_byte 44 (map member_json (map entry_text (e ∷ es))) ++ 125 ∷ []
-members_text-joined e [] = rw (quoted-is (string_bytes e.0)) (member-before (string_bytes e.0) (text_of e.1) (125 ∷ []))
+members_text-joined e [] =
+    ap (λ (t : List ℕ). t ++ 58 ∷ (text_of e.1 ++ 125 ∷ [])) (quoted-is (string_bytes e.0))
+    ∙ member-before (string_bytes e.0) (text_of e.1) (125 ∷ [])
 members_text-joined e (f ∷ es) =
     let later = join_with_byte 44 (map member_json (map entry_text (f ∷ es))) in
     ap (λ (t : List ℕ). t ++ 58 ∷ (text_of e.1 ++ 44 ∷ members_text false (members_view (f ∷ es)))) (quoted-is (string_bytes e.0))
@@ -59,16 +61,16 @@ no_float-members [] none = refl
 no_float-members (e ∷ es) none = both_false _ _ (All-head HasNoFloat e.1 (values_of es) none) (no_float-members es (All-tail HasNoFloat e.1 (values_of es) none))
 
 pub Prints-array : (v : Value) (vs : List Value) (texts : List (List ℕ)) → view v ≡ array (items_of (map view vs)) → PrintEach vs texts → Prints v (array_json texts)
-Prints-array v vs texts is printed = record {
-  no_float = ap has_float is ∙ no_float-items vs printed.no_floats;
-  text = ap compact_text is ∙ array-text vs ∙ ap array_json printed.texts;
+Prints-array v vs texts viewed printed = record {
+  no_float = ap has_float viewed ∙ no_float-items vs printed.no_floats;
+  is = ap compact_text viewed ∙ array-text vs ∙ ap array_json printed.are;
 }
 
 pub Prints-object : (v : Value) (es : List Entry) (ms : List Member) → view v ≡ object (members_view es) → PrintMembers es ms → Prints v (object_json ms)
-Prints-object v es ms is printed = record {
-  no_float = ap has_float is ∙ no_float-members es printed.no_floats;
-  text = ap compact_text is ∙ object-text es ∙ ap object_json printed.members;
+Prints-object v es ms viewed printed = record {
+  no_float = ap has_float viewed ∙ no_float-members es printed.no_floats;
+  is = ap compact_text viewed ∙ object-text es ∙ ap object_json printed.are;
 }
 
 pub Prints-string : (v : Value) (text : List ℕ) → view v ≡ string text → Prints v (string_json text)
-Prints-string v text is = record { no_float = ap has_float is; text = ap compact_text is ∙ quoted-is text }
+Prints-string v text viewed = record { no_float = ap has_float viewed; is = ap compact_text viewed ∙ quoted-is text }

@@ -18,7 +18,7 @@ text_of v = compact_text (view v)
 -- a value prints as this text
 pub record Prints (v : Value) (text : List ℕ) : Type 0 where
   pub no_float : HasNoFloat v
-  pub text : text_of v ≡ text
+  pub is : text_of v ≡ text
 
 -- or there is neither
 abbrev pub PrintsIf : Option Value → Option (List ℕ) → Type 0
@@ -30,9 +30,9 @@ PrintsIf (Some v) (Some text) = Prints v text
 -- values print as these texts
 pub record PrintEach (vs : List Value) (texts : List (List ℕ)) : Type 0 where
   pub no_floats : All HasNoFloat vs
-  pub texts : map text_of vs ≡ texts
+  pub are : map text_of vs ≡ texts
 
 -- and so do the values of a map, under these keys
 pub record PrintMembers (es : List (String Global × Value)) (ms : List Member) : Type 0 where
   pub no_floats : All HasNoFloat (values_of es)
-  pub members : map (λ e. (string_bytes e.0, text_of e.1)) es ≡ ms
+  pub are : map (λ e. (string_bytes e.0, text_of e.1)) es ≡ ms

@@ -63,3 +63,12 @@ fn an_empty_answer_is_an_empty_array(rt: HostRuntime) -> Result<(), Fail> {
     assert_eq!(rt; json_text(rt.alloc(), &none)?.as_str(), "[]\n");
     Ok(())
 }
+
+#[test]
+fn a_path_is_a_string_with_its_escapes(rt: HostRuntime) -> Result<(), Fail> {
+    let row: Row<'_> = (&[&[("function", 276, Value::Text("a,b=c\\d\ne"))]], &[]);
+    let rows = answer(rt.alloc(), &[row], &[("path", "path")], true)?;
+    let text = json_text(rt.alloc(), &rows)?;
+    assert_eq!(rt; text.as_str(), "[{\"path\":\"a,b=c\\\\d\\ne\"}]\n");
+    Ok(())
+}
