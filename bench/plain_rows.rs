@@ -1,5 +1,5 @@
-// The probing of `bench rows` and `bench tree` over plain atomics; `bench/rows` and `bench/tree` build
-// it and run it beside them, the latter with the word `tree`.
+// The probing of `bench rows` and `bench tree` over plain atomics; the scripts `bench/rows` and
+// `bench/tree` build it and run it beside them, the latter with the word `tree`.
 use std::sync::atomic::{AtomicU64, Ordering::SeqCst};
 use std::time::Instant;
 

@@ -31,8 +31,8 @@ const RUN: Shape = Shape {
     arenas: 2,
 };
 
-/// Times a million calls for a child with names, and with texts, in either shape: by one seat, which
-/// makes the nodes, and by another one, which finds them.
+/// Times a million calls for a child with names, and with texts, in either shape: by one seat,
+/// which makes the nodes, and by another one, which finds them.
 pub fn measure(rt: &(impl Clock + Print + AllocGlobal)) -> Result<()> {
     let names = values(rt.alloc(), "main")?;
     let texts = values(rt.alloc(), "solver/src/of/a/long/path/main.cpp, line ")?;

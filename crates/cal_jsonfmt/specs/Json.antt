@@ -15,14 +15,14 @@ use Rattle.cal_rowset.specs.declared.rowset.Rowset.{Rowset}
 use Rattle.cal_jsonfmt.specs.Strings.{string_json}
 
 -- a whole number that 64 bits hold, with a sign or without
-abbrev pub is_small : ℤ → Bool
-is_small (pos n) = nat_lt n (2 ^ 64)
-is_small (negsuc n) = nat_lt n (2 ^ 63)
+abbrev pub fits_64_bits : ℤ → Bool
+fits_64_bits (pos n) = nat_lt n (2 ^ 64)
+fits_64_bits (negsuc n) = nat_lt n (2 ^ 63)
 
 -- a cell of one such number is a number, and every other cell a string
 abbrev pub is_number : Content → Bool
 is_number Nothing = false
-is_number (Whole n) = is_small n
+is_number (Whole n) = fits_64_bits n
 is_number Decimal = false
 is_number Words = false
 
@@ -37,7 +37,7 @@ json_of vs = option_map (value_json (content_of vs)) (cell_of vs)
 abbrev pub Member : Type 0
 Member = List ℕ × List ℕ
 
--- the members with one more, unless it is absent: keys come by bytes, and of one key the last counts
+-- the members with one more, unless it is absent: keys come by bytes, of one key the last counts
 abbrev pub with_member : List Member → List ℕ → Option (List ℕ) → List Member
 with_member members key None = members
 with_member members key (Some value) = insert_entry (slice_cmp nat_cmp) members key value

@@ -3,8 +3,9 @@ use Rattle.std.specs.Prelude.{ℕ, ◌==◌, ◌||◌, ◌/◌, ◌%◌, nat_lt,
 use Rattle.std.specs.Prelude.{flat_map, if◌then◌else◌}
 use Rattle.std.specs.Char.{digit_char}
 
--- A byte of a string: a quote and a backslash behind a backslash, a control character by its letter,
--- if it has one, and else by its number, and every other byte as it is (RFC 8259, the shortest form).
+-- A byte of a string: a quote and a backslash behind a backslash, a control character by its
+-- letter, if it has one, and else by its number, and every other byte as it is (RFC 8259, the
+-- shortest form).
 abbrev pub escaped_byte : ℕ → List ℕ
 escaped_byte b =
     if (b == 34) || (b == 92) then 92 ∷ b ∷ []
