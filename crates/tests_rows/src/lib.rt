@@ -6,6 +6,10 @@
 #![tactic(auto)]
 
 #[cfg(test)]
+mod histories;
+#[cfg(test)]
+mod shared_trees;
+#[cfg(test)]
 mod tables;
 #[cfg(test)]
 mod trees;
