@@ -1,5 +1,6 @@
 pub mod Filtering
 pub mod SlotLemmas
+pub mod LimitLemmas
 pub mod StandingLemmas
 pub mod PathLemmas
 pub mod ContextLemmas

@@ -8,7 +8,7 @@ use Rattle.std.proofs.Math.Seq.{take-take}
 use Rattle.std.specs.List.{take-map}
 use Rattle.std.proofs.lemmas.Option.{slice_get-get_or, slice_get-map}
 use Rattle.std.proofs.lemmas.Slice.Zip.{AllZip-long}
-use Rattle.cal_board.specs.Blackboard.{Blackboard, begin_reply, begun, board_after, changed, depth_at, end_reply, if_done, is_top, opened_instead, opened_more, reply_to, room_reply, slot_number, top_at, with_values}
+use Rattle.cal_board.specs.Blackboard.{Blackboard, begin_reply, begun, board_after, changed, depth_at, end_reply, ended, if_done, is_top, opened_instead, opened_more, reply_to, room_reply, slot_number, top_at, with_values}
 use Rattle.cal_board.specs.Slots.{front, last_attribute, last_value, opened_in, slot_of, with_slot}
 use Rattle.cal_board.specs.Standing.{IsParent, OpenedStand, SlotStands, Stands, Steps}
 use Rattle.cal_board.specs.declared.attr.AttrRef.{AttrRef}
@@ -30,7 +30,7 @@ module _ {A B : Type 0} (R : A → B → Type 0) where
   AllZip-cond false true e x y r xs ys z = absurd (true≢false (sym e))
   AllZip-cond false false e x y r xs ys z = z
 
-  AllZip-filter : (p : A → Bool) (q : B → Bool) → ((x : A) (y : B) → R x y → p x ≡ q y)
+  pub AllZip-filter : (p : A → Bool) (q : B → Bool) → ((x : A) (y : B) → R x y → p x ≡ q y)
       → (xs : List A) (ys : List B) → AllZip R xs ys → AllZip R (filter p xs) (filter q ys)
   AllZip-filter p q same [] [] h = h
   AllZip-filter p q same [] (y ∷ ys) h = absurd h
@@ -38,13 +38,13 @@ module _ {A B : Type 0} (R : A → B → Type 0) where
   AllZip-filter p q same (x ∷ xs) (y ∷ ys) h =
       AllZip-cond (p x) (q y) (same x y h.0) x y h.0 (filter p xs) (filter q ys) (AllZip-filter p q same xs ys h.1)
 
-  AllZip-append : (xs us : List A) (ys vs : List B) → AllZip R xs ys → AllZip R us vs → AllZip R (xs ++ us) (ys ++ vs)
+  pub AllZip-append : (xs us : List A) (ys vs : List B) → AllZip R xs ys → AllZip R us vs → AllZip R (xs ++ us) (ys ++ vs)
   AllZip-append [] us [] vs h g = g
   AllZip-append [] us (y ∷ ys) vs h g = absurd h
   AllZip-append (x ∷ xs) us [] vs h g = absurd h
   AllZip-append (x ∷ xs) us (y ∷ ys) vs h g = (h.0, AllZip-append xs us ys vs h.1 g)
 
-  AllZip-weaken : (S : A → B → Type 0) → ((x : A) (y : B) → R x y → S x y) → (xs : List A) (ys : List B) → AllZip R xs ys → AllZip S xs ys
+  pub AllZip-weaken : (S : A → B → Type 0) → ((x : A) (y : B) → R x y → S x y) → (xs : List A) (ys : List B) → AllZip R xs ys → AllZip S xs ys
   AllZip-weaken S f [] [] h = h
   AllZip-weaken S f [] (y ∷ ys) h = absurd h
   AllZip-weaken S f (x ∷ xs) [] h = absurd h
@@ -229,6 +229,21 @@ module _ {N : Type 0} (P : N → List (Opened Variant) → Type 0) where
         by NotOpen e = s
         by TooDeep e = s
         by SlotsFull e = s
+
+-- an `end`
+pub ended-Stands : {N : Type 0} (P : N → List (Opened Variant) → Type 0) (held : Blackboard N) (b : Blackboard Variant)
+    (a : AttrRef) (v : Variant) → Stands P held b → Stands P (ended held a) (board_after b End a v v)
+ended-Stands {N} P held b a v is =
+    subst (λ r. Stands P (ended held a) (if_done r (with_values b a front front) b)) (reply_to-Stands P held b is a End)
+    (by (reply_to held End a))
+  where
+    by : (r : replies.BoardReply) → Stands P (if_done r (with_values held a front front) held) (if_done r (with_values b a front front) b)
+    by Done = with_values-Stands P held b a front front front is
+        (OpenedStand-front P _ _ (opened_in-Stands P (slot_number a) held.references b.references is.references))
+    by (Mismatch t) = is
+    by NotOpen = is
+    by TooDeep = is
+    by SlotsFull = is
 
 -- ---- growth
 

@@ -1,10 +1,12 @@
 -- What `begin`, `end` and `set` do to a blackboard. Boards come from Caliper's data model; that
 -- every slot is a stack, the rule of `set`, the replies and the limits are Giltmoth's.
 use Rattle.std.specs.Prelude.{ℕ, ◌+◌, List, [], ◌∷◌, ◌++◌, length, Bool, true, false, ◌&&◌, ◌==◌}
-use Rattle.std.specs.Prelude.{if◌then◌else◌, nat_le, Option, Some, None}
+use Rattle.std.specs.Prelude.{if◌then◌else◌, nat_le, nat_lt, Option, Some, None, All, filter, map}
+use Rattle.std.specs.Prelude.{◌≤◌}
 use Rattle.cal_board.specs.Slots.{front, last_attribute, opened_in, with_slot}
 use Rattle.cal_board.specs.declared.attr.AttrRef.{AttrRef}
 use Rattle.cal_board.specs.declared.opened.Opened.{Opened}
+use Rattle.cal_board.specs.declared.opened.Slot.{Slot}
 use Rattle.cal_board.specs.declared.opened.Slot.{Slot}
 use Rattle.cal_board.specs.declared.reply.BoardReply as replies
 use Rattle.cal_board.specs.declared.reply.BoardReply.TheVariants as reply
@@ -75,6 +77,23 @@ module _ {V : Type 0} where
             b.references;
         as_values = b.as_values;
       }
+
+-- how many values stand in each slot of an attribute that isn't nested
+abbrev pub own_depths : {A : Type 0} → List (Slot A) → List ℕ
+own_depths {A} slots = map (λ (s : Slot A). length s.opened)
+    (filter (λ (s : Slot A). nat_lt 0 s.number) slots)
+
+module _ {V : Type 0} where
+  -- How many values stand in the slot of the nested attributes, then in each other slot that holds
+  -- values: those of reference attributes first.
+  abbrev pub depths : Blackboard V → List ℕ
+  depths b = length (opened_in 0 b.references) ∷ own_depths b.references ++ own_depths b.as_values
+
+  -- no board has more slots or values than lines may open
+  pub record IsWithin (b : Blackboard V) : Type 0 where
+    pub slots : length b.references + length b.as_values ≤ 64
+    pub references : All (λ (s : Slot V). length s.opened ≤ 128) b.references
+    pub as_values : All (λ (s : Slot Variant). length s.opened ≤ 128) b.as_values
 
 -- a value opened behind others, and a value in the place of the last one
 abbrev pub opened_more : {A : Type 0} → ℕ → A → List (Opened A) → List (Opened A)

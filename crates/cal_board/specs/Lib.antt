@@ -4,3 +4,4 @@ pub mod Standing
 pub mod Contexts
 pub mod ContextGrowth
 pub mod PathBoards
+pub mod Readings

@@ -1,11 +1,13 @@
-ghost use Rattle.std.specs.Prelude.{◌≡◌, ◌<◌, [], ◌∷◌, ◌++◌, IfOk, OnOk, OnErr, option_copied};
-ghost use Rattle.cal_board.specs.Blackboard.{begin_reply, begun, depth_at, end_reply, ended};
+ghost use Rattle.std.specs.Prelude.{◌≡◌, ◌+◌, ◌<◌, ◌≤◌, [], ◌∷◌, ◌++◌, IfOk, OnOk, OnErr, All, length};
+ghost use Rattle.std.specs.Prelude.{option_copied, take};
+ghost use Rattle.cal_board.specs.Blackboard.{IsWithin, begin_reply, begun, depth_at, depths, end_reply, ended};
 ghost use Rattle.cal_board.specs.Blackboard.{is_top, nothing_open, opened_instead, reply_to};
-ghost use Rattle.cal_board.specs.Blackboard.{slot_number, top_at, with_values};
+ghost use Rattle.cal_board.specs.Blackboard.{own_depths, slot_number, top_at, with_values};
 ghost use Rattle.cal_board.specs.PathBoards.{last_at};
-ghost use Rattle.cal_board.specs.Slots.{front, last_attribute, last_value, opened_in};
+ghost use Rattle.cal_board.specs.Slots.{AreOrdered, front, last_attribute, last_value, opened_in};
 ghost use Rattle.cal_board.specs.Standing.{StandsForSome, StandsThen, Steps, immediate_of};
 ghost use Rattle.cal_board.specs.Standing.{last_immediates, last_nodes};
+ghost use Rattle.cal_board.specs.declared.reply.BoardReply.TheVariants as reply;
 ghost use Rattle.cal_words.specs.declared.op.OpCode.TheVariants as code;
 
 use crate::slots::Slots;
@@ -30,11 +32,16 @@ pub struct Board<N> {
 }
 
 impl<N> Model for Board<N> {
-    ghost use Rattle.cal_board.specs.Blackboard.{Blackboard};
+    ghost use Rattle.cal_board.specs.Blackboard.{Blackboard, IsWithin};
 
     ghost Value = { Blackboard N };
 
     ghost view = { λ s. record { references = s.references; as_values = s.as_values } };
+
+    ghost invariant = { λ s. IsWithin (record {
+      references = s.references;
+      as_values = s.as_values;
+    }) };
 }
 
 impl<N> Board<N> {
@@ -46,6 +53,16 @@ impl<N> Board<N> {
             references: Slots::new(alloc),
             as_values: Slots::new(alloc),
         }
+    }
+
+    /// A board is within its limits, and its slots are in order, each with a value.
+    pub fn has_few_slots(&self)
+        ensures within { IsWithin self.now }
+        ensures references { AreOrdered self.now.references }
+        ensures as_values { AreOrdered self.now.as_values }
+    {
+        self.references.is_ordered();
+        self.as_values.is_ordered();
     }
 
     /// What the board replies to such a line, which it isn't told of.
@@ -173,6 +190,17 @@ impl<N> Board<N> {
         Ok(())
     }
 
+    /// How many values stand in the slot of the nested attributes, and then in each other slot that
+    /// holds values, those of reference attributes first. Gives how many numbers that is.
+    pub fn depths(&self, out: &mut [u32; 65]) -> usize
+        ensures within { result ≤ 65 }
+        ensures depths { take result out.new ≡ depths self.now }
+    {
+        out[0] = self.references.opened(0).len() as u32;
+        let count = add_depths(self.references.as_slice(), out, 1);
+        add_depths(self.as_values.as_slice(), out, count)
+    }
+
     /// What stands for the last value in the reference slot of an attribute.
     pub fn last_node(&self, attr: AttrRef) -> Option<&N>
         ensures { option_copied result
@@ -251,6 +279,7 @@ impl<N> Board<N> {
         N: Drop,
         requires known { M.knows maker.old attr.number value }
         requires stands { StandsForSome (M.is_node maker.old) self.old }
+        requires room { begin_reply self.old attr ≡ reply.Done }
         ensures stands { OnOk result (StandsThen (M.is_node maker.old) (M.is_node maker.new)
             self.old self.new
             (λ b. begun b attr (M.value_of maker.old value) (M.value_of maker.old value))) }
@@ -330,6 +359,23 @@ fn push_immediate(
     let value = opened.value.copy(alloc)?;
     out.push(Immediate { attribute, value })?;
     Ok(())
+}
+
+/// Writes the depth of each slot but the first of all, behind so many numbers.
+fn add_depths<V>(slots: &[Slot<V>], out: &mut [u32; 65], from: usize) -> usize
+    requires room { from + length slots.now ≤ 65 }
+    requires small { All (λ slot. length slot.opened ≤ 128) slots.now }
+    ensures within { result ≤ from + length slots.now }
+    ensures added { take result out.new ≡ take from out.old ++ own_depths slots.now }
+{
+    let mut count = from;
+    for slot in slots {
+        if slot.number > 0 {
+            out[count] = slot.opened.len() as u32;
+            count += 1;
+        }
+    }
+    count
 }
 
 /// The reply to the closing of an attribute's value, where the slot's last value has this one.

@@ -12,6 +12,7 @@ mod entries;
 mod maker;
 mod opened;
 mod path_board;
+mod readings;
 mod reply;
 mod slots;
 
@@ -20,4 +21,5 @@ pub use board::Board;
 pub use maker::NodeMaker;
 pub use opened::{Opened, Slot};
 pub use path_board::PathBoard;
+pub use readings::Readings;
 pub use reply::BoardReply;

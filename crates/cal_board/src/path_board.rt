@@ -1,6 +1,6 @@
-ghost use Rattle.std.specs.Prelude.{◌≡◌, ◌<◌, ◌++◌, length, All, IfOk, OnOk, OnErr, Some};
+ghost use Rattle.std.specs.Prelude.{◌≡◌, ◌<◌, ◌≤◌, ◌++◌, length, take, All, IfOk, OnOk, OnErr, Some};
 ghost use Rattle.std.specs.Prelude.{option_map};
-ghost use Rattle.cal_board.specs.Blackboard.{board_after, ended, nothing_open, reply_to};
+ghost use Rattle.cal_board.specs.Blackboard.{board_after, depths, ended, nothing_open, reply_to};
 ghost use Rattle.cal_board.specs.PathBoards.{AreKnown, IsLastValue, entries_of, entry_in};
 ghost use Rattle.cal_board.specs.PathBoards.{last_at, last_entries};
 ghost use Rattle.cal_board.specs.declared.opened.Opened as opened;
@@ -155,6 +155,14 @@ impl PathBoard {
         }
         *out = Seq::from_vec(items);
         added
+    }
+
+    /// How many values stand in each slot, as `Board::depths` says.
+    pub fn depths(&self, out: &mut [u32; 65]) -> usize
+        ensures within { result ≤ 65 }
+        ensures depths { take result out.new ≡ depths self.now }
+    {
+        self.board.depths(out)
     }
 
     /// The last value in an attribute's slot.

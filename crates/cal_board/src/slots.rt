@@ -1,5 +1,5 @@
 ghost use Rattle.std.specs.Prelude.{◌≡◌, ◌<◌, [], ◌∷◌, ◌++◌, length, OnOk, OnErr, MatchResult};
-ghost use Rattle.cal_board.specs.Slots.{front, opened_in, with_slot, IsAt, IsGap};
+ghost use Rattle.cal_board.specs.Slots.{AreOrdered, front, opened_in, with_slot, IsAt, IsGap};
 
 use crate::{Opened, Slot};
 use cal_value::{OutOfMemory, Seq};
@@ -35,6 +35,13 @@ impl<V> Slots<V> {
             slots: Vec::new(alloc),
             spare: Vec::new(alloc),
         }
+    }
+
+    /// The slots are in order, and hold values.
+    pub fn is_ordered(&self)
+        ensures { AreOrdered self.now }
+    {
+        let _ = &self.spare;
     }
 
     /// The slots that hold values, in the order of their numbers.

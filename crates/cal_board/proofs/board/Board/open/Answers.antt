@@ -7,6 +7,9 @@ use Rattle.cal_board.specs.Standing.{IsParent, Stands}
 use Rattle.cal_board.specs.declared.opened.Opened.{Opened}
 use Rattle.cal_board.specs.declared.opened.Slot.{Slot}
 use Rattle.cal_value.specs.declared.variant.Variant.{Variant}
+use Rattle.cal_board.proofs.LimitLemmas.{either_way, more-as_values, more-references}
+use Rattle.cal_board.specs.Blackboard.{IsWithin, begin_reply}
+use Rattle.cal_board.specs.declared.reply.BoardReply.TheVariants as reply
 use Rattle.cal_board.proofs.board.Board.open.Goals as goal
 
 pub child-requires-clause-parent : goal.child-requires-clause-parent
@@ -46,3 +49,21 @@ returns-in_ok-value-2-clause-stands g c =
     else record { references = with_slot k (opened_more a.number node (opened_in k c.args.self.now.references)) c.args.self.now.references; as_values = c.args.self.now.as_values }) c.if-attr.false) in
     subst (λ h. Stands Q h (begun b a v v)) (sym same) (begun-Stands P Q stays c.args.self.now b a node v is made))
     c.push-else-attr.ensures.pushed
+
+pub invariant_of-self : goal.invariant_of-self
+invariant_of-self g c =
+    let a = c.args.attr in
+    let b : Blackboard g.row.N.Denot = record { references = c.self.inside.references; as_values = c.self.inside.as_values } in
+    let room : begin_reply b a ≡ reply.Done = (λ j. begin_reply (c.self.view_is j) a) ∙ c.requires.room in
+    either_way c.push.result c.push.ensures.pushed c.push.ensures.err
+    (λ pushed. more-as_values b c.self.invariant a c.slot.result _ c.push.new.self c.slot.ensures c.if-attr.true room pushed)
+    (λ same. subst (λ xs. IsWithin (record { references = c.self.inside.references; as_values = xs })) (sym same) c.self.invariant)
+
+pub invariant_of-self-else-attr : goal.invariant_of-self-else-attr
+invariant_of-self-else-attr g c =
+    let a = c.args.attr in
+    let b : Blackboard g.row.N.Denot = record { references = c.self.inside.references; as_values = c.self.inside.as_values } in
+    let room : begin_reply b a ≡ reply.Done = (λ j. begin_reply (c.self.view_is j) a) ∙ c.requires.room in
+    either_way c.push-else-attr.result c.push-else-attr.ensures.pushed c.push-else-attr.ensures.err
+    (λ pushed. more-references b c.self.invariant a c.slot-else-attr-2.result _ c.push-else-attr.new.self c.slot-else-attr-2.ensures c.if-attr.false room pushed)
+    (λ same. subst (λ xs. IsWithin (record { references = xs; as_values = c.self.inside.as_values })) (sym same) c.self.invariant)

@@ -5,6 +5,9 @@ use Rattle.cal_board.specs.Slots.{front, last_value, opened_in, with_slot}
 use Rattle.cal_board.specs.Standing.{IsParent, Stands}
 use Rattle.cal_board.specs.declared.opened.Opened.{Opened}
 use Rattle.cal_value.specs.declared.variant.Variant.{Variant}
+use Rattle.std.proofs.Common.{◌<◌}
+use Rattle.cal_board.proofs.LimitLemmas.{instead-as_values, instead-references, there-as_values, there-references}
+use Rattle.cal_board.specs.Blackboard.{depth_at}
 use Rattle.cal_board.proofs.board.Board.open_instead.Goals as goal
 
 pub child-requires-clause-parent : goal.child-requires-clause-parent
@@ -44,3 +47,19 @@ returns-in_ok-value-2-clause-stands g c =
     else record { references = with_slot k (opened_instead a.number node (opened_in k c.args.self.now.references)) c.args.self.now.references; as_values = c.args.self.now.as_values }) c.if-attr.false) in
     subst (λ h. Stands Q h (with_values b a (opened_instead a.number v) (opened_instead a.number v))) (sym same)
     (instead-Stands P Q stays c.args.self.now b a node v is made)
+
+pub invariant_of-self : goal.invariant_of-self
+invariant_of-self g c =
+    let a = c.args.attr in
+    let b : Blackboard g.row.N.Denot = record { references = c.self.inside.references; as_values = c.self.inside.as_values } in
+    let there : 0 < depth_at b a = subst (λ (h : Blackboard g.row.N.Denot). 0 < depth_at h a) (sym c.self.view_is) c.requires.there in
+    instead-as_values b c.self.invariant c.slot.result _ c.replace.new.self
+    (there-as_values b c.self.invariant a c.slot.result c.slot.ensures c.if-attr.true there) c.replace.ensures
+
+pub invariant_of-self-else-attr : goal.invariant_of-self-else-attr
+invariant_of-self-else-attr g c =
+    let a = c.args.attr in
+    let b : Blackboard g.row.N.Denot = record { references = c.self.inside.references; as_values = c.self.inside.as_values } in
+    let there : 0 < depth_at b a = subst (λ (h : Blackboard g.row.N.Denot). 0 < depth_at h a) (sym c.self.view_is) c.requires.there in
+    instead-references b c.self.invariant c.slot-else-attr-2.result _ c.replace-else-attr.new.self
+    (there-references b c.self.invariant a c.slot-else-attr-2.result c.slot-else-attr-2.ensures c.if-attr.false there) c.replace-else-attr.ensures
