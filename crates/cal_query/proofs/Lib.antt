@@ -1,5 +1,6 @@
 pub mod Falling
 pub mod Streamings
 pub mod Keepings
+pub mod Plainness
 pub mod Layouts
 pub mod Stops
