@@ -1,7 +1,6 @@
 -- A query without a clause answers the rows themselves.
-use Rattle.std.proofs.Common.{◌≡◌, Bool, true, false, List, [], ◌∷◌, Option, Some, None, refl, ap, ◌∙◌}
+use Rattle.std.proofs.Common.{◌≡◌, ℕ, true, List, [], ◌∷◌, Option, Some, None, refl, sym, ap, ◌∙◌}
 use Rattle.std.specs.List.{filter_map}
-use Rattle.cal_engine.specs.Answers.{answer_of}
 use Rattle.cal_engine.specs.Sorting.{put_in, row_cmp, sorted_rows}
 use Rattle.cal_ql.specs.declared.names.Format as formats
 use Rattle.cal_ql.specs.declared.names.Format.TheVariants as format
@@ -13,8 +12,8 @@ use Rattle.cal_ql.specs.declared.query.OrderKey.{OrderKey}
 use Rattle.cal_ql.specs.declared.query.Query.{Query}
 use Rattle.cal_tabfmt.specs.Expand.{expand_lines}
 use Rattle.cal_value.specs.declared.record.Rec.{Rec}
-use Rattle.cal_query.specs.Layout.{answer_text, layout}
-use Rattle.cal_query.specs.Plain.{is_expand, is_nil, is_none, is_plain}
+use Rattle.cal_query.specs.Layout.{answer_text}
+use Rattle.cal_query.specs.Plain.{is_plain}
 
 -- without a condition each row is kept
 all_kept : (rows : List Rec) → filter_map (λ r. Some r) rows ≡ rows

@@ -1,4 +1,4 @@
-ghost use Rattle.std.specs.Prelude.{◌≡◌, List, [], IfOk};
+ghost use Rattle.std.specs.Prelude.{◌≡◌, List, [], IfOk, IsTrue};
 ghost use Rattle.cal_context.specs.Tree.{Tree};
 ghost use Rattle.cal_engine.specs.Answers.{answer_of};
 ghost use Rattle.cal_ql.specs.Valid.{IsValidQuery};
@@ -39,11 +39,18 @@ impl Folding {
         ensures { IfOk result (λ answer. (t : Tree) (rows : List Rec)
             → HasFolded self t rows → answer ≡ answer_of query.now rows) }
     {
-        if self.query != *query {
+        if !is_same(&self.query, query) {
             return Err(OutOfMemory);
         }
         self.fold.finish()
     }
+}
+
+/// Whether two queries are one.
+fn is_same(one: &Query, other: &Query) -> bool
+    ensures { IsTrue result → one.now ≡ other.now }
+{
+    one == other
 }
 
 impl Taker for Folding {
