@@ -29,6 +29,18 @@ unordered : (rows : List Rec) → sorted_rows [] rows ≡ rows
 unordered [] = refl
 unordered (r ∷ rows) = ap (put_in (row_cmp []) r) (unordered rows) ∙ put_first r rows
 
+abbrev query : List Let → Option (List Item) → List Agg → List Cond → Option (List (List ℕ))
+    → List OrderKey → formats.Format → Query
+query ls select aggs cs group keys f = record {
+  lets = ls;
+  select = select;
+  aggs = aggs;
+  conds = cs;
+  group = group;
+  order = keys;
+  format = f;
+}
+
 pub plain_answer : (q : Query) (rows : List Rec) → is_plain q ≡ true
     → expand_lines None rows ≡ answer_text q rows
 plain_answer q rows plain =
@@ -36,9 +48,8 @@ plain_answer q rows plain =
   where
     by : (ls : List Let) (select : Option (List Item)) (aggs : List Agg) (cs : List Cond)
         (group : Option (List (List ℕ))) (keys : List OrderKey) (f : formats.Format)
-        → is_plain (record { lets = ls; select = select; aggs = aggs; conds = cs; group = group; order = keys; format = f }) ≡ true
-        → expand_lines None rows
-        ≡ answer_text (record { lets = ls; select = select; aggs = aggs; conds = cs; group = group; order = keys; format = f }) rows
+        → is_plain (query ls select aggs cs group keys f) ≡ true
+        → expand_lines None rows ≡ answer_text (query ls select aggs cs group keys f) rows
     by [] None [] [] None [] format.Expand e =
         ap (expand_lines None) (sym (ap (sorted_rows []) (all_kept rows) ∙ unordered rows))
     by (l ∷ ls) select aggs cs group keys f e = absurd cc

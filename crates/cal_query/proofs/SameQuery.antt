@@ -79,9 +79,9 @@ let_tells : (x y : Let) → IsTrue (lets.ghosts.eq x y) → x ≡ y
 let_tells x y h =
     let name_is = text_tells x.name y.name (first_so _ _ h) in
     let op_is = same_true ops.the_type (search rules) x.op y.op (first_so _ _ (second_so _ _ h)) in
-    let args_is = lists_tell text_tells x.args y.args (first_so _ _ (second_so _ _ (second_so _ _ h))) in
     let after_name = second_so (eq_by_cmp text_cmp x.name y.name) _ h in
     let after_op = second_so (sameb ops.the_type x.op y.op) _ after_name in
+    let args_is = lists_tell text_tells x.args y.args (first_so _ _ after_op) in
     let after_args = second_so (pointwise (eq_by_cmp text_cmp) x.args y.args) _ after_op in
     let n_is = (signed_Decides x.n y.n).0 after_args in
     λ i. record { name = name_is i; op = op_is i; args = args_is i; n = n_is i }
@@ -115,17 +115,20 @@ key_tells x y h =
 pub query_tells : (x y : Query) → IsTrue (queries.ghosts.eq x y) → x ≡ y
 query_tells x y h =
     let after_lets = second_so (pointwise lets.ghosts.eq x.lets y.lets) _ h in
-    let after_select = second_so (option_eq (pointwise items.ghosts.eq) x.select y.select) _ after_lets in
+    let same_items : List Item → List Item → Bool = pointwise items.ghosts.eq in
+    let after_select = second_so (option_eq same_items x.select y.select) _ after_lets in
     let after_aggs = second_so (pointwise aggs.ghosts.eq x.aggs y.aggs) _ after_select in
     let after_conds = second_so (pointwise conds.ghosts.eq x.conds y.conds) _ after_aggs in
     let texts : List (List ℕ) → List (List ℕ) → Bool = pointwise (eq_by_cmp text_cmp) in
     let after_group = second_so (option_eq texts x.group y.group) _ after_conds in
     let after_order = second_so (pointwise keys.ghosts.eq x.order y.order) _ after_group in
     let lets_is = lists_tell let_tells x.lets y.lets (first_so _ _ h) in
-    let select_is = option_tells _ (lists_tell item_tells) x.select y.select (first_so _ _ after_lets) in
+    let select_is =
+    option_tells same_items (lists_tell item_tells) x.select y.select (first_so _ _ after_lets) in
     let aggs_is = lists_tell agg_tells x.aggs y.aggs (first_so _ _ after_select) in
     let conds_is = lists_tell cond_tells x.conds y.conds (first_so _ _ after_aggs) in
-    let group_is = option_tells texts (lists_tell text_tells) x.group y.group (first_so _ _ after_conds) in
+    let group_is =
+    option_tells texts (lists_tell text_tells) x.group y.group (first_so _ _ after_conds) in
     let order_is = lists_tell key_tells x.order y.order (first_so _ _ after_group) in
     let format_is = same_true formats.the_type (search rules) x.format y.format after_order in
     λ i. record {

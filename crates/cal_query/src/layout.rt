@@ -8,11 +8,7 @@ use cal_value::{OutOfMemory, Text};
 use std::alloc::Global;
 
 /// The layout of an answer in a format. One that isn't built yet has no text.
-pub(crate) fn lay_out(
-    alloc: Global,
-    format: Format,
-    answer: &Rowset,
-) -> Result<Text, OutOfMemory>
+pub(crate) fn lay_out(alloc: Global, format: Format, answer: &Rowset) -> Result<Text, OutOfMemory>
     ensures { IfOk result (λ text. text ≡ layout format answer.now) }
 {
     match format {

@@ -77,7 +77,11 @@ fn see_joined<S: Source, T: Taker + Drop>(
 }
 
 /// Hands on the rows that were kept, with the globals joined to each.
-fn join<T: Taker + Drop>(alloc: Global, read: Finished<Kept>, mut taker: T) -> Result<T, OutOfMemory>
+fn join<T: Taker + Drop>(
+    alloc: Global,
+    read: Finished<Kept>,
+    mut taker: T,
+) -> Result<T, OutOfMemory>
     requires kept { All (IsIn read.context) read.taker.snapshots.items }
     requires globals { IsIn read.context read.globals }
     ensures { IfOk result (λ now. TakesMore

@@ -38,12 +38,7 @@ pub fn query<S: Source, W: Sink>(
 }
 
 /// The layout of a query's answer over the stream that the input has left.
-fn layout<S: Source>(
-    alloc: Global,
-    query: &Query,
-    join: bool,
-    input: &mut S,
-) -> Result<Text, Fault>
+fn layout<S: Source>(alloc: Global, query: &Query, join: bool, input: &mut S) -> Result<Text, Fault>
     requires { IsValidQuery query.now }
     ensures read { IfOk result (λ text. ReadsInput
         (change_of S.left S.faults input.old input.new)

@@ -138,7 +138,12 @@ fn queries_are_answered(rt: HostRuntime) -> Result<(), Fail> {
         written_by(count, TIMES, "function=main,count=1\n"),
         written_by(count, "", ""),
         written_by(hosts, HOSTS, "host=n1/n2\nhost=n0/n1/n2\n"),
-        refused(count, "__rec=ctx,ref=12", "caliper: line 1: UnknownNode\n", 3),
+        refused(
+            count,
+            "__rec=ctx,ref=12",
+            "caliper: line 1: UnknownNode\n",
+            3,
+        ),
     ];
     assert_rows(&rt, &rows)
 }
