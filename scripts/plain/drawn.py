@@ -20,7 +20,8 @@ QUERIES = (
     'select inclusive_sum(x) as i,sum(x) group by path', 'select x,y,x as again', 'order by x desc,y', 'select *', 'group by nosuch',
     'select count( where x', 'format xml', 'where x>', 'let a=mean(x)', 'select a b', 'where x,,y', 'group path', 'select "a\\"b', ';',
 )
-FORMATS = ('', ' format expand', ' format table', ' format tree', ' format json')
+EXPAND = ('', ' format expand')
+FORMATS = EXPAND + (' format table', ' format tree', ' format json')
 
 
 class Drawing:
@@ -83,8 +84,8 @@ class Drawing:
         return '\n'.join(self.lines).encode() + self.draw.choice((b'\n', b'', b'\n\n'))
 
 
-def drawn_cases(all_queries):
-    """Words and bytes of 600 cases."""
+def drawn_cases(formats):
+    """Words and bytes of 600 cases, with queries that print by these formats."""
     for number in range(600):
         draw = random.Random(number)
         if draw.random() < 0.7:
@@ -96,8 +97,8 @@ def drawn_cases(all_queries):
         if draw.random() < 0.1:
             data = data[:draw.randrange(len(data) + 1)]
         words = [] if draw.random() < 0.8 else ['--globals=' + draw.choice(('off', 'join', 'join', 'on'))]
-        if all_queries and draw.random() < 0.85:
-            words.insert(draw.randrange(len(words) + 1), '--q=' + draw.choice(QUERIES) + draw.choice(FORMATS))
+        if draw.random() < 0.85:
+            words.insert(draw.randrange(len(words) + 1), '--q=' + draw.choice(QUERIES) + draw.choice(formats))
         yield words, data
 
 

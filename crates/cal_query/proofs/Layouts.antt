@@ -1,20 +1,19 @@
--- The layout of what was read.
-use Rattle.std.proofs.Common.{◌≡◌, ℕ, Bool, true, false, List, [], ◌++◌, None, map, refl, sym, ap, subst, ◌∙◌}
-use Rattle.std.specs.List.{All}
+-- What a query sees of what was read, and the layout of its answer.
+use Rattle.std.proofs.Common.{◌≡◌, ℕ, Bool, true, false, List, [], map, subst}
 use Rattle.cal_base.specs.Change.{Change}
 use Rattle.cal_base.specs.ReadEnds.{ReadsAll}
-use Rattle.cal_context.specs.Snapshots.{IsIn, entry_of, meaning}
+use Rattle.cal_context.specs.Snapshots.{meaning}
+use Rattle.cal_context.specs.Taking.{TakesMore}
 use Rattle.cal_context.specs.Tree.{Tree}
-use Rattle.cal_context.specs.declared.snapshot.Immediate.{Immediate}
+use Rattle.cal_ql.specs.declared.query.Query.{Query}
 use Rattle.cal_value.specs.Flat.{flat}
-use Rattle.cal_value.specs.declared.attribute.Entry.{Entry}
 use Rattle.cal_value.specs.declared.record.Rec.{Rec}
 use Rattle.cal_value.specs.declared.record.Records.{Records}
 use Rattle.cal_read.specs.Stream.{IsStream, IsStreamOf, Stream}
-use Rattle.cal_tabfmt.specs.Expand.{expand_lines}
 use Rattle.cal_query.specs.Joining.{rows_seen, with_entries}
 use Rattle.cal_query.specs.Keeping.{HasKept}
-use Rattle.cal_query.specs.Layout.{LaysOut}
+use Rattle.cal_query.specs.Layout.{LaysOut, answer_text}
+use Rattle.cal_query.specs.Seeing.{HasSeen, SeesRows}
 use Rattle.cal_query.specs.Streaming.{HasFinished}
 use Rattle.cal_query.specs.declared.joining.Kept.{Kept}
 use Rattle.cal_query.specs.declared.streaming.Finished.{Finished}
@@ -25,31 +24,60 @@ records_of s = record { rows = s.rows; globals = s.globals }
 stream_of : (bytes : List ℕ) (s : Stream) → IsStream bytes s → IsStreamOf bytes (records_of s)
 stream_of bytes s is = record { nodes = s.nodes; stream = is }
 
--- the rows of a stream are laid out as they are
-pub lays_plain : (limit : ℕ) (input : Change) (bytes text : List ℕ) (s : Stream)
-    → ReadsAll limit input bytes → IsStream bytes s → text ≡ expand_lines None s.rows
-    → LaysOut false limit input text
-lays_plain limit input bytes text s reads is same = record {
-  bytes = bytes;
-  reads = reads;
-  layout = record { records = records_of s; stream = stream_of bytes s is; is = same };
-}
-
--- rows that were kept are laid out with the globals behind each
-pub lays_joined : (limit : ℕ) (input : Change) (bytes text : List ℕ) (f : Finished Kept)
-    → ReadsAll limit input bytes → HasFinished HasKept f bytes
-    → text
-    ≡ expand_lines None (map (with_entries (flat (meaning f.context f.globals)))
-    (map (meaning f.context) f.taker.snapshots.items))
-    → LaysOut true limit input text
-lays_joined limit input bytes text f reads finished same = record {
-  bytes = bytes;
-  reads = reads;
-  layout = record {
+module _ {T : Type 0} (has_taken : T → Tree → List Rec → Type 0) (limit : ℕ) (input : Change)
+    (bytes : List ℕ) where
+  -- the rows of a stream are seen as they are
+  pub sees_plain : (f : Finished T) → ReadsAll limit input bytes → HasFinished has_taken f bytes
+      → SeesRows false limit input (HasSeen has_taken f.taker)
+  sees_plain f reads finished = record {
+    bytes = bytes;
+    reads = reads;
     records = records_of finished.stream;
     stream = stream_of bytes finished.stream finished.is;
-    is = same
-        ∙ (λ j. expand_lines None (map (with_entries (flat (finished.globals j)))
-        (finished.rows.mean j)));
-  };
-}
+    is = (f.context, finished.rows);
+  }
+
+  -- rows that were kept are seen with the globals behind each
+  pub sees_joined : (f : Finished Kept) (before now : T) → ReadsAll limit input bytes
+      → HasFinished HasKept f bytes → ((t : Tree) → has_taken before t [])
+      → TakesMore (has_taken before f.context) (has_taken now f.context)
+      (map (with_entries (flat (meaning f.context f.globals)))
+      (map (meaning f.context) f.taker.snapshots.items))
+      → SeesRows true limit input (HasSeen has_taken now)
+  sees_joined f before now reads finished none takes = record {
+    bytes = bytes;
+    reads = reads;
+    records = records_of finished.stream;
+    stream = stream_of bytes finished.stream finished.is;
+    is = (
+      f.context,
+      subst (λ (rows : List Rec). has_taken now f.context rows)
+          (λ j. map (with_entries (flat (finished.globals j))) (finished.rows.mean j))
+          (takes [] (none f.context)),
+    );
+  }
+
+module _ (join : Bool) (limit : ℕ) (input : Change) where
+  pub sees_what : (P Q : List Rec → Type 0) → ((rows : List Rec) → P rows → Q rows)
+      → SeesRows join limit input P → SeesRows join limit input Q
+  sees_what P Q then sees = record {
+    bytes = sees.bytes;
+    reads = sees.reads;
+    records = sees.records;
+    stream = sees.stream;
+    is = then (rows_seen join sees.records) sees.is;
+  }
+
+  -- what is printed of the rows that are seen is laid out
+  pub lays_out : (query : Query) (text : List ℕ) (P : List Rec → Type 0)
+      → ((rows : List Rec) → P rows → text ≡ answer_text query rows)
+      → SeesRows join limit input P → LaysOut query join limit input text
+  lays_out query text P then sees = record {
+    bytes = sees.bytes;
+    reads = sees.reads;
+    layout = record {
+      records = sees.records;
+      stream = sees.stream;
+      is = then (rows_seen join sees.records) sees.is;
+    };
+  }

@@ -1,27 +1,48 @@
 -- What is laid out of an input, or why it isn't (ours).
-use Rattle.std.specs.Prelude.{◌≡◌, ℕ, Bool, List, None}
+use Rattle.std.specs.Prelude.{◌≡◌, ℕ, Bool, true, false, List, []}
 use Rattle.cal_base.specs.Change.{Change}
 use Rattle.cal_base.specs.ReadEnds.{ReadsAll, StopsAt}
 use Rattle.cal_base.specs.declared.reading.ReadEnd.TheVariants as read_end
+use Rattle.cal_engine.specs.Answers.{answer_of}
+use Rattle.cal_ql.specs.declared.names.Format as formats
+use Rattle.cal_ql.specs.declared.names.Format.TheVariants as format
+use Rattle.cal_ql.specs.declared.query.Query.{Query}
 use Rattle.cal_read.specs.Stream.{IsFault, IsStreamOf}
 use Rattle.cal_read.specs.declared.kind.StreamKind.{StreamKind}
-use Rattle.cal_tabfmt.specs.Expand.{expand_lines}
+use Rattle.cal_rowset.specs.declared.rowset.Rowset.{Rowset}
+use Rattle.cal_tabfmt.specs.Expand.{expand}
+use Rattle.cal_value.specs.declared.record.Rec.{Rec}
 use Rattle.cal_value.specs.declared.record.Records.{Records}
 use Rattle.cal_query.specs.Joining.{rows_seen}
 use Rattle.cal_query.specs.declared.end.RowsEnd as ends
 use Rattle.cal_query.specs.declared.end.RowsEnd.TheVariants as end
 
--- the bytes are a stream, and this is the plain layout of its rows, with the globals joined or not
-pub record IsLayout (join : Bool) (bytes text : List ℕ) : Type 0 where
+-- the layout of an answer in a format; one that isn't built yet has no text
+abbrev pub layout : formats.Format → Rowset → List ℕ
+layout format.Expand answer = expand answer
+layout _ answer = []
+
+-- whether a format is built
+abbrev pub has_layout : formats.Format → Bool
+has_layout format.Expand = true
+has_layout _ = false
+
+-- what a query prints of the rows that it sees: the layout of its answer, in its format
+abbrev pub answer_text : Query → List Rec → List ℕ
+answer_text query rows = layout query.format (answer_of query rows)
+
+-- the bytes are a stream, and this is what a query prints of it, with the globals joined or not
+pub record IsLayout (query : Query) (join : Bool) (bytes text : List ℕ) : Type 0 where
   pub records : Records
   pub stream : IsStreamOf bytes records
-  pub is : text ≡ expand_lines None (rows_seen join records)
+  pub is : text ≡ answer_text query (rows_seen join records)
 
 -- what an input had left was laid out as this text
-pub record LaysOut (join : Bool) (limit : ℕ) (input : Change) (text : List ℕ) : Type 0 where
+pub record LaysOut (query : Query) (join : Bool) (limit : ℕ) (input : Change) (text : List ℕ)
+    : Type 0 where
   pub bytes : List ℕ
   pub reads : ReadsAll limit input bytes
-  pub layout : IsLayout join bytes text
+  pub layout : IsLayout query join bytes text
 
 -- what an input had left goes wrong first at this line
 pub record Falls (limit : ℕ) (input : Change) (line : ℕ) (kind : StreamKind) : Type 0 where

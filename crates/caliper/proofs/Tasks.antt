@@ -7,8 +7,9 @@ use Rattle.cal_base.specs.Told.{Takes, TakesUpTo}
 use Rattle.cal_ql.specs.Clauses.{reading}
 use Rattle.cal_ql.specs.Tokens.{Fault}
 use Rattle.cal_ql.specs.declared.query.Query.{Query}
+use Rattle.cal_query.specs.Layout.{has_layout}
 use Rattle.caliper.specs.Causes.{Answers, input_limit}
-use Rattle.caliper.specs.Tasks.{Refusal, Task, by_text, is_plain, query_task, task_of}
+use Rattle.caliper.specs.Tasks.{Refusal, Task, by_text, query_task, task_of}
 use Rattle.caliper.specs.Words.{text_at}
 use Rattle.caliper.specs.declared.fault.Fault as faults
 use Rattle.caliper.specs.declared.fault.Fault.TheVariants as fault
@@ -23,7 +24,7 @@ pub nothing_read : (limit : ℕ) (told : Option (List ℕ)) → TakesUpTo limit 
 nothing_read limit told = ([], omega arith, takes_nothing told)
 
 module _ (input output : Change) (same : input.new ≡ input.old) where
-  ran_out_if : (q : Option ℕ) (join plain : Bool) (query : Query) → is_plain query ≡ plain
+  ran_out_if : (q : Option ℕ) (join built : Bool) (query : Query) → has_layout query.format ≡ built
       → Answers (query_task q join (Ok query)) input output (Some fault.OutOfMemory)
   ran_out_if q join true query is =
       rw is (subst (λ (new : Option (List ℕ)). TakesUpTo input_limit input.old new) (sym same)
@@ -33,7 +34,7 @@ module _ (input output : Change) (same : input.new ≡ input.old) where
   ran_out : (q : Option ℕ) (join : Bool) (read : Result Query Fault)
       → Answers (query_task q join read) input output (Some fault.OutOfMemory)
   ran_out q join (Err found) = inr refl
-  ran_out q join (Ok query) = ran_out_if q join (is_plain query) query refl
+  ran_out q join (Ok query) = ran_out_if q join (has_layout query.format) query refl
 
   told : (tasked : Result Task Refusal) (f : faults.Fault) → tasked ≡ Err (by_text f)
       → Answers tasked input output (Some f)

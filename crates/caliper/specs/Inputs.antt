@@ -20,7 +20,7 @@ IsFaultOf (QueryTask query join) bytes line kind =
     (fault : StreamKind) × (kind ≡ Stream fault) × IsFault bytes line fault
 
 -- The bytes have a meaning, and this is the text that is written for it: for a query the layout of
--- its answer, which is that of the rows as long as the program answers no other query.
+-- its answer over the rows.
 abbrev pub IsTextOf : Task → List ℕ → List ℕ → Type 0
 IsTextOf SerialTask bytes text = IsSomeAnd (meaning bytes) (λ script. text ≡ text_of script)
-IsTextOf (QueryTask query join) bytes text = IsLayout join bytes text
+IsTextOf (QueryTask query join) bytes text = IsLayout query join bytes text

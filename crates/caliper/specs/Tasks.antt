@@ -1,12 +1,11 @@
 -- What the words ask for, once the text of a query is read.
-use Rattle.std.specs.Prelude.{ℕ, Bool, true, false, List, [], ◌∷◌, Option, None, Some, Result, Ok, Err, String}
-use Rattle.std.specs.Prelude.{unwrap_or, ◌&&◌, if◌then◌else◌}
+use Rattle.std.specs.Prelude.{ℕ, Bool, List, Option, Result, Ok, Err, String}
+use Rattle.std.specs.Prelude.{unwrap_or, if◌then◌else◌}
 use Rattle.std.specs.Global.{Global}
 use Rattle.cal_ql.specs.Clauses.{reading}
 use Rattle.cal_ql.specs.Tokens.{Fault}
-use Rattle.cal_ql.specs.declared.names.Format as formats
-use Rattle.cal_ql.specs.declared.names.Format.TheVariants as format
 use Rattle.cal_ql.specs.declared.query.Query.{Query}
+use Rattle.cal_query.specs.Layout.{has_layout}
 use Rattle.caliper.specs.Words.{asked, text_at}
 use Rattle.caliper.specs.declared.fault.Fault as faults
 use Rattle.caliper.specs.declared.fault.Fault.TheVariants as fault
@@ -23,30 +22,12 @@ pub data Refusal : Type 0 where
   by_word : ℕ → Refusal
   by_text : faults.Fault → Refusal
 
-abbrev pub is_nil : {X : Type 0} → List X → Bool
-is_nil [] = true
-is_nil (x ∷ xs) = false
-
-abbrev pub is_none : {X : Type 0} → Option X → Bool
-is_none None = true
-is_none (Some x) = false
-
-abbrev pub is_expand : formats.Format → Bool
-is_expand format.Expand = true
-is_expand _ = false
-
--- a query without clauses but FORMAT expand, which is all that the program answers yet
-abbrev pub is_plain : Query → Bool
-is_plain query =
-    is_nil query.lets && is_none query.select && is_nil query.aggs && is_nil query.conds
-    && is_none query.group && is_nil query.order && is_expand query.format
-
--- A text that is no query is refused for its first fault, and a query that isn't answered yet at its
--- word.
+-- A text that is no query is refused for its first fault, and a query whose format isn't built yet
+-- at its word.
 abbrev pub query_task : Option ℕ → Bool → Result Query Fault → Result Task Refusal
 query_task q join (Err found) = Err (by_text (fault.BadQuery found.place found.kind))
 query_task q join (Ok query) =
-    if is_plain query then Ok (QueryTask query join) else Err (by_text (fault.Usage (unwrap_or q 0)))
+    if has_layout query.format then Ok (QueryTask query join) else Err (by_text (fault.Usage (unwrap_or q 0)))
 
 abbrev pub task_of : List (String Global) → commands.Command → Result Task Refusal
 task_of words command.Serial = Ok SerialTask

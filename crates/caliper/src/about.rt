@@ -10,13 +10,13 @@ usage: caliper COMMAND < INPUT > OUTPUT
 
     serial      reads a script, and writes the .cali text of its records, the threads one after another
     query [--q=TEXT] [--globals=off|join]
-                reads a .cali stream, and writes a line of its entries for each row; with join the
-                globals stand at the end of each. TEXT is a query, as yet only 'format expand'
+                reads a .cali stream, and writes the answer of the query TEXT over its rows, a line
+                for each; with join the globals stand at the end of each row that the query sees
     --help      this text
     --version   the version, and what it is proved with
 
 A fault is told on standard error, and by the status. The guide is the README of the repository;
-docs/FORMATS.md there has the scripts, the streams and the faults.
+docs/FORMATS.md there has the scripts, the streams and the faults, docs/CALQL.md the queries.
 ";
 
 /// What `--version` tells: the version, and the logic by which the proofs were checked. Kits of the

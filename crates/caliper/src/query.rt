@@ -1,7 +1,7 @@
 ghost use Rattle.std.specs.Prelude.{◌≡◌, ◌≢◌, IsErr, IfOk, IfErr};
 ghost use Rattle.std.specs.Result.{result_err};
 ghost use Rattle.cal_base.specs.Change.{Change, change_of};
-ghost use Rattle.cal_ql.specs.declared.query.Query.{Query};
+ghost use Rattle.cal_ql.specs.Valid.{IsValidQuery};
 ghost use Rattle.caliper.specs.Causes.{Answers, Causes, ReadsInput};
 ghost use Rattle.caliper.specs.Inputs.{IsTextOf};
 ghost use Rattle.caliper.specs.Tasks.{QueryTask, task_of};
@@ -9,7 +9,8 @@ ghost use Rattle.caliper.specs.Tasks.{QueryTask, task_of};
 use crate::asking::asked_query;
 use crate::{Command, Fault, INPUT_LIMIT, InputKind};
 use cal_base::{Sink, Source};
-use cal_query::{RowsEnd, rows_text};
+use cal_ql::Query;
+use cal_query::{RowsEnd, query_text};
 use cal_value::Text;
 use std::alloc::Global;
 
@@ -28,26 +29,27 @@ pub fn query<S: Source, W: Sink>(
     ensures input { IsErr (task_of words.now (Command.Query q join)) → input.new ≡ input.old }
     ensures output { IfErr result (λ fault. fault ≢ Fault.WriteFault → output.new ≡ output.old) }
 {
-    let _query = asked_query(alloc, words, q)?;
-    let text = layout(alloc, join, input)?;
+    let query = asked_query(alloc, words, q)?;
+    let text = layout(alloc, &query, join, input)?;
     match output.put(text.as_str().as_bytes()) {
         Ok(()) => Ok(()),
         Err(_) => Err(Fault::WriteFault),
     }
 }
 
-/// The layout of the rows of the stream that the input has left.
-fn layout<S: Source>(alloc: Global, join: bool, input: &mut S) -> Result<Text, Fault>
-    ensures read { IfOk result (λ text. (query : Query) → ReadsInput
+/// The layout of a query's answer over the stream that the input has left.
+fn layout<S: Source>(alloc: Global, query: &Query, join: bool, input: &mut S) -> Result<Text, Fault>
+    requires { IsValidQuery query.now }
+    ensures read { IfOk result (λ text. ReadsInput
         (change_of S.left S.faults input.old input.new)
-        (λ bytes. IsTextOf (QueryTask query join) bytes text)) }
+        (λ bytes. IsTextOf (QueryTask query.now join) bytes text)) }
 
     // The cause lies in the input, whatever becomes of the output.
-    ensures caused { IfErr result (λ fault. (query : Query) (output : Change)
-        → Causes (QueryTask query join)
+    ensures caused { IfErr result (λ fault. (output : Change)
+        → Causes (QueryTask query.now join)
         (change_of S.left S.faults input.old input.new) output fault) }
 {
-    match rows_text(alloc, input, INPUT_LIMIT, join) {
+    match query_text(alloc, input, INPUT_LIMIT, join, query) {
         Ok(text) => Ok(text),
         Err(RowsEnd::BadLine { line, kind }) => Err(Fault::BadInput {
             line,

@@ -111,7 +111,7 @@ fn texts_of_queries_are_read(rt: HostRuntime) -> Result<(), Fail> {
             4,
         ),
         refused(
-            &["query", "--globals=off", "--q=select a"],
+            &["query", "--globals=off", "--q=format json"],
             "x",
             "caliper: usage: word 3\n",
             2,
@@ -121,6 +121,28 @@ fn texts_of_queries_are_read(rt: HostRuntime) -> Result<(), Fail> {
             "x",
             "caliper: usage: word 3\n",
             2,
+        ),
+    ];
+    assert_rows(&rt, &rows)
+}
+
+#[test]
+fn queries_are_answered(rt: HostRuntime) -> Result<(), Fail> {
+    let count = &["query", "--q=select function,count() group by function"];
+    let hosts = &[
+        "query",
+        "--globals=join",
+        "--q=select host where function order by host desc",
+    ];
+    let rows = [
+        written_by(count, TIMES, "function=main,count=1\n"),
+        written_by(count, "", ""),
+        written_by(hosts, HOSTS, "host=n1/n2\nhost=n0/n1/n2\n"),
+        refused(
+            count,
+            "__rec=ctx,ref=12",
+            "caliper: line 1: UnknownNode\n",
+            3,
         ),
     ];
     assert_rows(&rt, &rows)

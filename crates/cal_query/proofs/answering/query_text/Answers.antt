@@ -1,0 +1,22 @@
+use Rattle.std.proofs.Common.{◌∙◌, sym, ap}
+use Rattle.std.proofs.lemmas.Result.{IfOk-weaker}
+use Rattle.cal_query.specs.Layout.{layout}
+use Rattle.cal_query.proofs.Layouts.{lays_out}
+use Rattle.cal_query.proofs.Plainness.{plain_answer}
+use Rattle.cal_query.proofs.answering.query_text.Goals as goal
+
+-- the rows themselves are the answer
+pub returns-then-is_plain-clause-text : goal.returns-then-is_plain-clause-text
+returns-then-is_plain-clause-text g c =
+    let query = c.args.query.now in
+    IfOk-weaker c.rows_text.result _ _
+    (λ text sees. lays_out c.args.join c.args.limit _ query text _
+    (λ rows is. is ∙ plain_answer query rows (sym c.is_plain.ensures ∙ c.if-is_plain.true))
+    sees)
+    c.rows_text.ensures.text
+
+pub returns-clause-text : goal.returns-clause-text
+returns-clause-text g c =
+    lays_out c.args.join c.args.limit _ c.args.query.now _ _
+    (λ rows is. c.in_ok-lay_out.ensures ∙ ap (layout c.args.query.now.format) is)
+    c.in_ok-answer.ensures.answer

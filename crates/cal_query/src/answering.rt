@@ -1,0 +1,97 @@
+ghost use Rattle.std.specs.Prelude.{◌≡◌, None, IfOk, IfErr};
+ghost use Rattle.cal_base.specs.Change.{change_of};
+ghost use Rattle.cal_engine.specs.Answers.{answer_of};
+ghost use Rattle.cal_ql.specs.Valid.{IsValidQuery};
+ghost use Rattle.cal_tabfmt.specs.Expand.{expand_lines};
+ghost use Rattle.cal_query.specs.Layout.{LaysOut, StopsRows};
+ghost use Rattle.cal_query.specs.Plain.{is_expand, is_nil, is_none, is_plain};
+ghost use Rattle.cal_query.specs.Seeing.{SeesRows};
+
+use crate::RowsEnd;
+use crate::folding::Folding;
+use crate::layout::lay_out;
+use crate::seeing::see_rows;
+use cal_base::Source;
+use cal_ql::{Format, Query};
+use cal_rowset::Rowset;
+use cal_tabfmt::ExpandWriter;
+use cal_value::Text;
+use std::alloc::Global;
+
+/// What a query prints of the stream that an input has left, at most `limit` bytes, with the
+/// globals joined to each row where that is asked. Time is in the entries of the rows and in the
+/// text; memory is in what the query keeps, its groups or its rows, in the nodes and the text, and
+/// where the globals are joined in the rows too. A query without a clause keeps no row.
+pub fn query_text<S: Source>(
+    alloc: Global,
+    input: &mut S,
+    limit: u64,
+    join: bool,
+    query: &Query,
+) -> Result<Text, RowsEnd>
+    requires { IsValidQuery query.now }
+
+    // All that was left was read, and the answer over its rows laid out.
+    ensures text { IfOk result (λ text.
+        LaysOut query.now join limit (change_of S.left S.faults input.old input.new) text) }
+
+    // Why not.
+    ensures refused { IfErr result (λ end.
+        StopsRows end limit (change_of S.left S.faults input.old input.new)) }
+{
+    if is_plain(query) {
+        return rows_text(alloc, input, limit, join);
+    }
+    let answer = find_answer(alloc, input, limit, join, query)?;
+    Ok(lay_out(alloc, query.format, &answer)?)
+}
+
+/// Whether a query has no clause but FORMAT expand.
+fn is_plain(query: &Query) -> bool
+    ensures { result ≡ is_plain query.now }
+{
+    query.lets.is_empty()
+        && query.select.is_none()
+        && query.aggs.is_empty()
+        && query.conds.is_empty()
+        && query.group.is_none()
+        && query.order.is_empty()
+        && query.format == Format::Expand
+}
+
+/// The plain lines of the rows, which are laid out as they come.
+fn rows_text<S: Source>(
+    alloc: Global,
+    input: &mut S,
+    limit: u64,
+    join: bool,
+) -> Result<Text, RowsEnd>
+    ensures text { IfOk result (λ text.
+        SeesRows join limit (change_of S.left S.faults input.old input.new)
+        (λ rows. text ≡ expand_lines None rows)) }
+    ensures refused { IfErr result (λ end.
+        StopsRows end limit (change_of S.left S.faults input.old input.new)) }
+{
+    let writer = see_rows(alloc, input, limit, join, ExpandWriter::new(alloc))?;
+    Ok(writer.finish())
+}
+
+/// The answer of a query over the rows.
+fn find_answer<S: Source>(
+    alloc: Global,
+    input: &mut S,
+    limit: u64,
+    join: bool,
+    query: &Query,
+) -> Result<Rowset, RowsEnd>
+    requires { IsValidQuery query.now }
+    ensures answer { IfOk result (λ answer.
+        SeesRows join limit (change_of S.left S.faults input.old input.new)
+        (λ rows. answer ≡ answer_of query.now rows)) }
+    ensures refused { IfErr result (λ end.
+        StopsRows end limit (change_of S.left S.faults input.old input.new)) }
+{
+    let folding = Folding::new(alloc, query)?;
+    let folded = see_rows(alloc, input, limit, join, folding)?;
+    Ok(folded.finish(query)?)
+}

@@ -1,0 +1,25 @@
+ghost use Rattle.std.specs.Prelude.{◌≡◌, IfOk};
+ghost use Rattle.cal_query.specs.Layout.{has_layout, layout};
+
+use cal_ql::Format;
+use cal_rowset::Rowset;
+use cal_tabfmt::expand_text;
+use cal_value::{OutOfMemory, Text};
+use std::alloc::Global;
+
+/// The layout of an answer in a format. One that isn't built yet has no text.
+pub(crate) fn lay_out(alloc: Global, format: Format, answer: &Rowset) -> Result<Text, OutOfMemory>
+    ensures { IfOk result (λ text. text ≡ layout format answer.now) }
+{
+    match format {
+        Format::Expand => expand_text(alloc, answer),
+        _ => Ok(Text::new(alloc)),
+    }
+}
+
+/// Whether a format is built.
+pub fn has_layout(format: Format) -> bool
+    ensures { result ≡ has_layout format }
+{
+    format == Format::Expand
+}

@@ -1,0 +1,101 @@
+ghost use Rattle.std.specs.Prelude.{true, false, [], map, IfOk, IfErr};
+ghost use Rattle.std.specs.List.{All};
+ghost use Rattle.cal_base.specs.Change.{change_of};
+ghost use Rattle.cal_context.specs.Snapshots.{IsIn, meaning};
+ghost use Rattle.cal_context.specs.Taking.{TakesMore};
+ghost use Rattle.cal_context.specs.Tree.{Tree};
+ghost use Rattle.cal_value.specs.Flat.{flat};
+ghost use Rattle.cal_query.specs.Joining.{with_entries};
+ghost use Rattle.cal_query.specs.Layout.{StopsRows};
+ghost use Rattle.cal_query.specs.Seeing.{HasSeen, SeesRows};
+
+use crate::RowsEnd;
+use crate::joining::{Kept, all_immediates, hand_on};
+use crate::streaming::{Finished, read_stream};
+use cal_base::Source;
+use cal_context::{Context, Taker};
+use cal_value::OutOfMemory;
+use std::alloc::Global;
+
+/// Hands the rows that a query sees in what an input has left to a taker that has taken none: each
+/// row as it comes, or with the globals joined to it, which are known at the end.
+pub(crate) fn see_rows<S: Source, T: Taker + Drop>(
+    alloc: Global,
+    input: &mut S,
+    limit: u64,
+    join: bool,
+    taker: T,
+) -> Result<T, RowsEnd>
+    requires { (t : Tree) → T.has_taken taker t [] }
+    ensures taken { IfOk result (λ taker.
+        SeesRows join limit (change_of S.left S.faults input.old input.new)
+        (HasSeen T.has_taken taker)) }
+    ensures refused { IfErr result (λ end.
+        StopsRows end limit (change_of S.left S.faults input.old input.new)) }
+{
+    if join {
+        see_joined(alloc, input, limit, taker)
+    } else {
+        see_plain(alloc, input, limit, taker)
+    }
+}
+
+/// The rows as they come, of which none is kept.
+fn see_plain<S: Source, T: Taker + Drop>(
+    alloc: Global,
+    input: &mut S,
+    limit: u64,
+    taker: T,
+) -> Result<T, RowsEnd>
+    requires { (t : Tree) → T.has_taken taker t [] }
+    ensures taken { IfOk result (λ taker.
+        SeesRows false limit (change_of S.left S.faults input.old input.new)
+        (HasSeen T.has_taken taker)) }
+    ensures refused { IfErr result (λ end.
+        StopsRows end limit (change_of S.left S.faults input.old input.new)) }
+{
+    let read = read_stream(alloc, input, limit, Context::new(alloc), taker)?;
+    Ok(read.taker)
+}
+
+/// The rows with the globals joined to each.
+fn see_joined<S: Source, T: Taker + Drop>(
+    alloc: Global,
+    input: &mut S,
+    limit: u64,
+    taker: T,
+) -> Result<T, RowsEnd>
+    requires { (t : Tree) → T.has_taken taker t [] }
+    ensures taken { IfOk result (λ taker.
+        SeesRows true limit (change_of S.left S.faults input.old input.new)
+        (HasSeen T.has_taken taker)) }
+    ensures refused { IfErr result (λ end.
+        StopsRows end limit (change_of S.left S.faults input.old input.new)) }
+{
+    let read = read_stream(alloc, input, limit, Context::new(alloc), Kept::new(alloc))?;
+    Ok(join(alloc, read, taker)?)
+}
+
+/// Hands on the rows that were kept, with the globals joined to each.
+fn join<T: Taker + Drop>(
+    alloc: Global,
+    read: Finished<Kept>,
+    mut taker: T,
+) -> Result<T, OutOfMemory>
+    requires kept { All (IsIn read.context) read.taker.snapshots.items }
+    requires globals { IsIn read.context read.globals }
+    ensures { IfOk result (λ now. TakesMore
+        (T.has_taken taker read.context)
+        (T.has_taken now read.context)
+        (map (with_entries (flat (meaning read.context read.globals)))
+        (map (meaning read.context) read.taker.snapshots.items))) }
+{
+    let Finished {
+        context,
+        taker: kept,
+        globals,
+    } = read;
+    let joined = all_immediates(alloc, &context, &globals)?;
+    hand_on(&context, kept, &joined, &mut taker)?;
+    Ok(taker)
+}
