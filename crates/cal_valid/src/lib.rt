@@ -7,4 +7,4 @@
 
 mod laws;
 
-pub use laws::valid_script_law;
+pub use laws::{generated_script_law, valid_script_law};
