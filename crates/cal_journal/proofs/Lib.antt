@@ -1,3 +1,5 @@
 pub mod Decimals
 pub mod Lines
 pub mod JournalRuns
+pub mod PrintedWords
+pub mod PrintedRuns

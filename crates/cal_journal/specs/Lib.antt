@@ -3,3 +3,5 @@ pub mod Words
 pub mod Reading
 pub mod Pending
 pub mod Both
+pub mod Printing
+pub mod ReadBack

@@ -8,10 +8,14 @@
 mod both;
 mod ends;
 mod kind;
+mod laws;
 mod numbers;
 mod pending;
+mod printing;
 mod reading;
 
 pub use both::read_both;
 pub use ends::BothEnd;
 pub use kind::JournalKind;
+pub use laws::printed_journal_law;
+pub use printing::print_journal;

@@ -1,0 +1,237 @@
+-- The text of a journal is read as this journal.
+use Rattle.std.proofs.Common.{◌≡◌, ℕ, suc, ◌+◌, ◌<◌, ◌≤◌, ◌^◌, Bool, true, false, cond, List, [], ◌∷◌, ◌++◌, length, refl, sym, ap, subst, ◌∙◌, arith, append_assoc, append-nil}
+use Rattle.std.specs.Prelude.{Option, Some, None, Result, Ok, codes, decimal, IfSome, is_some, option_to_list, ◌==◌}
+use Rattle.std.specs.List.{All, flat_map}
+use Rattle.std.specs.Option.{ok_or}
+use Rattle.std.specs.Str.{is_utf8}
+use Rattle.std.proofs.lemmas.Bool.{ne_eqb}
+use Rattle.std.proofs.lemmas.List.Elements.{All-nil, All-cons, All-head, All-tail}
+use Rattle.cal_input.specs.FirstFault.{after_lines}
+use Rattle.cal_input.specs.FirstFault as inputs
+use Rattle.cal_line.proofs.Inputs.{lines_of-newline}
+use Rattle.cal_script.specs.Lines.{joined, lines_of, words_of}
+use Rattle.cal_script.specs.declared.journal.Journal.{Journal}
+use Rattle.cal_script.specs.declared.journal.LineNote.{LineNote}
+use Rattle.cal_script.specs.declared.journal.Placed.{Placed}
+use Rattle.cal_script.specs.declared.journal.Reply.{Reply}
+use Rattle.cal_script.specs.declared.journal.RowMark.{RowMark}
+use Rattle.cal_script.specs.declared.journal.ThreadNote.{ThreadNote}
+use Rattle.cal_script.specs.declared.journal.Reply.TheVariants as reply
+use Rattle.cal_journal.specs.declared.kind.JournalKind.{JournalKind}
+use Rattle.cal_journal.specs.declared.kind.JournalKind.TheVariants.{Form}
+use Rattle.cal_journal.specs.Printing.{journal_text, newline, note_text, notes_text, op_text, reading_text, reply_text, spaced, thread_text, threads_text}
+use Rattle.cal_journal.specs.ReadBack.{HoldsJournal, HoldsNote, HoldsOp, HoldsThread, IsReadBack}
+use Rattle.cal_journal.specs.Reading.{State, ◌>>=◌, begin_at, begun, journal_of, line_after, next_line, with_mark, with_note, words_after}
+use Rattle.cal_journal.proofs.PrintedWords.{IsWordByte, decimal_word, joined_bytes, line_utf8, line_whole, long_back, reading_back, reading_bytes, reading_word, reply_back, reply_bytes, reply_word, short_back, word_bytes, words_joined}
+
+said_line : (state after : State) (line : List ℕ) → (length line == 0) ≡ false → is_some state.end ≡ false → is_utf8 line ≡ true
+    → words_after (next_line state) (words_of line) ≡ Some after → line_after state line ≡ Ok after
+unfolding line_after
+said_line state after line some open utf8 said = rw (some, open, utf8, said) refl
+
+joined_some : (byte : ℕ) (first : List ℕ) (words : List (List ℕ)) → (length (joined ((byte ∷ first) ∷ words)) == 0) ≡ false
+joined_some byte first [] = ne_eqb (length (byte ∷ first)) 0 (λ (same : length (byte ∷ first) ≡ 0). omega arith)
+joined_some byte first (next ∷ words) =
+    ne_eqb (length (byte ∷ (first ++ 32 ∷ joined (next ∷ words)))) 0 (λ (same : length (byte ∷ (first ++ 32 ∷ joined (next ∷ words))) ≡ 0). omega arith)
+
+-- what stands before `end`
+abbrev standing : ℕ → Bool → List Placed → List ℕ → List ThreadNote → Option ThreadNote → List RowMark → State
+standing line real ops op_lines earlier thread rows = record {
+  line = line;
+  clock = Some real;
+  ops = ops;
+  op_lines = op_lines;
+  earlier = earlier;
+  thread = thread;
+  rows = rows;
+  end = None;
+}
+
+reading_is : (reading : Option ℕ) → reading_text reading ≡ 32 ∷ reading_word reading
+reading_is None = refl
+reading_is (Some n) = refl
+
+reply_is : (r : Reply) → reply_text r ≡ 32 ∷ reply_word r
+reply_is reply.Done = refl
+reply_is (reply.Mismatch top) = refl
+reply_is reply.NotOpen = refl
+reply_is reply.TooDeep = refl
+reply_is reply.SlotsFull = refl
+reply_is reply.Merged = refl
+reply_is (reply.Busy holder) = refl
+
+op_line : (op : Placed) (more : List ℕ) → op_text op ++ more ≡ joined (codes "op" ∷ decimal op.thread ∷ decimal op.line ∷ []) ++ 10 ∷ more
+op_line op more = simp append_assoc
+
+start_line : (thread : ℕ) (reading : Option ℕ) (rest more : List ℕ)
+    → (codes "start" ++ spaced thread ++ reading_text reading ++ newline ++ rest) ++ more
+    ≡ joined (codes "start" ∷ decimal thread ∷ reading_word reading ∷ []) ++ 10 ∷ (rest ++ more)
+start_line thread reading rest more =
+    ap (λ text. (codes "start" ++ spaced thread ++ text ++ newline ++ rest) ++ more) (reading_is reading) ∙ simp append_assoc
+
+note_line : (thread line : ℕ) (note : LineNote) (rest more : List ℕ)
+    → (note_text thread line note ++ rest) ++ more
+    ≡ joined (codes "line" ∷ decimal thread ∷ decimal line ∷ reply_word note.reply ∷ decimal note.seen ∷ reading_word note.reading ∷ []) ++ 10 ∷ (rest ++ more)
+note_line thread line note rest more =
+    (λ i. ((codes "line" ++ spaced thread ++ spaced line ++ reply_is note.reply i ++ spaced note.seen ++ reading_is note.reading i ++ newline) ++ rest) ++ more)
+    ∙ simp append_assoc
+
+words_of_op : (op : Placed) → HoldsOp op → All (All IsWordByte) (decimal op.thread ∷ decimal op.line ∷ [])
+words_of_op op holds =
+    All-cons (All IsWordByte) (decimal op.thread) _ (decimal_word op.thread (omega (arith, holds.thread)))
+    (All-cons (All IsWordByte) (decimal op.line) _ (decimal_word op.line (omega (arith, holds.line))) (All-nil (All IsWordByte)))
+
+words_of_start : (thread : ℕ) (reading : Option ℕ) → thread < 2 ^ 64 → IfSome reading (λ n. n < 2 ^ 64)
+    → All (All IsWordByte) (decimal thread ∷ reading_word reading ∷ [])
+words_of_start thread reading small fits =
+    All-cons (All IsWordByte) (decimal thread) _ (decimal_word thread small)
+    (All-cons (All IsWordByte) (reading_word reading) _ (reading_bytes reading fits) (All-nil (All IsWordByte)))
+
+words_of_note : (thread line : ℕ) (note : LineNote) → thread < 2 ^ 64 → line < 2 ^ 64 → HoldsNote note
+    → All (All IsWordByte) (decimal thread ∷ decimal line ∷ reply_word note.reply ∷ decimal note.seen ∷ reading_word note.reading ∷ [])
+words_of_note thread line note small short holds =
+    All-cons (All IsWordByte) (decimal thread) _ (decimal_word thread small)
+    (All-cons (All IsWordByte) (decimal line) _ (decimal_word line short)
+    (All-cons (All IsWordByte) (reply_word note.reply) _ (reply_bytes note.reply holds.reply)
+    (All-cons (All IsWordByte) (decimal note.seen) _ (decimal_word note.seen holds.seen)
+    (All-cons (All IsWordByte) (reading_word note.reading) _ (reading_bytes note.reading holds.reading) (All-nil (All IsWordByte))))))
+
+module _ (real : Bool) where
+  op_said : (line : ℕ) (ops : List Placed) (op_lines : List ℕ) (rows : List RowMark) (op : Placed) → HoldsOp op
+      → words_after (next_line (standing line real ops op_lines [] None rows)) (codes "op" ∷ decimal op.thread ∷ decimal op.line ∷ [])
+      ≡ Some (standing (line + 1) real (ops ++ op ∷ []) (op_lines ++ (line + 1) ∷ []) [] None rows)
+  op_said line ops op_lines rows op holds =
+      let state : State = next_line (standing line real ops op_lines [] None rows) in
+      let from : Option ℕ → Option ℕ → Option State = λ a b.
+          (a >>= (λ t. b >>= (λ l. let p : Placed = record { thread = t; line = l } in Some p)))
+          >>= (λ p. Some (record state { ops = state.ops ++ p ∷ []; op_lines = state.op_lines ++ state.line ∷ [] })) in
+      λ i. from (short_back op.thread holds.thread i) (short_back op.line holds.line i)
+
+  start_said : (line : ℕ) (ops : List Placed) (op_lines : List ℕ) (earlier : List ThreadNote) (last : Option ThreadNote) (rows : List RowMark)
+      (thread : ℕ) (reading : Option ℕ) → thread < 2 ^ 64 → IfSome reading (λ n. n < 2 ^ 64)
+      → words_after (next_line (standing line real ops op_lines earlier last rows)) (codes "start" ∷ decimal thread ∷ reading_word reading ∷ [])
+      ≡ Some (standing (line + 1) real ops op_lines (earlier ++ option_to_list last) (Some (record { start = reading; lines = [] }))
+      (rows ++ record { line = line + 1; thread = thread; number = 0 } ∷ []))
+  start_said line ops op_lines earlier last rows thread reading small fits =
+      let state : State = next_line (standing line real ops op_lines earlier last rows) in
+      let from : Option ℕ → Option (Option ℕ) → Option State = λ a b.
+          (a >>= (λ t. b >>= (λ r. Some (t, r)))) >>= (λ said. Some (with_mark said.0 0 (begun said.1 state))) in
+      λ i. from (long_back thread small i) (reading_back reading fits i)
+
+  note_said : (line : ℕ) (ops : List Placed) (op_lines : List ℕ) (earlier : List ThreadNote) (last : ThreadNote) (rows : List RowMark)
+      (thread number : ℕ) (note : LineNote) → thread < 2 ^ 64 → number < 2 ^ 64 → HoldsNote note
+      → words_after (next_line (standing line real ops op_lines earlier (Some last) rows))
+      (codes "line" ∷ decimal thread ∷ decimal number ∷ reply_word note.reply ∷ decimal note.seen ∷ reading_word note.reading ∷ [])
+      ≡ Some (standing (line + 1) real ops op_lines earlier (Some (with_note note last)) (rows ++ record { line = line + 1; thread = thread; number = number } ∷ []))
+  note_said line ops op_lines earlier last rows thread number note small short holds =
+      let state : State = next_line (standing line real ops op_lines earlier (Some last) rows) in
+      let from : Option ℕ → Option ℕ → Option Reply → Option ℕ → Option (Option ℕ) → Option State = λ a b c d e.
+          (a >>= (λ t. b >>= (λ n. (c >>= (λ r. d >>= (λ s. e >>= (λ g. let made : LineNote = record { reply = r; seen = s; reading = g } in Some made))))
+          >>= (λ made. Some (t, n, made)))))
+          >>= (λ said. Some (with_mark said.0 said.1 (record state { thread = Some (with_note said.2 last) }))) in
+      λ i. from (long_back thread small i) (long_back number short i) (reply_back note.reply holds.reply i) (long_back note.seen holds.seen i)
+          (reading_back note.reading holds.reading i)
+
+module _ (journal : Journal) where
+  -- the text behind a state says the journal
+  Says : State → List ℕ → Type 0
+  Says state text =
+      (final : State) × (line : ℕ) × (after_lines line_after state (lines_of text) ≡ Ok final) × (final.end ≡ Some line)
+      × ((journal_of final line).journal ≡ journal)
+
+  says_line : (state after : State) (byte : ℕ) (first : List ℕ) (words : List (List ℕ)) (text more : List ℕ)
+      → All IsWordByte (byte ∷ first) → All (All IsWordByte) words → is_some state.end ≡ false
+      → words_after (next_line state) ((byte ∷ first) ∷ words) ≡ Some after
+      → text ≡ joined ((byte ∷ first) ∷ words) ++ 10 ∷ more → Says after more → Says state text
+  unfolding Says
+  says_line state after byte first words text more is all open said same says =
+      let line : List ℕ = joined ((byte ∷ first) ∷ words) in
+      let bytes = joined_bytes (byte ∷ first) words is all in
+      let found = ap (words_after (next_line state)) (words_joined (byte ∷ first) words is all) ∙ said in
+      let step = said_line state after line (joined_some byte first words) open (line_utf8 line bytes) found in
+      (says.0, says.1,
+      ap (λ t. after_lines line_after state (lines_of t)) same
+      ∙ ap (after_lines line_after state) (lines_of-newline line more (line_whole line bytes))
+      ∙ ap (λ (found : Result State JournalKind). found inputs.>>= (λ s. after_lines line_after s (lines_of more))) step ∙ says.2,
+      says.3, says.4)
+
+  module _ (real : Bool) where
+    ops_say : (rest : List Placed) (line : ℕ) (ops : List Placed) (op_lines : List ℕ) (more : List ℕ) → All HoldsOp rest
+        → ((now : ℕ) (lines : List ℕ) → Says (standing now real (ops ++ rest) lines [] None []) more)
+        → Says (standing line real ops op_lines [] None []) (flat_map op_text rest ++ more)
+    ops_say [] line ops op_lines more holds then =
+        subst (λ (o : List Placed). Says (standing line real o op_lines [] None []) more) (append-nil ops) (then line op_lines)
+    ops_say (op ∷ rest) line ops op_lines more holds then =
+        let fine = All-head HoldsOp op rest holds in
+        says_line _ _ 111 (112 ∷ []) (decimal op.thread ∷ decimal op.line ∷ []) _ (flat_map op_text rest ++ more) (word_bytes (codes "op") refl) (words_of_op op fine) refl
+        (op_said real line ops op_lines [] op fine) (append_assoc (op_text op) (flat_map op_text rest) more ∙ op_line op (flat_map op_text rest ++ more))
+        (ops_say rest (line + 1) (ops ++ op ∷ []) (op_lines ++ (line + 1) ∷ []) more (All-tail HoldsOp op rest holds)
+        (λ now lines. subst (λ (o : List Placed). Says (standing now real o lines [] None []) more) (sym (append_assoc ops (op ∷ []) rest)) (then now lines)))
+
+    notes_say : (rest : List LineNote) (line : ℕ) (ops : List Placed) (op_lines : List ℕ) (earlier : List ThreadNote) (start : Option ℕ) (done : List LineNote)
+        (rows : List RowMark) (thread number : ℕ) (more : List ℕ) → All HoldsNote rest → thread < 2 ^ 64 → number + length rest < 2 ^ 64
+        → ((now : ℕ) (marks : List RowMark) → Says (standing now real ops op_lines earlier (Some (record { start = start; lines = done ++ rest })) marks) more)
+        → Says (standing line real ops op_lines earlier (Some (record { start = start; lines = done })) rows) (notes_text thread number rest ++ more)
+    notes_say [] line ops op_lines earlier start done rows thread number more holds small short then =
+        subst (λ (l : List LineNote). Says (standing line real ops op_lines earlier (Some (record { start = start; lines = l })) rows) more) (append-nil done) (then line rows)
+    notes_say (note ∷ rest) line ops op_lines earlier start done rows thread number more holds small short then =
+        let fine = All-head HoldsNote note rest holds in
+        let last : ThreadNote = record { start = start; lines = done } in
+        says_line _ _ 108 (105 ∷ 110 ∷ 101 ∷ [])
+        (decimal thread ∷ decimal number ∷ reply_word note.reply ∷ decimal note.seen ∷ reading_word note.reading ∷ []) _ (notes_text thread (number + 1) rest ++ more)
+        (word_bytes (codes "line") refl) (words_of_note thread number note small (omega arith) fine) refl
+        (note_said real line ops op_lines earlier last rows thread number note small (omega arith) fine)
+        (note_line thread number note (notes_text thread (number + 1) rest) more)
+        (notes_say rest (line + 1) ops op_lines earlier start (done ++ note ∷ []) _ thread (number + 1) more (All-tail HoldsNote note rest holds) small (omega arith)
+        (λ now marks. subst (λ (l : List LineNote). Says (standing now real ops op_lines earlier (Some (record { start = start; lines = l })) marks) more)
+        (sym (append_assoc done (note ∷ []) rest)) (then now marks)))
+
+    threads_say : (rest : List ThreadNote) (line : ℕ) (ops : List Placed) (op_lines : List ℕ) (earlier : List ThreadNote) (last : Option ThreadNote) (rows : List RowMark)
+        (thread : ℕ) (more : List ℕ) → All HoldsThread rest → thread + length rest < 2 ^ 64
+        → ((now : ℕ) (before : List ThreadNote) (after : Option ThreadNote) (marks : List RowMark)
+        → before ++ option_to_list after ≡ (earlier ++ option_to_list last) ++ rest → Says (standing now real ops op_lines before after marks) more)
+        → Says (standing line real ops op_lines earlier last rows) (threads_text thread rest ++ more)
+    threads_say [] line ops op_lines earlier last rows thread more holds short then =
+        then line earlier last rows (sym (append-nil (earlier ++ option_to_list last)))
+    threads_say (note ∷ rest) line ops op_lines earlier last rows thread more holds short then =
+        let fine = All-head HoldsThread note rest holds in
+        let before : List ThreadNote = earlier ++ option_to_list last in
+        let behind : List ℕ = threads_text (thread + 1) rest ++ more in
+        says_line _ _ 115 (116 ∷ 97 ∷ 114 ∷ 116 ∷ []) (decimal thread ∷ reading_word note.start ∷ []) _ (notes_text thread 1 note.lines ++ behind)
+        (word_bytes (codes "start") refl) (words_of_start thread note.start (omega arith) fine.start) refl
+        (start_said real line ops op_lines earlier last rows thread note.start (omega arith) fine.start)
+        (append_assoc (thread_text thread note) (threads_text (thread + 1) rest) more ∙ start_line thread note.start (notes_text thread 1 note.lines) behind)
+        (notes_say note.lines (line + 1) ops op_lines before note.start [] _ thread 1 behind fine.lines (omega arith) (omega (arith, fine.few))
+        (λ now marks. threads_say rest now ops op_lines before (Some note) marks (thread + 1) more (All-tail HoldsThread note rest holds) (omega arith)
+        (λ later others final rows same. then later others final rows (same ∙ append_assoc before (note ∷ []) rest))))
+
+    end_says : (now : ℕ) (ops : List Placed) (op_lines : List ℕ) (before : List ThreadNote) (after : Option ThreadNote) (marks : List RowMark)
+        → real ≡ journal.real → ops ≡ journal.ops → before ++ option_to_list after ≡ journal.threads
+        → Says (standing now real ops op_lines before after marks) (codes "end" ++ newline)
+    unfolding Says
+    end_says now ops op_lines before after marks clock history threads =
+        let state : State = standing now real ops op_lines before after marks in
+        let final : State = record state { line = now + 1; end = Some (now + 1) } in
+        says_line state final 101 (110 ∷ 100 ∷ []) [] _ [] (word_bytes (codes "end") refl) (All-nil (All IsWordByte)) refl refl refl
+        (final, now + 1, refl, refl, (λ i. record { real = clock i; ops = history i; threads = threads i }))
+
+  clock_says : (real : Bool) (line : ℕ) (more : List ℕ) → Says (standing (line + 1) real [] [] [] None []) more
+      → Says (begin_at line) (codes "journal " ++ (cond real (codes "real") (codes "script")) ++ newline ++ more)
+  clock_says true line more says =
+      says_line _ _ 106 (111 ∷ 117 ∷ 114 ∷ 110 ∷ 97 ∷ 108 ∷ []) (codes "real" ∷ []) _ more (word_bytes (codes "journal") refl)
+      (All-cons (All IsWordByte) (codes "real") [] (word_bytes (codes "real") refl) (All-nil (All IsWordByte))) refl refl refl says
+  clock_says false line more says =
+      says_line _ _ 106 (111 ∷ 117 ∷ 114 ∷ 110 ∷ 97 ∷ 108 ∷ []) (codes "script" ∷ []) _ more (word_bytes (codes "journal") refl)
+      (All-cons (All IsWordByte) (codes "script") [] (word_bytes (codes "script") refl) (All-nil (All IsWordByte))) refl refl refl says
+
+  whole_says : (line : ℕ) → HoldsJournal journal → Says (begin_at line) (journal_text journal)
+  whole_says line holds =
+      clock_says journal.real line _
+      (ops_say journal.real journal.ops (line + 1) [] [] _ holds.ops (λ now lines.
+      threads_say journal.real journal.threads now journal.ops lines [] None [] 0 _ holds.threads (omega (arith, holds.few))
+      (λ later before after marks same. end_says journal.real later journal.ops lines before after marks refl refl same)))
+
+  pub read_back : (line : ℕ) → HoldsJournal journal → IsReadBack line journal
+  unfolding Says
+  read_back line holds =
+      let says = whole_says line holds in (journal_of says.0 says.1, (says.0, says.1, says.2, says.3, refl), says.4)
