@@ -1,13 +1,12 @@
 -- The text of a journal is read as this journal.
 use Rattle.std.proofs.Common.{◌≡◌, ℕ, suc, ◌+◌, ◌<◌, ◌≤◌, ◌^◌, Bool, true, false, cond, List, [], ◌∷◌, ◌++◌, length, refl, sym, ap, subst, ◌∙◌, arith, append_assoc, append-nil}
-use Rattle.std.specs.Prelude.{Option, Some, None, Result, Ok, codes, decimal, IfSome, is_some, option_to_list, ◌==◌}
+use Rattle.std.specs.Prelude.{Option, Some, None, Result, Ok, Err, codes, decimal, IfSome, is_some, not, option_to_list, ◌==◌}
 use Rattle.std.specs.List.{All, flat_map}
 use Rattle.std.specs.Option.{ok_or}
 use Rattle.std.specs.Str.{is_utf8}
 use Rattle.std.proofs.lemmas.Bool.{ne_eqb}
 use Rattle.std.proofs.lemmas.List.Elements.{All-nil, All-cons, All-head, All-tail}
 use Rattle.cal_input.specs.FirstFault.{after_lines}
-use Rattle.cal_input.specs.FirstFault as inputs
 use Rattle.cal_line.proofs.Inputs.{lines_of-newline}
 use Rattle.cal_script.specs.Lines.{joined, lines_of, words_of}
 use Rattle.cal_script.specs.declared.journal.Journal.{Journal}
@@ -18,16 +17,21 @@ use Rattle.cal_script.specs.declared.journal.RowMark.{RowMark}
 use Rattle.cal_script.specs.declared.journal.ThreadNote.{ThreadNote}
 use Rattle.cal_script.specs.declared.journal.Reply.TheVariants as reply
 use Rattle.cal_journal.specs.declared.kind.JournalKind.{JournalKind}
-use Rattle.cal_journal.specs.declared.kind.JournalKind.TheVariants.{Form}
+use Rattle.cal_journal.specs.declared.kind.JournalKind.TheVariants.{After, Form}
 use Rattle.cal_journal.specs.Printing.{journal_text, newline, note_text, notes_text, op_text, reading_text, reply_text, spaced, thread_text, threads_text}
 use Rattle.cal_journal.specs.ReadBack.{HoldsJournal, HoldsNote, HoldsOp, HoldsThread, IsReadBack}
 use Rattle.cal_journal.specs.Reading.{State, ◌>>=◌, begin_at, begun, journal_of, line_after, next_line, with_mark, with_note, words_after}
-use Rattle.cal_journal.proofs.PrintedWords.{IsWordByte, decimal_word, joined_bytes, line_utf8, line_whole, long_back, reading_back, reading_bytes, reading_word, reply_back, reply_bytes, reply_word, short_back, word_bytes, words_joined}
+use Rattle.cal_journal.proofs.PrintedWords.{IsWordByte, after_first, decimal_word, joined_bytes, line_utf8, line_whole, long_back, reading_back, reading_bytes, reading_word, reply_back, reply_bytes, reply_word, short_back, word_bytes, words_joined}
 
 said_line : (state after : State) (line : List ℕ) → (length line == 0) ≡ false → is_some state.end ≡ false → is_utf8 line ≡ true
     → words_after (next_line state) (words_of line) ≡ Some after → line_after state line ≡ Ok after
 unfolding line_after
-said_line state after line some open utf8 said = rw (some, open, utf8, said) refl
+said_line state after line some open utf8 said =
+    ap (λ (empty : Bool). cond empty (Ok (next_line state)) (cond (is_some state.end) (Err After) (cond (not (is_utf8 line)) (Err Form)
+    (ok_or (words_after (next_line state) (words_of line)) Form)))) some
+    ∙ ap (λ (ended : Bool). cond ended (Err After) (cond (not (is_utf8 line)) (Err Form) (ok_or (words_after (next_line state) (words_of line)) Form))) open
+    ∙ ap (λ (text : Bool). cond (not text) (Err Form) (ok_or (words_after (next_line state) (words_of line)) Form)) utf8
+    ∙ ap (λ (found : Option State). ok_or found Form) said
 
 joined_some : (byte : ℕ) (first : List ℕ) (words : List (List ℕ)) → (length (joined ((byte ∷ first) ∷ words)) == 0) ≡ false
 joined_some byte first [] = ne_eqb (length (byte ∷ first)) 0 (λ (same : length (byte ∷ first) ≡ 0). omega arith)
@@ -152,7 +156,7 @@ module _ (journal : Journal) where
       (says.0, says.1,
       ap (λ t. after_lines line_after state (lines_of t)) same
       ∙ ap (after_lines line_after state) (lines_of-newline line more (line_whole line bytes))
-      ∙ ap (λ (found : Result State JournalKind). found inputs.>>= (λ s. after_lines line_after s (lines_of more))) step ∙ says.2,
+      ∙ after_first line_after state after line (lines_of more) step ∙ says.2,
       says.3, says.4)
 
   module _ (real : Bool) where

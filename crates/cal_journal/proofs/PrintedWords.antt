@@ -1,14 +1,14 @@
 -- The words of printed lines are read as what was printed.
 use Rattle.std.proofs.Common.{◌≡◌, ◌≢◌, ℕ, zero, suc, ◌+◌, ◌<◌, ◌≤◌, ◌^◌, ◌⊎◌, inl, inr, Bool, true, false, cond, eqb, List, [], ◌∷◌, ◌++◌, length, min, refl, sym, ap, subst, ◌∙◌, arith, lit≤, lit<}
-use Rattle.std.specs.Prelude.{Option, Some, None, codes, decimal, IfSome, nat_lt, nat_le, ◌&&◌, ◌==◌, not, slice_index}
+use Rattle.std.specs.Prelude.{Option, Some, None, Result, Ok, codes, decimal, IfSome, nat_lt, nat_le, ◌&&◌, ◌==◌, not, slice_index}
 use Rattle.std.specs.List.{All, list_all, slice_split}
 use Rattle.std.specs.Option.{option_map}
 use Rattle.std.specs.Str.{IsAscii, bytes_eq, is_utf8}
 use Rattle.std.specs.Str.Parse.{AllDigits}
 use Rattle.std.specs.Cmp.{first_so, second_so}
 use Rattle.std.specs.Cmp.Lexicographic.{same_text}
-use Rattle.std.proofs.lemmas.Bool.{ne_eqb, le-leb}
-use Rattle.std.proofs.lemmas.Bool.Decides.{nat_tests}
+use Rattle.std.proofs.lemmas.Bool.{ne_eqb, leb-true}
+use borrow.Author.Tests.{ltb-true}
 use Rattle.std.proofs.lemmas.Fmt.{decimal_is_IsNumeral}
 use Rattle.std.proofs.lemmas.List.Elements.{All-nil, All-cons, All-head, All-tail, All-append, All-weaker}
 use Rattle.std.proofs.lemmas.List.Splits.{slice_split_at, slice_split_none}
@@ -17,6 +17,7 @@ use Rattle.std.proofs.lemmas.Str.Parse.{digit_from_value}
 use Rattle.cal_value.specs.Numerals.{at_most, number_of}
 use Rattle.cal_value.specs.Reading.{uint_of}
 use Rattle.cal_value.proofs.Numbers.{at_most-fits, number_of-digits}
+use Rattle.cal_input.specs.FirstFault.{◌>>=◌, after_lines}
 use Rattle.cal_line.specs.Lines.{HasNoNewline}
 use Rattle.cal_script.specs.Lines.{joined, pieces, words_of}
 use Rattle.cal_script.specs.declared.journal.Reply as replies
@@ -30,20 +31,20 @@ use Rattle.cal_journal.specs.ReadBack.{HoldsReply}
 abbrev pub IsWordByte : ℕ → Type 0
 IsWordByte byte = (33 ≤ byte) × (byte < 128)
 
-abbrev is_word_byte : ℕ → Bool
+abbrev pub is_word_byte : ℕ → Bool
 is_word_byte byte = nat_le 33 byte && nat_lt byte 128
 
 word_byte : (byte : ℕ) → is_word_byte byte ≡ true → IsWordByte byte
 word_byte byte is =
-    let low = first_so (nat_le 33) (nat_lt byte 128) {byte} is in
-    let high = second_so (nat_le 33) (nat_lt byte 128) {byte} is in
-    grind (arith, nat_tests)
+    let low = first_so (nat_le 33 byte) (nat_lt byte 128) is in
+    let high = second_so (nat_le 33 byte) (nat_lt byte 128) is in
+    (leb-true 33 byte low, ltb-true byte 128 high)
 
 pub word_bytes : (word : List ℕ) → list_all is_word_byte word ≡ true → All IsWordByte word
 word_bytes [] is = All-nil IsWordByte
 word_bytes (byte ∷ word) is =
-    let first = first_so is_word_byte (list_all is_word_byte word) is in
-    let rest = second_so is_word_byte (list_all is_word_byte word) is in
+    let first = first_so (is_word_byte byte) (list_all is_word_byte word) is in
+    let rest = second_so (is_word_byte byte) (list_all is_word_byte word) is in
     All-cons IsWordByte byte word (word_byte byte first) (word_bytes word rest)
 
 abbrev IsDigit : ℕ → Type 0
@@ -104,6 +105,11 @@ line_utf8 bytes all = is_utf8-from_IsUtf8 bytes (IsUtf8-from_ascii bytes (λ i. 
 pub line_whole : (bytes : List ℕ) → All IsLineByte bytes → HasNoNewline bytes
 line_whole bytes all =
     All-weaker IsLineByte (λ byte. byte ≢ 10) (λ byte is. λ (same : byte ≡ 10). omega arith) bytes all
+
+-- a first line that is read
+pub after_first : {S K : Type 0} (step : S → List ℕ → Result S K) (state after : S) (line : List ℕ) (lines : List (List ℕ))
+    → step state line ≡ Ok after → after_lines step state (line ∷ lines) ≡ after_lines step after lines
+after_first {S} {K} step state after line lines said = ap (λ (found : Result S K). found >>= (λ s. after_lines step s lines)) said
 
 -- ---- numbers
 

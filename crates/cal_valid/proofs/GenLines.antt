@@ -1,12 +1,12 @@
 -- What each line of a generated script makes of what stands before it.
-use Rattle.std.proofs.Common.{◌≡◌, ◌≢◌, ℕ, zero, suc, pos, ◌+◌, ◌/◌, ◌<◌, ◌≤◌, ◌^◌, Bool, true, false, cond, List, [], ◌∷◌, ◌++◌, length, refl, sym, ap, ◌∙◌, arith, lit≤, lit<}
+use Rattle.std.proofs.Common.{◌≡◌, ◌≢◌, ℕ, zero, suc, pos, ◌+◌, ◌/◌, ◌<◌, ◌≤◌, ◌^◌, Bool, true, false, cond, eqb, List, [], ◌∷◌, ◌++◌, length, refl, sym, ap, ◌∙◌, arith, lit≤, lit<}
 use Rattle.std.specs.Prelude.{Option, Some, None, Result, Ok, Err, codes, decimal, nat_lt, nat_le, ◌&&◌, ◌==◌, not, slice_index}
 use Rattle.std.specs.List.{All, list_all}
 use Rattle.std.specs.Option.{ok_or}
 use Rattle.std.specs.Cmp.{first_so, second_so}
 use Rattle.std.specs.Str.{IsAscii, IsUtf8, is_utf8}
 use Rattle.std.proofs.lemmas.Bool.{le-leb}
-use Rattle.std.proofs.lemmas.Bool.Decides.{nat_tests}
+use borrow.Author.Tests.{eqb-false, ltb-true}
 use Rattle.std.proofs.lemmas.List.Elements.{All-nil, All-cons, All-head, All-tail, All-append, All-weaker}
 use Rattle.std.proofs.lemmas.Str.{IsUtf8-from_ascii, is_utf8-from_IsUtf8}
 use Rattle.cal_gen.specs.Draws.{drawn, next}
@@ -25,10 +25,10 @@ use Rattle.cal_words.proofs.Bytes.{length-text_words}
 use Rattle.cal_script.specs.Limits.{fits}
 use Rattle.cal_script.specs.Lines.{is_skipped, is_word, words_of}
 use Rattle.cal_script.specs.Parts.{allowed, number_said, value_said}
-use Rattle.cal_script.specs.Reading.{line_after, words_after}
+use Rattle.cal_script.specs.Reading.{limited, line_after, text_after, words_after}
 use Rattle.cal_script.specs.State.{State, counted, node_length, opening, with_line, with_opening}
 use Rattle.cal_script.specs.declared.kind.ScriptKind.{ScriptKind}
-use Rattle.cal_script.specs.declared.kind.ScriptKind.TheVariants.{BadEscape, BadValue, WrongArity}
+use Rattle.cal_script.specs.declared.kind.ScriptKind.TheVariants.{BadEscape, BadValue, NotText, TooMany, WrongArity}
 use Rattle.cal_script.specs.declared.opening.Opening.{Opening}
 use Rattle.cal_script.specs.declared.script.Channel.{Channel}
 use Rattle.cal_script.specs.declared.script.Line.{Line}
@@ -42,20 +42,24 @@ use Rattle.cal_valid.proofs.GenDigits.{IsPlain, decimal_int, decimal_plain, deci
 abbrev pub IsClean : ℕ → Type 0
 IsClean byte = (byte < 128) × (byte ≢ 10)
 
-abbrev is_clean : ℕ → Bool
+abbrev pub is_clean : ℕ → Bool
 is_clean byte = nat_lt byte 128 && not (byte == 10)
+
+not_true : (b : Bool) → not b ≡ true → b ≡ false
+not_true true is = absurd cc
+not_true false is = refl
 
 clean_byte : (byte : ℕ) → is_clean byte ≡ true → IsClean byte
 clean_byte byte is =
-    let small = first_so (λ b. nat_lt b 128) (not (byte == 10)) {byte} is in
-    let other = second_so (λ b. nat_lt b 128) (not (byte == 10)) is in
-    grind (arith, nat_tests)
+    let small = first_so (nat_lt byte 128) (not (byte == 10)) is in
+    let other = second_so (nat_lt byte 128) (not (byte == 10)) is in
+    (ltb-true byte 128 small, eqb-false byte 10 (not_true (eqb byte 10) other))
 
 clean_front : (front : List ℕ) → list_all is_clean front ≡ true → All IsClean front
 clean_front [] is = All-nil IsClean
 clean_front (byte ∷ front) is =
-    let first = first_so is_clean (list_all is_clean front) is in
-    let rest = second_so is_clean (list_all is_clean front) is in
+    let first = first_so (is_clean byte) (list_all is_clean front) is in
+    let rest = second_so (is_clean byte) (list_all is_clean front) is in
     All-cons IsClean byte front (clean_byte byte first) (clean_front front rest)
 
 pub clean_line : (front word : List ℕ) → list_all is_clean front ≡ true → All IsPlain word → All IsClean (front ++ word)
@@ -78,7 +82,11 @@ clean_whole bytes clean = All-weaker IsClean (λ byte. byte ≢ 10) (λ byte fin
 pub said_line : (state after : State) (text : List ℕ) → All IsClean text → is_skipped text ≡ false
     → words_after state (words_of text) ≡ Ok after → fits after ≡ true → line_after state text ≡ Ok after
 unfolding line_after
-said_line state after text clean says said fine = rw (clean_utf8 text clean, says, said, fine) refl
+said_line state after text clean says said fine =
+    ap (λ (utf8 : Bool). cond (not utf8) (Err NotText) (cond (is_skipped text) (Ok state) (text_after state text))) (clean_utf8 text clean)
+    ∙ ap (λ (skipped : Bool). cond skipped (Ok state) (text_after state text)) says
+    ∙ ap (λ (found : Result State ScriptKind). found >>= limited) said
+    ∙ ap (λ (fine : Bool). cond fine (Ok after) (Err TooMany)) fine
 
 -- ---- what stands in a generated script
 

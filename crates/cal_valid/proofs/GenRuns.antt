@@ -1,5 +1,5 @@
 -- The text of a generated script means a valid script.
-use Rattle.std.proofs.Common.{◌≡◌, ℕ, zero, suc, ◌+◌, ◌*◌, ◌/◌, ◌<◌, ◌≤◌, Bool, true, false, List, [], ◌∷◌, ◌++◌, length, take, refl, sym, ap, subst, ◌∙◌, arith, append_assoc, lit≤}
+use Rattle.std.proofs.Common.{◌≡◌, ℕ, zero, suc, ◌+◌, ◌*◌, ◌/◌, ◌<◌, ◌≤◌, Bool, true, false, leb, List, [], ◌∷◌, ◌++◌, length, take, refl, sym, ap, subst, ◌∙◌, arith, append_assoc, lit≤}
 use Rattle.std.specs.Prelude.{Option, Some, None, Result, Ok, codes, max, ◌&&◌}
 use Rattle.std.specs.List.{All}
 use Rattle.std.specs.Option.{option_to_list}
@@ -55,8 +55,10 @@ module _ (threads lines : ℕ) (few : threads ≤ 64) (all : threads * lines ≤
       → length earlier + length (option_to_list thread) ≤ threads → 1 ≤ threads → tally.lines ≤ 1048576
       → tally.process_lines ≡ 0 → arena tally ≤ 8 * lines → fits (standing values earlier thread tally) ≡ true
   standing_fits values earlier thread tally within some short none small =
-      six _ _ _ _ _ _ refl refl (le-leb _ 64 (omega arith)) (le-leb _ 1048576 short) (le-leb _ 65536 (omega arith))
-      (le-leb _ 134217728 (tree_fits (length earlier + length (option_to_list thread)) (arena tally) within some small))
+      let begun : ℕ = length earlier + length (option_to_list thread) in
+      six true true (leb begun 64) (leb tally.lines 1048576) (leb tally.process_lines 65536) (leb (tree_words begun (arena tally)) 134217728)
+      refl refl (le-leb begun 64 (omega arith)) (le-leb tally.lines 1048576 short) (le-leb tally.process_lines 65536 (omega (arith, none)))
+      (le-leb (tree_words begun (arena tally)) 134217728 (tree_fits begun (arena tally) within some small))
 
   -- in a thread, before so many lines more
   record Within (earlier : List (List Line)) (tally : Tally) (count : ℕ) : Type 0 where
@@ -101,7 +103,7 @@ module _ (threads lines : ℕ) (few : threads ≤ 64) (all : threads * lines ≤
       let said = said_line (standing values earlier (Some thread) tally) (standing goes.more_values earlier (Some goes.more_thread) after)
       step.line goes.clean goes.says goes.said (within_fits goes.more_values earlier goes.more_thread after count next) in
       let ends = lines_end count step.after.x step.after.depth goes.more_values earlier goes.more_thread after more next
-      (λ now done last fine counts. then now done last fine (counts ∙ omega arith)) in
+      (λ now done last fine counts. then now done last fine (omega (arith, counts))) in
       ends_text _ _ _ (append_assoc step.line (10 ∷ rest.text) more)
       (ends_line (standing values earlier (Some thread) tally) _ step.line (rest.text ++ more) goes.clean said ends)
 

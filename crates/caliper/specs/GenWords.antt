@@ -54,13 +54,18 @@ with_lines options text =
 abbrev pub with_print : GenOptions → Option GenOptions
 with_print options = if options.print then None else Some (record options { print = true })
 
+-- the options with that of a word that says neither a seed nor threads
+abbrev pub with_other_word : GenOptions → List ℕ → Option GenOptions
+with_other_word options word =
+    option_map_or (with_lines options) (value_behind (codes "--lines=") word)
+    (if bytes_eq word (codes "--print=script") then with_print options else None)
+
 -- the options with that of a word
 abbrev pub with_gen_word : GenOptions → List ℕ → Option GenOptions
 with_gen_word options word =
     option_map_or (with_seed options) (value_behind (codes "--seed=") word)
     (option_map_or (with_threads options) (value_behind (codes "--threads=") word)
-    (option_map_or (with_lines options) (value_behind (codes "--lines=") word)
-    (if bytes_eq word (codes "--print=script") then with_print options else None)))
+    (with_other_word options word))
 
 -- so many lines in all threads, as far as the options say
 abbrev pub all_lines : GenOptions → ℕ
@@ -70,6 +75,10 @@ all_lines options = unwrap_or options.threads 1 * unwrap_or options.lines 0
 abbrev pub not_too_many : Option GenOptions → Option GenOptions
 not_too_many None = None
 not_too_many (Some options) = if nat_le (all_lines options) 1048576 then Some options else None
+
+-- the options with that of a next word, where the lines aren't too many in all
+abbrev pub with_next_word : GenOptions → List ℕ → Option GenOptions
+with_next_word options word = not_too_many (with_gen_word options word)
 
 -- the command of three numbers, or the number of words where one is missing
 abbrev pub gen_from : ℕ → Option ℕ → Option ℕ → Option ℕ → Result Command ℕ
@@ -82,7 +91,7 @@ abbrev pub gen_of : ℕ → GenOptions → List (List ℕ) → Result Command �
 gen_of place options [] = gen_from place options.seed options.threads options.lines
 gen_of place options (word ∷ words) =
     option_map_or (λ next. gen_of (place + 1) next words)
-    (not_too_many (with_gen_word options word)) (Err place)
+    (with_next_word options word) (Err place)
 
 -- how many options were given
 abbrev pub count_given : GenOptions → ℕ

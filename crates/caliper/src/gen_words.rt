@@ -1,8 +1,9 @@
-ghost use Rattle.std.specs.Prelude.{◌≡◌, map, string_bytes};
+ghost use Rattle.std.specs.Prelude.{◌≡◌, ◌+◌, false, true, is_some, map, string_bytes, IfSome};
 ghost use Rattle.cal_value.specs.Reading.{uint_of};
-ghost use Rattle.caliper.specs.GenWords.{all_lines, gen_from, gen_of, no_gen_options, not_too_many};
+ghost use Rattle.caliper.specs.GenWords.{all_lines, count_given, gen_from, gen_of, no_gen_options};
 ghost use Rattle.caliper.specs.GenWords.{number_in, number_once, with_gen_word, with_lines};
-ghost use Rattle.caliper.specs.GenWords.{with_print, with_seed, with_threads};
+ghost use Rattle.caliper.specs.GenWords.{with_next_word, with_other_word, with_print};
+ghost use Rattle.caliper.specs.GenWords.{with_seed, with_threads};
 
 use crate::Command;
 use cal_value::{Kind, Variant, parse_value};
@@ -36,9 +37,21 @@ impl GenOptions {
         }
     }
 
-    /// The options with that of a word, where it is one of `gen` and comes once.
+    /// The options with that of a next word, where it is one of `gen` and comes once, and the lines
+    /// aren't too many in all.
+    fn with_next_word(self, alloc: Global, word: &str) -> Option<GenOptions>
+        ensures next { result ≡ with_next_word self word.now }
+        ensures more { IfSome result (λ next. count_given next ≡ count_given self + 1) }
+    {
+        match self.with_word(alloc, word) {
+            Some(next) if next.all_lines() <= u64::from(MOST_LINES) => Some(next),
+            _ => None,
+        }
+    }
+
     fn with_word(self, alloc: Global, word: &str) -> Option<GenOptions>
-        ensures { result ≡ with_gen_word self word.now }
+        ensures next { result ≡ with_gen_word self word.now }
+        ensures more { IfSome result (λ next. count_given next ≡ count_given self + 1) }
     {
         if let Some(text) = word.strip_prefix("--seed=") {
             return self.with_seed(alloc, text);
@@ -46,6 +59,13 @@ impl GenOptions {
         if let Some(text) = word.strip_prefix("--threads=") {
             return self.with_threads(alloc, text);
         }
+        self.with_other_word(alloc, word)
+    }
+
+    fn with_other_word(self, alloc: Global, word: &str) -> Option<GenOptions>
+        ensures next { result ≡ with_other_word self word.now }
+        ensures more { IfSome result (λ next. count_given next ≡ count_given self + 1) }
+    {
         if let Some(text) = word.strip_prefix("--lines=") {
             return self.with_lines(alloc, text);
         }
@@ -56,7 +76,8 @@ impl GenOptions {
     }
 
     fn with_seed(self, alloc: Global, text: &str) -> Option<GenOptions>
-        ensures { result ≡ with_seed self text.now }
+        ensures next { result ≡ with_seed self text.now }
+        ensures more { IfSome result (λ next. count_given next ≡ count_given self + 1) }
     {
         match number_once(self.seed, number_in(alloc, 0, MOST_SEED, text)) {
             Some(seed) => Some(GenOptions { seed, ..self }),
@@ -65,7 +86,8 @@ impl GenOptions {
     }
 
     fn with_threads(self, alloc: Global, text: &str) -> Option<GenOptions>
-        ensures { result ≡ with_threads self text.now }
+        ensures next { result ≡ with_threads self text.now }
+        ensures more { IfSome result (λ next. count_given next ≡ count_given self + 1) }
     {
         match number_once(self.threads, number_in(alloc, 1, MOST_THREADS, text)) {
             Some(threads) => Some(GenOptions { threads, ..self }),
@@ -74,7 +96,8 @@ impl GenOptions {
     }
 
     fn with_lines(self, alloc: Global, text: &str) -> Option<GenOptions>
-        ensures { result ≡ with_lines self text.now }
+        ensures next { result ≡ with_lines self text.now }
+        ensures more { IfSome result (λ next. count_given next ≡ count_given self + 1) }
     {
         match number_once(self.lines, number_in(alloc, 0, MOST_LINES, text)) {
             Some(lines) => Some(GenOptions { lines, ..self }),
@@ -83,7 +106,8 @@ impl GenOptions {
     }
 
     fn with_print(self) -> Option<GenOptions>
-        ensures { result ≡ with_print self }
+        ensures next { result ≡ with_print self }
+        ensures more { IfSome result (λ next. count_given next ≡ count_given self + 1) }
     {
         if self.print {
             return None;
@@ -143,19 +167,12 @@ fn number_in(alloc: Global, least: u32, most: u32, text: &str) -> Option<u32>
 
 /// A number, unless a word gave one before.
 fn number_once(before: Option<u32>, number: Option<u32>) -> Option<Option<u32>>
-    ensures { result ≡ number_once before number }
+    ensures number { result ≡ number_once before number }
+    ensures fresh { IfSome result (λ now. is_some before ≡ false) }
+    ensures given { IfSome result (λ now. is_some now ≡ true) }
 {
     match (before, number) {
         (None, Some(number)) => Some(Some(number)),
-        _ => None,
-    }
-}
-
-fn not_too_many(options: Option<GenOptions>) -> Option<GenOptions>
-    ensures { result ≡ not_too_many options }
-{
-    match options {
-        Some(options) if options.all_lines() <= u64::from(MOST_LINES) => Some(options),
         _ => None,
     }
 }
@@ -167,7 +184,7 @@ pub fn read_gen(alloc: Global, words: &[String]) -> Result<Command, u32>
     let mut options = GenOptions::new();
     for (index, word) in words.iter().enumerate() {
         let place = index as u32 + 1;
-        match not_too_many(options.with_word(alloc, word.as_str())) {
+        match options.with_next_word(alloc, word.as_str()) {
             Some(next) => options = next,
             None => return Err(place),
         }
