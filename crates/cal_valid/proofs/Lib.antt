@@ -1,5 +1,6 @@
 pub mod Binds
 pub mod Values
+pub mod Counting
 pub mod States
 pub mod Steps
 pub mod Runnable

@@ -17,6 +17,8 @@ use Rattle.cal_script.specs.Lines.{is_skipped, lines_of, words_of}
 use Rattle.cal_script.specs.Limits.{arena, fits, thread_count, tree_words}
 use Rattle.cal_script.specs.Reading.{IsValidScript, limited, line_after, text_after, words_after}
 use Rattle.cal_script.specs.State.{State, no_lines, script_of}
+use Rattle.cal_script.specs.declared.tally.Tally.{Tally}
+use Rattle.cal_valid.specs.Counts.{script_tally}
 use Rattle.cal_valid.specs.Valid.{IsRunnable}
 use Rattle.cal_valid.proofs.Binds.{bind_ok, choice_ok, if_ok, unless_ok}
 use Rattle.cal_valid.proofs.States.{IsAt, IsSound, ended, ended_length}
@@ -29,7 +31,7 @@ record IsFine (state : State) : Type 0 where
 
 start_fine : IsFine no_lines
 start_fine = record {
-  sound = record { earlier = All-nil (All (IsAt no_lines)); thread = All-nil (IsAt no_lines); counted = refl; idle = λ none. refl };
+  sound = record { earlier = All-nil (All (IsAt no_lines)); thread = All-nil (IsAt no_lines); counted = refl; idle = λ none. refl; tallied = refl };
   within = refl;
 }
 
@@ -56,18 +58,23 @@ lines_fine (line ∷ lines) state next fine is =
     let made = bind_ok (line_after state line) (λ made. after_lines line_after made lines) next is in
     lines_fine lines made.0 next (line_fine state made.0 line fine made.1) made.2
 
--- the first four of six tests that passed
-first_four : (a b c d e f : Bool) → (a && b && c && d && e && f) ≡ true → (a ≡ true) × (b ≡ true) × (c ≡ true) × (d ≡ true)
-first_four false b c d e f is = absurd cc
-first_four true false c d e f is = absurd cc
-first_four true true false d e f is = absurd cc
-first_four true true true false e f is = absurd cc
-first_four true true true true e f is = (refl, refl, refl, refl)
+-- six tests that passed
+all_six : (a b c d e f : Bool) → (a && b && c && d && e && f) ≡ true
+    → (a ≡ true) × (b ≡ true) × (c ≡ true) × (d ≡ true) × (e ≡ true) × (f ≡ true)
+all_six false b c d e f is = absurd cc
+all_six true false c d e f is = absurd cc
+all_six true true false d e f is = absurd cc
+all_six true true true false e f is = absurd cc
+all_six true true true true false f is = absurd cc
+all_six true true true true true f is = (refl, refl, refl, refl, refl, is)
+
+thread_number : (state : State) → length (state.earlier ++ option_to_list state.thread) ≡ thread_count state
+thread_number state = length-append state.earlier (option_to_list state.thread)
 
 runnable : (state : State) → IsFine state → IsRunnable (script_of state)
 runnable state fine =
     let passed =
-    first_four (leb (length state.attributes) 1024) (leb (length state.channels) 16) (leb (thread_count state) 64) (leb state.tally.lines 1048576)
+    all_six (leb (length state.attributes) 1024) (leb (length state.channels) 16) (leb (thread_count state) 64) (leb state.tally.lines 1048576)
     (leb state.tally.process_lines 65536) (leb (tree_words (thread_count state) (arena state.tally)) 134217728) fine.within in
     let attributes = leb-true (length state.attributes) 1024 passed.0 in
     let channels = leb-true (length state.channels) 16 passed.1 in
@@ -79,6 +86,12 @@ runnable state fine =
       few_channels = channels;
       few_threads = omega (arith, length-append state.earlier (option_to_list state.thread), threads);
       few_lines = rw sum_by-append (omega (arith, ended_length state.thread, counted, few));
+      few_process_lines = subst (λ (t : Tally). t.process_lines ≤ 65536) (sym fine.sound.tallied) (leb-true state.tally.process_lines 65536 passed.4);
+      room =
+          (let shape = leb-true (tree_words (thread_count state) (arena state.tally)) 134217728 passed.5 in
+          let counts : tree_words (length (state.earlier ++ option_to_list state.thread)) (arena (script_tally (script_of state)))
+              ≡ tree_words (thread_count state) (arena state.tally) = (λ i. tree_words (thread_number state i) (arena (fine.sound.tallied i))) in
+          subst (λ (n : ℕ). n ≤ 134217728) (sym counts) shape);
       places = All-append (All (IsAt state)) state.earlier (option_to_list state.thread) fine.sound.earlier (ended (IsAt state) state.thread fine.sound.thread);
     }
 

@@ -20,6 +20,7 @@ use Rattle.cal_script.specs.Lines.{no_word, one_word, three_words, two_words, wo
 use Rattle.cal_script.specs.Parts.{attribute_names, attribute_named, attribute_of, channel_named, channel_names, channel_of, number_said, place_of, value_said}
 use Rattle.cal_script.specs.Reading.{attribute_after, channel_after, earlier_channels, end_after, flush_after, global_after, global_of, in_header, in_thread, key_after, keyed, last_channel, opening_after, opening_said, snapshot_after, thread_after, tick_after, value_after, with_values, words_after}
 use Rattle.cal_script.specs.State.{State, made_words, next_thread, opening, with_line, with_opening}
+use Rattle.cal_valid.specs.Counts.{attribute_at, is_process, value_at, words_made}
 use Rattle.cal_valid.specs.Valid.{IsFlushed, IsOpening, IsPlaced}
 use Rattle.cal_valid.proofs.Binds.{bind_ok, choice_ok, if_ok, ok_or_ok}
 use Rattle.cal_valid.proofs.Values.{named_at, said_kind}
@@ -101,8 +102,10 @@ pushed_last (y ∷ xs) x = pushed_last xs x
 
 opened_sound : (line_of : ℕ → ℕ → lines.Line)
     → ((state : State) (attr value : ℕ) → IsOpening state.attributes state.values attr value → IsAt state (line_of attr value))
+    → ((attributes : List Attribute) (attr value : ℕ) → attribute_at attributes (line_of attr value) ≡ slice_get attributes attr)
+    → ((values : List Variant) (attr value : ℕ) → value_at values (line_of attr value) ≡ slice_get values value)
     → (state next : State) (words : List (List ℕ)) → opening_after line_of state words ≡ Ok next → IsSound state → IsSound next
-opened_sound line_of placed state next words is sound =
+opened_sound line_of placed attribute_is value_is state next words is sound =
     let header = thread_ok state.thread _ next is in
     let opened = bind_ok (opening_said state words) (λ opening. Ok (with_opening line_of opening state)) next header.2 in
     let two = bind_ok (ok_or (word_and_rest words) WrongArity) (λ two. attribute_named state.attributes two.0 >>= (λ named. value_said named.1.kind two.1 >>= (λ value. Ok (opening named.0 named.1 value)))) opened.0 opened.1 in
@@ -122,8 +125,17 @@ opened_sound line_of placed state next words is sound =
     } in
     let with : IsSound (with_opening line_of (opening named.0.0 named.0.1 value.0) state) =
     line_sound (record state { values = state.values ++ value.0 ∷ [] }) header.0 (line_of named.0.0 (length state.values)) (has_process_scope named.0.1.props) (made_words named.0.1 value.0) header.1
-    (placed (record state { values = state.values ++ value.0 ∷ [] }) named.0.0 (length state.values) fine) (values_sound state (value.0 ∷ []) sound) in
+    (placed (record state { values = state.values ++ value.0 ∷ [] }) named.0.0 (length state.values) fine)
+    (ap is_process (attribute_is state.attributes named.0.0 (length state.values) ∙ declared))
+    (λ i. words_made ((attribute_is state.attributes named.0.0 (length state.values) ∙ declared) i)
+    ((value_is (state.values ++ value.0 ∷ []) named.0.0 (length state.values) ∙ pushed_last state.values value.0) i))
+    (values_sound state (value.0 ∷ []) sound) in
     same_sound _ next opened.2 (sound_by (λ o. with_opening line_of o state) _ _ made with)
+
+-- a line that opens no value makes no node
+no_words : (attribute : Option Attribute) → words_made attribute None ≡ 0
+no_words None = refl
+no_words (Some attribute) = refl
 
 ended_sound : (state next : State) (words : List (List ℕ)) → end_after state words ≡ Ok next → IsSound state → IsSound next
 ended_sound state next words is sound =
@@ -131,13 +143,14 @@ ended_sound state next words is sound =
     let name = bind_ok (ok_or (one_word words) WrongArity) (λ name. attribute_named state.attributes name >>= (λ named. Ok (with_line (line.End named.0) (has_process_scope named.1.props) 0 state))) next header.2 in
     let named = bind_ok (attribute_named state.attributes name.0) (λ named. Ok (with_line (line.End named.0) (has_process_scope named.1.props) 0 state)) next name.2 in
     let declared : slice_get state.attributes named.0.0 ≡ Some named.0.1 = named_at state.attributes (place_of (attribute_names state.attributes) name.0) named.0 named.1 in
-    same_sound _ next named.2 (line_sound state header.0 (line.End named.0.0) (has_process_scope named.0.1.props) 0 header.1 (slice_get_within state.attributes named.0.0 named.0.1 declared) sound)
+    same_sound _ next named.2 (line_sound state header.0 (line.End named.0.0) (has_process_scope named.0.1.props) 0 header.1 (slice_get_within state.attributes named.0.0 named.0.1 declared) (ap is_process declared)
+    (no_words (slice_get state.attributes named.0.0)) sound)
 
 snapshot_sound : (state next : State) (words : List (List ℕ)) → snapshot_after state words ≡ Ok next → IsSound state → IsSound next
 snapshot_sound state next words is sound =
     let header = thread_ok state.thread _ next is in
     let made = if_ok (no_word words) WrongArity _ next header.2 in
-    same_sound _ next made.1 (line_sound state header.0 line.Snapshot false 0 header.1 tt sound)
+    same_sound _ next made.1 (line_sound state header.0 line.Snapshot false 0 header.1 tt refl refl sound)
 
 flushed_sound : (state next : State) (words : List (List ℕ)) → flush_after state words ≡ Ok next → IsSound state → IsSound next
 flushed_sound state next words is sound =
@@ -147,7 +160,7 @@ flushed_sound state next words is sound =
     let made = if_ok named.0.1.aggregate NotAggregate (Ok (with_line (line.Flush named.0.0) false 0 state)) next named.2 in
     let declared : slice_get state.channels named.0.0 ≡ Some named.0.1 = named_at state.channels (place_of (channel_names state.channels) name.0) named.0 named.1 in
     let flushed : IsFlushed state.channels named.0.0 = record { flushed = named.0.1; declared = declared; aggregates = made.0 } in
-    same_sound _ next made.1 (line_sound state header.0 (line.Flush named.0.0) false 0 header.1 flushed sound)
+    same_sound _ next made.1 (line_sound state header.0 (line.Flush named.0.0) false 0 header.1 flushed refl refl sound)
 
 bounded : (most n : ℕ) (found : Option ℕ) → at_most most found ≡ Some n → n ≤ most
 bounded most n None is = absurd cc
@@ -160,7 +173,7 @@ ticked_sound state next words is sound =
     let number = bind_ok (number_said word.0) (λ n. Ok (with_line (line.Tick n) false 0 state)) next word.2 in
     let small = bounded 18446744073709551615 number.0 (number_of 10 word.0) (ok_or_ok (uint_of word.0) BadValue number.0 number.1) in
     let short : number.0 < 2 ^ 64 = omega (arith, small) in
-    same_sound _ next number.2 (line_sound state header.0 (line.Tick number.0) false 0 header.1 short sound)
+    same_sound _ next number.2 (line_sound state header.0 (line.Tick number.0) false 0 header.1 short refl refl sound)
 
 -- ---- each line
 
@@ -173,8 +186,8 @@ words_sound state next (word ∷ words) is sound =
     choice_ok (bytes_eq word (codes "key")) _ _ next is (λ e. key_sound state next words e sound) (λ is.
     choice_ok (bytes_eq word (codes "value")) _ _ next is (λ e. value_sound state next words e sound) (λ is.
     choice_ok (bytes_eq word (codes "thread")) _ _ next is (λ e. begun_sound state next words e sound) (λ is.
-    choice_ok (bytes_eq word (codes "begin")) _ _ next is (λ e. opened_sound line.Begin (λ s a v fine. fine) state next words e sound) (λ is.
-    choice_ok (bytes_eq word (codes "set")) _ _ next is (λ e. opened_sound line.Set (λ s a v fine. fine) state next words e sound) (λ is.
+    choice_ok (bytes_eq word (codes "begin")) _ _ next is (λ e. opened_sound line.Begin (λ s a v fine. fine) (λ all a v. refl) (λ all a v. refl) state next words e sound) (λ is.
+    choice_ok (bytes_eq word (codes "set")) _ _ next is (λ e. opened_sound line.Set (λ s a v fine. fine) (λ all a v. refl) (λ all a v. refl) state next words e sound) (λ is.
     choice_ok (bytes_eq word (codes "end")) _ _ next is (λ e. ended_sound state next words e sound) (λ is.
     choice_ok (bytes_eq word (codes "snapshot")) _ _ next is (λ e. snapshot_sound state next words e sound) (λ is.
     choice_ok (bytes_eq word (codes "flush")) _ _ next is (λ e. flushed_sound state next words e sound) (λ is.

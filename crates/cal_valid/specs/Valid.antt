@@ -8,7 +8,9 @@ use Rattle.cal_script.specs.declared.script.Script.{Script}
 use Rattle.cal_script.specs.declared.script.Channel.{Channel}
 use Rattle.cal_script.specs.declared.script.Line as lines
 use Rattle.cal_script.specs.declared.script.Line.TheVariants as line
+use Rattle.cal_script.specs.Limits.{arena, tree_words}
 use Rattle.cal_script.specs.Parts.{is_allowed}
+use Rattle.cal_valid.specs.Counts.{script_tally}
 
 -- The attribute and the value of a line are declared and kept, and the value is one that a script
 -- may have, of the attribute's kind.
@@ -36,10 +38,13 @@ IsPlaced attributes channels values line.Snapshot = Unit {0}
 IsPlaced attributes channels values (line.Flush channel) = IsFlushed channels channel
 IsPlaced attributes channels values (line.Tick n) = n < 2 ^ 64
 
--- A script that can be run: its lines have their places, and its numbers are small.
+-- A script that can be run: its lines have their places, its numbers are small, and the context tree
+-- of a run has room for the nodes that its lines can make.
 pub record IsRunnable (script : Script) : Type 0 where
   pub few_attributes : length script.attributes ≤ 1024
   pub few_channels : length script.channels ≤ 16
   pub few_threads : length script.threads ≤ 64
   pub few_lines : sum_by length script.threads ≤ 1048576
+  pub few_process_lines : (script_tally script).process_lines ≤ 65536
+  pub room : tree_words (length script.threads) (arena (script_tally script)) ≤ 134217728
   pub places : All (All (IsPlaced script.attributes script.channels script.values)) script.threads
