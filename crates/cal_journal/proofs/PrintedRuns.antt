@@ -167,7 +167,9 @@ module _ (journal : Journal) where
         subst (λ (o : List Placed). Says (standing line real o op_lines [] None []) more) (append-nil ops) (then line op_lines)
     ops_say (op ∷ rest) line ops op_lines more holds then =
         let fine = All-head HoldsOp op rest holds in
-        says_line _ _ 111 (112 ∷ []) (decimal op.thread ∷ decimal op.line ∷ []) _ (flat_map op_text rest ++ more) (word_bytes (codes "op") refl) (words_of_op op fine) refl
+        let state : State = standing line real ops op_lines [] None [] in
+        let after : State = standing (line + 1) real (ops ++ op ∷ []) (op_lines ++ (line + 1) ∷ []) [] None [] in
+        says_line state after 111 (112 ∷ []) (decimal op.thread ∷ decimal op.line ∷ []) (flat_map op_text (op ∷ rest) ++ more) (flat_map op_text rest ++ more) (word_bytes (codes "op") refl) (words_of_op op fine) refl
         (op_said real line ops op_lines [] op fine) (append_assoc (op_text op) (flat_map op_text rest) more ∙ op_line op (flat_map op_text rest ++ more))
         (ops_say rest (line + 1) (ops ++ op ∷ []) (op_lines ++ (line + 1) ∷ []) more (All-tail HoldsOp op rest holds)
         (λ now lines. subst (λ (o : List Placed). Says (standing now real o lines [] None []) more) (sym (append_assoc ops (op ∷ []) rest)) (then now lines)))
@@ -181,12 +183,16 @@ module _ (journal : Journal) where
     notes_say (note ∷ rest) line ops op_lines earlier start done rows thread number more holds small short then =
         let fine = All-head HoldsNote note rest holds in
         let last : ThreadNote = record { start = start; lines = done } in
-        says_line _ _ 108 (105 ∷ 110 ∷ 101 ∷ [])
-        (decimal thread ∷ decimal number ∷ reply_word note.reply ∷ decimal note.seen ∷ reading_word note.reading ∷ []) _ (notes_text thread (number + 1) rest ++ more)
+        let longer : List RowMark = rows ++ record { line = line + 1; thread = thread; number = number } ∷ [] in
+        let state : State = standing line real ops op_lines earlier (Some last) rows in
+        let after : State = standing (line + 1) real ops op_lines earlier (Some (with_note note last)) longer in
+        says_line state after 108 (105 ∷ 110 ∷ 101 ∷ [])
+        (decimal thread ∷ decimal number ∷ reply_word note.reply ∷ decimal note.seen ∷ reading_word note.reading ∷ [])
+        (notes_text thread number (note ∷ rest) ++ more) (notes_text thread (number + 1) rest ++ more)
         (word_bytes (codes "line") refl) (words_of_note thread number note small (omega arith) fine) refl
         (note_said real line ops op_lines earlier last rows thread number note small (omega arith) fine)
         (note_line thread number note (notes_text thread (number + 1) rest) more)
-        (notes_say rest (line + 1) ops op_lines earlier start (done ++ note ∷ []) _ thread (number + 1) more (All-tail HoldsNote note rest holds) small (omega arith)
+        (notes_say rest (line + 1) ops op_lines earlier start (done ++ note ∷ []) longer thread (number + 1) more (All-tail HoldsNote note rest holds) small (omega arith)
         (λ now marks. subst (λ (l : List LineNote). Says (standing now real ops op_lines earlier (Some (record { start = start; lines = l })) marks) more)
         (sym (append_assoc done (note ∷ []) rest)) (then now marks)))
 
@@ -201,11 +207,16 @@ module _ (journal : Journal) where
         let fine = All-head HoldsThread note rest holds in
         let before : List ThreadNote = earlier ++ option_to_list last in
         let behind : List ℕ = threads_text (thread + 1) rest ++ more in
-        says_line _ _ 115 (116 ∷ 97 ∷ 114 ∷ 116 ∷ []) (decimal thread ∷ reading_word note.start ∷ []) _ (notes_text thread 1 note.lines ++ behind)
+        let longer : List RowMark = rows ++ record { line = line + 1; thread = thread; number = 0 } ∷ [] in
+        let none : ThreadNote = record { start = note.start; lines = [] } in
+        let state : State = standing line real ops op_lines earlier last rows in
+        let after : State = standing (line + 1) real ops op_lines before (Some none) longer in
+        says_line state after 115 (116 ∷ 97 ∷ 114 ∷ 116 ∷ []) (decimal thread ∷ reading_word note.start ∷ [])
+        (threads_text thread (note ∷ rest) ++ more) (notes_text thread 1 note.lines ++ behind)
         (word_bytes (codes "start") refl) (words_of_start thread note.start (omega arith) fine.start) refl
         (start_said real line ops op_lines earlier last rows thread note.start (omega arith) fine.start)
         (append_assoc (thread_text thread note) (threads_text (thread + 1) rest) more ∙ start_line thread note.start (notes_text thread 1 note.lines) behind)
-        (notes_say note.lines (line + 1) ops op_lines before note.start [] _ thread 1 behind fine.lines (omega arith) (omega (arith, fine.few))
+        (notes_say note.lines (line + 1) ops op_lines before note.start [] longer thread 1 behind fine.lines (omega arith) (omega (arith, fine.few))
         (λ now marks. threads_say rest now ops op_lines before (Some note) marks (thread + 1) more (All-tail HoldsThread note rest holds) (omega arith)
         (λ later others final rows same. then later others final rows (same ∙ append_assoc before (note ∷ []) rest))))
 
@@ -216,23 +227,25 @@ module _ (journal : Journal) where
     end_says now ops op_lines before after marks clock history threads =
         let state : State = standing now real ops op_lines before after marks in
         let final : State = record state { line = now + 1; end = Some (now + 1) } in
-        says_line state final 101 (110 ∷ 100 ∷ []) [] _ [] (word_bytes (codes "end") refl) (All-nil (All IsWordByte)) refl refl refl
+        says_line state final 101 (110 ∷ 100 ∷ []) [] (codes "end" ++ newline) [] (word_bytes (codes "end") refl) (All-nil (All IsWordByte)) refl refl refl
         (final, now + 1, refl, refl, (λ i. record { real = clock i; ops = history i; threads = threads i }))
 
   clock_says : (real : Bool) (line : ℕ) (more : List ℕ) → Says (standing (line + 1) real [] [] [] None []) more
       → Says (begin_at line) (codes "journal " ++ (cond real (codes "real") (codes "script")) ++ newline ++ more)
   clock_says true line more says =
-      says_line _ _ 106 (111 ∷ 117 ∷ 114 ∷ 110 ∷ 97 ∷ 108 ∷ []) (codes "real" ∷ []) _ more (word_bytes (codes "journal") refl)
+      says_line (begin_at line) (standing (line + 1) true [] [] [] None []) 106 (111 ∷ 117 ∷ 114 ∷ 110 ∷ 97 ∷ 108 ∷ []) (codes "real" ∷ [])
+      (codes "journal real\n" ++ more) more (word_bytes (codes "journal") refl)
       (All-cons (All IsWordByte) (codes "real") [] (word_bytes (codes "real") refl) (All-nil (All IsWordByte))) refl refl refl says
   clock_says false line more says =
-      says_line _ _ 106 (111 ∷ 117 ∷ 114 ∷ 110 ∷ 97 ∷ 108 ∷ []) (codes "script" ∷ []) _ more (word_bytes (codes "journal") refl)
+      says_line (begin_at line) (standing (line + 1) false [] [] [] None []) 106 (111 ∷ 117 ∷ 114 ∷ 110 ∷ 97 ∷ 108 ∷ []) (codes "script" ∷ [])
+      (codes "journal script\n" ++ more) more (word_bytes (codes "journal") refl)
       (All-cons (All IsWordByte) (codes "script") [] (word_bytes (codes "script") refl) (All-nil (All IsWordByte))) refl refl refl says
 
   whole_says : (line : ℕ) → HoldsJournal journal → Says (begin_at line) (journal_text journal)
   whole_says line holds =
-      clock_says journal.real line _
-      (ops_say journal.real journal.ops (line + 1) [] [] _ holds.ops (λ now lines.
-      threads_say journal.real journal.threads now journal.ops lines [] None [] 0 _ holds.threads (omega (arith, holds.few))
+      clock_says journal.real line (flat_map op_text journal.ops ++ threads_text 0 journal.threads ++ codes "end" ++ newline)
+      (ops_say journal.real journal.ops (line + 1) [] [] (threads_text 0 journal.threads ++ codes "end" ++ newline) holds.ops (λ now lines.
+      threads_say journal.real journal.threads now journal.ops lines [] None [] 0 (codes "end" ++ newline) holds.threads (omega (arith, holds.few))
       (λ later before after marks same. end_says journal.real later journal.ops lines before after marks refl refl same)))
 
   pub read_back : (line : ℕ) → HoldsJournal journal → IsReadBack line journal

@@ -2,7 +2,7 @@
 //!
 //! A valid script is one that some bytes mean. `valid_script_law` gives what a run needs of it:
 //! each number in a line is a place, each value is of its attribute's kind, and nothing passes a limit.
-//! It is a law, so it costs nothing.
+//! `generated_script_law` says that generated scripts are valid. Laws cost nothing.
 #![tactic(auto)]
 
 mod laws;

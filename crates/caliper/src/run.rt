@@ -54,6 +54,7 @@ pub fn run<S: Source, W: Sink, E: Sink>(
 }
 
 /// Does what the words ask for, and gives the fault where it does less.
+#[tactic(auto, using(crate::proofs::Tasks::leaves_query))]
 fn carry_out<S: Source, W: Sink>(
     alloc: Global,
     words: &[String],
