@@ -26,10 +26,10 @@ use Rattle.cal_journal.proofs.PrintedWords.{IsWordByte, after_first, decimal_wor
 said_line : (state after : State) (line : List ℕ) → (length line == 0) ≡ false → is_some state.end ≡ false → is_utf8 line ≡ true
     → words_after (next_line state) (words_of line) ≡ Some after → line_after state line ≡ Ok after
 unfolding line_after
-said_line state after line some open utf8 said =
+said_line state after line some unended utf8 said =
     ap (λ (empty : Bool). cond empty (Ok (next_line state)) (cond (is_some state.end) (Err After) (cond (not (is_utf8 line)) (Err Form)
     (ok_or (words_after (next_line state) (words_of line)) Form)))) some
-    ∙ ap (λ (ended : Bool). cond ended (Err After) (cond (not (is_utf8 line)) (Err Form) (ok_or (words_after (next_line state) (words_of line)) Form))) open
+    ∙ ap (λ (ended : Bool). cond ended (Err After) (cond (not (is_utf8 line)) (Err Form) (ok_or (words_after (next_line state) (words_of line)) Form))) unended
     ∙ ap (λ (text : Bool). cond (not text) (Err Form) (ok_or (words_after (next_line state) (words_of line)) Form)) utf8
     ∙ ap (λ (found : Option State). ok_or found Form) said
 
@@ -80,25 +80,27 @@ note_line thread line note rest more =
     (λ i. ((codes "line" ++ spaced thread ++ spaced line ++ reply_is note.reply i ++ spaced note.seen ++ reading_is note.reading i ++ newline) ++ rest) ++ more)
     ∙ simp append_assoc
 
+two_words : (a b : List ℕ) → All IsWordByte a → All IsWordByte b → All (All IsWordByte) (a ∷ b ∷ [])
+two_words a b p q = All-cons (All IsWordByte) a (b ∷ []) p (All-cons (All IsWordByte) b [] q (All-nil (All IsWordByte)))
+
 words_of_op : (op : Placed) → HoldsOp op → All (All IsWordByte) (decimal op.thread ∷ decimal op.line ∷ [])
 words_of_op op holds =
-    All-cons (All IsWordByte) (decimal op.thread) _ (decimal_word op.thread (omega (arith, holds.thread)))
-    (All-cons (All IsWordByte) (decimal op.line) _ (decimal_word op.line (omega (arith, holds.line))) (All-nil (All IsWordByte)))
+    two_words (decimal op.thread) (decimal op.line) (decimal_word op.thread (omega (arith, holds.thread)))
+    (decimal_word op.line (omega (arith, holds.line)))
 
 words_of_start : (thread : ℕ) (reading : Option ℕ) → thread < 2 ^ 64 → IfSome reading (λ n. n < 2 ^ 64)
     → All (All IsWordByte) (decimal thread ∷ reading_word reading ∷ [])
 words_of_start thread reading small fits =
-    All-cons (All IsWordByte) (decimal thread) _ (decimal_word thread small)
-    (All-cons (All IsWordByte) (reading_word reading) _ (reading_bytes reading fits) (All-nil (All IsWordByte)))
+    two_words (decimal thread) (reading_word reading) (decimal_word thread small) (reading_bytes reading fits)
 
 words_of_note : (thread line : ℕ) (note : LineNote) → thread < 2 ^ 64 → line < 2 ^ 64 → HoldsNote note
     → All (All IsWordByte) (decimal thread ∷ decimal line ∷ reply_word note.reply ∷ decimal note.seen ∷ reading_word note.reading ∷ [])
 words_of_note thread line note small short holds =
-    All-cons (All IsWordByte) (decimal thread) _ (decimal_word thread small)
-    (All-cons (All IsWordByte) (decimal line) _ (decimal_word line short)
-    (All-cons (All IsWordByte) (reply_word note.reply) _ (reply_bytes note.reply holds.reply)
-    (All-cons (All IsWordByte) (decimal note.seen) _ (decimal_word note.seen holds.seen)
-    (All-cons (All IsWordByte) (reading_word note.reading) _ (reading_bytes note.reading holds.reading) (All-nil (All IsWordByte))))))
+    let last : List (List ℕ) = decimal note.seen ∷ reading_word note.reading ∷ [] in
+    All-cons (All IsWordByte) (decimal thread) (decimal line ∷ reply_word note.reply ∷ last) (decimal_word thread small)
+    (All-cons (All IsWordByte) (decimal line) (reply_word note.reply ∷ last) (decimal_word line short)
+    (All-cons (All IsWordByte) (reply_word note.reply) last (reply_bytes note.reply holds.reply)
+    (two_words (decimal note.seen) (reading_word note.reading) (decimal_word note.seen holds.seen) (reading_bytes note.reading holds.reading))))
 
 module _ (real : Bool) where
   op_said : (line : ℕ) (ops : List Placed) (op_lines : List ℕ) (rows : List RowMark) (op : Placed) → HoldsOp op
@@ -119,7 +121,7 @@ module _ (real : Bool) where
   start_said line ops op_lines earlier last rows thread reading small fits =
       let state : State = next_line (standing line real ops op_lines earlier last rows) in
       let from : Option ℕ → Option (Option ℕ) → Option State = λ a b.
-          (a >>= (λ t. b >>= (λ r. Some (t, r)))) >>= (λ said. Some (with_mark said.0 0 (begun said.1 state))) in
+          (a >>= (λ t. b >>= (λ r. let pair : ℕ × Option ℕ = (t, r) in Some pair))) >>= (λ said. Some (with_mark said.0 0 (begun said.1 state))) in
       λ i. from (long_back thread small i) (reading_back reading fits i)
 
   note_said : (line : ℕ) (ops : List Placed) (op_lines : List ℕ) (earlier : List ThreadNote) (last : ThreadNote) (rows : List RowMark)
@@ -131,7 +133,7 @@ module _ (real : Bool) where
       let state : State = next_line (standing line real ops op_lines earlier (Some last) rows) in
       let from : Option ℕ → Option ℕ → Option Reply → Option ℕ → Option (Option ℕ) → Option State = λ a b c d e.
           (a >>= (λ t. b >>= (λ n. (c >>= (λ r. d >>= (λ s. e >>= (λ g. let made : LineNote = record { reply = r; seen = s; reading = g } in Some made))))
-          >>= (λ made. Some (t, n, made)))))
+          >>= (λ made. let row : ℕ × ℕ × LineNote = (t, n, made) in Some row))))
           >>= (λ said. Some (with_mark said.0 said.1 (record state { thread = Some (with_note said.2 last) }))) in
       λ i. from (long_back thread small i) (long_back number short i) (reply_back note.reply holds.reply i) (long_back note.seen holds.seen i)
           (reading_back note.reading holds.reading i)
@@ -148,11 +150,11 @@ module _ (journal : Journal) where
       → words_after (next_line state) ((byte ∷ first) ∷ words) ≡ Some after
       → text ≡ joined ((byte ∷ first) ∷ words) ++ 10 ∷ more → Says after more → Says state text
   unfolding Says
-  says_line state after byte first words text more is all open said same says =
+  says_line state after byte first words text more is all unended said same says =
       let line : List ℕ = joined ((byte ∷ first) ∷ words) in
       let bytes = joined_bytes (byte ∷ first) words is all in
       let found = ap (words_after (next_line state)) (words_joined (byte ∷ first) words is all) ∙ said in
-      let step = said_line state after line (joined_some byte first words) open (line_utf8 line bytes) found in
+      let step = said_line state after line (joined_some byte first words) unended (line_utf8 line bytes) found in
       (says.0, says.1,
       ap (λ t. after_lines line_after state (lines_of t)) same
       ∙ ap (after_lines line_after state) (lines_of-newline line more (line_whole line bytes))
@@ -241,12 +243,19 @@ module _ (journal : Journal) where
       (codes "journal script\n" ++ more) more (word_bytes (codes "journal") refl)
       (All-cons (All IsWordByte) (codes "script") [] (word_bytes (codes "script") refl) (All-nil (All IsWordByte))) refl refl refl says
 
+  whole_text : journal_text journal
+      ≡ ((codes "journal " ++ (cond journal.real (codes "real") (codes "script"))) ++ newline)
+      ++ (flat_map op_text journal.ops ++ (threads_text 0 journal.threads ++ (codes "end" ++ newline)))
+  whole_text = simp append_assoc
+
   whole_says : (line : ℕ) → HoldsJournal journal → Says (begin_at line) (journal_text journal)
   whole_says line holds =
-      clock_says journal.real line (flat_map op_text journal.ops ++ threads_text 0 journal.threads ++ codes "end" ++ newline)
-      (ops_say journal.real journal.ops (line + 1) [] [] (threads_text 0 journal.threads ++ codes "end" ++ newline) holds.ops (λ now lines.
+      let end : List ℕ = codes "end" ++ newline in
+      subst (λ (text : List ℕ). Says (begin_at line) text) (sym whole_text)
+      (clock_says journal.real line (flat_map op_text journal.ops ++ (threads_text 0 journal.threads ++ end))
+      (ops_say journal.real journal.ops (line + 1) [] [] (threads_text 0 journal.threads ++ end) holds.ops (λ now lines.
       threads_say journal.real journal.threads now journal.ops lines [] None [] 0 (codes "end" ++ newline) holds.threads (omega (arith, holds.few))
-      (λ later before after marks same. end_says journal.real later journal.ops lines before after marks refl refl same)))
+      (λ later before after marks same. end_says journal.real later journal.ops lines before after marks refl refl same))))
 
   pub read_back : (line : ℕ) → HoldsJournal journal → IsReadBack line journal
   unfolding Says

@@ -21,13 +21,13 @@ use Rattle.cal_script.proofs.Values.{uint_read}
 
 -- a byte that stands for itself in a line: no space, newline or backslash
 abbrev pub IsPlain : ℕ → Type 0
-IsPlain byte = (33 ≤ byte) × (byte < 92)
+IsPlain byte = (33 ≤ byte) × (byte < 128) × (byte ≢ 92)
 
 digits_plain : (ds : List ℕ) → AllDigits 10 ds → All IsPlain ds
 digits_plain [] d = All-nil IsPlain
 digits_plain (c ∷ cs) d =
     let range = digit_from_value c d.0 in
-    All-cons IsPlain c cs (omega arith, omega arith) (digits_plain cs d.1)
+    All-cons IsPlain c cs (omega arith, omega arith, λ (same : c ≡ 92). omega arith) (digits_plain cs d.1)
 
 pub decimal_plain : (n : ℕ) → n < 2 ^ 64 → All IsPlain (decimal n)
 decimal_plain n small = digits_plain (decimal n) (decimal_is_IsNumeral n small).0.1
@@ -61,7 +61,7 @@ plain_spells [] plain = ([], nothing, refl)
 plain_spells (b ∷ text) plain =
     let more = plain_spells text (All-tail IsPlain b text plain) in
     let first = All-head IsPlain b text plain in
-    (token b ∷ more.0, itself (λ (same : b ≡ 92). omega arith) more.1, (λ i. sym (byte_of-token b) i ∷ more.2 i))
+    (token b ∷ more.0, itself first.2 more.1, (λ i. sym (byte_of-token b) i ∷ more.2 i))
 
 -- plain bytes spell themselves
 pub plain_text : (text : List ℕ) → All IsPlain text → spelled_text text ≡ Some text

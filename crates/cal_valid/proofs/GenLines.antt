@@ -9,10 +9,8 @@ use Rattle.std.proofs.lemmas.Bool.{le-leb}
 use borrow.Author.Tests.{eqb-false, ltb-true}
 use Rattle.std.proofs.lemmas.List.Elements.{All-nil, All-cons, All-head, All-tail, All-append, All-weaker}
 use Rattle.std.proofs.lemmas.Str.{IsUtf8-from_ascii, is_utf8-from_IsUtf8}
-use Rattle.cal_gen.specs.Draws.{drawn, next}
 use Rattle.cal_gen.specs.Generated as gen
-use Rattle.cal_gen.specs.declared.moves.Move as moves
-use Rattle.cal_gen.specs.declared.moves.Move.TheVariants as move
+use Rattle.cal_gen.proofs.EachLine.{each_line}
 use Rattle.cal_input.specs.FirstFault.{◌>>=◌}
 use Rattle.cal_line.specs.Lines.{HasNoNewline}
 use Rattle.cal_line.specs.Tokens.{spelled_text}
@@ -29,7 +27,6 @@ use Rattle.cal_script.specs.Reading.{limited, line_after, text_after, words_afte
 use Rattle.cal_script.specs.State.{State, counted, node_length, opening, with_line, with_opening}
 use Rattle.cal_script.specs.declared.kind.ScriptKind.{ScriptKind}
 use Rattle.cal_script.specs.declared.kind.ScriptKind.TheVariants.{BadEscape, BadValue, NotText, TooMany, WrongArity}
-use Rattle.cal_script.specs.declared.opening.Opening.{Opening}
 use Rattle.cal_script.specs.declared.script.Channel.{Channel}
 use Rattle.cal_script.specs.declared.script.Line.{Line}
 use Rattle.cal_script.specs.declared.script.Line.TheVariants as line
@@ -149,7 +146,7 @@ module _ (values : List Variant) (earlier : List (List Line)) (thread : List Lin
   goes_begin n small =
       let plain = decimal_plain n (omega arith) in
       let name : List ℕ = 102 ∷ decimal n in
-      let name_plain = All-cons IsPlain 102 (decimal n) (lit≤ tt, lit< tt) plain in
+      let name_plain = All-cons IsPlain 102 (decimal n) (lit≤ tt, lit< tt, λ (same : 102 ≡ 92). omega arith) plain in
       let short = decimal_short n (omega arith) in
       let value = variant.Text name in
       record {
@@ -230,17 +227,6 @@ module _ (values : List Variant) (earlier : List (List Line)) (thread : List Lin
     said = refl;
   }
 
-  drawn_below : (count x : ℕ) → 0 < count → drawn count x < count
-  unfolding drawn
-  drawn_below count x some = omega arith
-
-  goes_move : (m : moves.Move) (s : gen.State) → Goes (gen.moved m s).line
-  goes_move move.Begin s = goes_begin (drawn 16 (next s.x)) (drawn_below 16 (next s.x) (lit< tt))
-  goes_move move.End s = goes_end
-  goes_move move.Iterate s = goes_iterate (drawn 1000 (next s.x)) (drawn_below 1000 (next s.x) (lit< tt))
-  goes_move move.Tick s = goes_tick (drawn 10000 (next s.x)) (drawn_below 10000 (next s.x) (lit< tt))
-  goes_move move.Look s = goes_look (drawn 16 (next s.x) == 0)
-
   -- each line of a generated thread goes on
   pub goes_line : (s : gen.State) → Goes (gen.line_from s).line
-  goes_line s = goes_move (gen.move_of (drawn 8 (next s.x)) s.depth) (record s { x = next s.x })
+  goes_line s = each_line Goes goes_begin goes_end goes_iterate goes_tick (goes_look true) (goes_look false) s

@@ -130,7 +130,7 @@ opened_sound line_of placed attribute_is value_is state next words is sound =
     (λ i. words_made ((attribute_is state.attributes named.0.0 (length state.values) ∙ declared) i)
     ((value_is (state.values ++ value.0 ∷ []) named.0.0 (length state.values) ∙ pushed_last state.values value.0) i))
     (values_sound state (value.0 ∷ []) sound) in
-    same_sound _ next opened.2 (sound_by (λ o. with_opening line_of o state) _ _ made with)
+    same_sound _ next opened.2 (sound_by (λ o. with_opening line_of o state) (opening named.0.0 named.0.1 value.0) opened.0 made with)
 
 -- a line that opens no value makes no node
 no_words : (attribute : Option Attribute) → words_made attribute None ≡ 0
