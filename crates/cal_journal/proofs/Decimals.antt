@@ -1,5 +1,5 @@
 -- Numbers that are kept as the greatest where they are too large.
-use Rattle.std.proofs.Common.{◌≡◌, ℕ, ◌<◌, ◌≤◌, Bool, true, false, cond, leb, not, ◌&&◌, List, ◌∷◌, length, min, refl, sym, ap, ◌∙◌, arith, lit≤}
+use Rattle.std.proofs.Common.{◌≡◌, ℕ, Bool, true, false, cond, List, ◌∷◌, min, refl, sym, arith}
 use Rattle.std.specs.Prelude.{Option, Some, None}
 use Rattle.std.specs.Option.{option_map}
 use Rattle.std.proofs.lemmas.Bool.Decides.{nat_tests}
@@ -8,7 +8,7 @@ use Rattle.cal_value.specs.Reading.{uint_of}
 use Rattle.cal_script.specs.Lines.{pieces, words_of}
 use Rattle.cal_journal.specs.Reading.{State, end_after, five_words, op_said, start_said}
 use Rattle.cal_script.proofs.Cuts.{more_pieces}
-use Rattle.cal_journal.specs.Words.{capped, clock_said, long_number, reply_of, short_number}
+use Rattle.cal_journal.specs.Words.{clock_said, long_number, reply_of, short_number}
 
 capped_within : (found : Option ℕ) (most n : ℕ) → at_most most found ≡ Some n → option_map (λ x. min x most) found ≡ Some n
 capped_within None most n is = absurd cc

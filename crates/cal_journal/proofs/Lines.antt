@@ -1,8 +1,7 @@
 -- Lines that are read one after another by a step.
-use Rattle.std.proofs.Common.{◌≡◌, ℕ, zero, suc, ◌+◌, ◌-◌, ◌<◌, ◌≤◌, true, false, cond, List, [], ◌∷◌, ◌++◌, length, take, drop, refl, sym, ap, ◌∙◌, add-one, arith}
+use Rattle.std.proofs.Common.{◌≡◌, ℕ, suc, ◌+◌, ◌-◌, ◌≤◌, List, [], ◌∷◌, ◌++◌, length, take, drop, refl, sym, ap, ◌∙◌, add-one, arith}
 use Rattle.std.specs.Prelude.{Result, Ok, Err}
-use Rattle.std.specs.List.{position_or_len}
-use Rattle.std.proofs.lemmas.List.{take-append-drop, take-take, append-nil, nil_from_length, length-append}
+use Rattle.std.proofs.lemmas.List.{take-append-drop, take-take, append-nil, nil_from_length}
 use Rattle.cal_input.specs.FirstFault.{◌>>=◌, after_lines, IsFirstFault}
 use Rattle.cal_input.proofs.FirstFaults.{take_next, after_lines-append}
 use Rattle.cal_script.specs.Lines.{lines_of}

@@ -1,6 +1,6 @@
 -- The text of a journal is read as this journal.
-use Rattle.std.proofs.Common.{◌≡◌, ℕ, suc, ◌+◌, ◌<◌, ◌≤◌, ◌^◌, Bool, true, false, cond, List, [], ◌∷◌, ◌++◌, length, refl, sym, ap, subst, ◌∙◌, arith, append_assoc, append-nil}
-use Rattle.std.specs.Prelude.{Option, Some, None, Result, Ok, Err, codes, decimal, IfSome, is_some, not, option_to_list, ◌==◌}
+use Rattle.std.proofs.Common.{◌≡◌, ℕ, ◌+◌, ◌<◌, ◌^◌, Bool, true, false, cond, List, [], ◌∷◌, ◌++◌, length, refl, sym, ap, subst, ◌∙◌, arith, append_assoc, append-nil}
+use Rattle.std.specs.Prelude.{Option, Some, None, Ok, Err, codes, decimal, IfSome, is_some, not, option_to_list, ◌==◌}
 use Rattle.std.specs.List.{All, flat_map}
 use Rattle.std.specs.Option.{ok_or}
 use Rattle.std.specs.Str.{is_utf8}
@@ -16,7 +16,6 @@ use Rattle.cal_script.specs.declared.journal.Reply.{Reply}
 use Rattle.cal_script.specs.declared.journal.RowMark.{RowMark}
 use Rattle.cal_script.specs.declared.journal.ThreadNote.{ThreadNote}
 use Rattle.cal_script.specs.declared.journal.Reply.TheVariants as reply
-use Rattle.cal_journal.specs.declared.kind.JournalKind.{JournalKind}
 use Rattle.cal_journal.specs.declared.kind.JournalKind.TheVariants.{After, Form}
 use Rattle.cal_journal.specs.Printing.{journal_text, newline, note_text, notes_text, op_text, reading_text, reply_text, spaced, thread_text, threads_text}
 use Rattle.cal_journal.specs.ReadBack.{HoldsJournal, HoldsNote, HoldsOp, HoldsThread, IsReadBack}
@@ -109,8 +108,8 @@ module _ (real : Bool) where
   op_said line ops op_lines rows op holds =
       let state : State = next_line (standing line real ops op_lines [] None rows) in
       let from : Option ℕ → Option ℕ → Option State = λ a b.
-          (a >>= (λ t. b >>= (λ l. let p : Placed = record { thread = t; line = l } in Some p)))
-          >>= (λ p. Some (record state { ops = state.ops ++ p ∷ []; op_lines = state.op_lines ++ state.line ∷ [] })) in
+      (a >>= (λ t. b >>= (λ l. let p : Placed = record { thread = t; line = l } in Some p)))
+      >>= (λ p. Some (record state { ops = state.ops ++ p ∷ []; op_lines = state.op_lines ++ state.line ∷ [] })) in
       λ i. from (short_back op.thread holds.thread i) (short_back op.line holds.line i)
 
   start_said : (line : ℕ) (ops : List Placed) (op_lines : List ℕ) (earlier : List ThreadNote) (last : Option ThreadNote) (rows : List RowMark)
@@ -121,7 +120,7 @@ module _ (real : Bool) where
   start_said line ops op_lines earlier last rows thread reading small fits =
       let state : State = next_line (standing line real ops op_lines earlier last rows) in
       let from : Option ℕ → Option (Option ℕ) → Option State = λ a b.
-          (a >>= (λ t. b >>= (λ r. let pair : ℕ × Option ℕ = (t, r) in Some pair))) >>= (λ said. Some (with_mark said.0 0 (begun said.1 state))) in
+      (a >>= (λ t. b >>= (λ r. let pair : ℕ × Option ℕ = (t, r) in Some pair))) >>= (λ said. Some (with_mark said.0 0 (begun said.1 state))) in
       λ i. from (long_back thread small i) (reading_back reading fits i)
 
   note_said : (line : ℕ) (ops : List Placed) (op_lines : List ℕ) (earlier : List ThreadNote) (last : ThreadNote) (rows : List RowMark)
@@ -132,11 +131,11 @@ module _ (real : Bool) where
   note_said line ops op_lines earlier last rows thread number note small short holds =
       let state : State = next_line (standing line real ops op_lines earlier (Some last) rows) in
       let from : Option ℕ → Option ℕ → Option Reply → Option ℕ → Option (Option ℕ) → Option State = λ a b c d e.
-          (a >>= (λ t. b >>= (λ n. (c >>= (λ r. d >>= (λ s. e >>= (λ g. let made : LineNote = record { reply = r; seen = s; reading = g } in Some made))))
-          >>= (λ made. let row : ℕ × ℕ × LineNote = (t, n, made) in Some row))))
-          >>= (λ said. Some (with_mark said.0 said.1 (record state { thread = Some (with_note said.2 last) }))) in
+      (a >>= (λ t. b >>= (λ n. (c >>= (λ r. d >>= (λ s. e >>= (λ g. let made : LineNote = record { reply = r; seen = s; reading = g } in Some made))))
+      >>= (λ made. let row : ℕ × ℕ × LineNote = (t, n, made) in Some row))))
+      >>= (λ said. Some (with_mark said.0 said.1 (record state { thread = Some (with_note said.2 last) }))) in
       λ i. from (long_back thread small i) (long_back number short i) (reply_back note.reply holds.reply i) (long_back note.seen holds.seen i)
-          (reading_back note.reading holds.reading i)
+      (reading_back note.reading holds.reading i)
 
 module _ (journal : Journal) where
   -- the text behind a state says the journal
@@ -154,12 +153,15 @@ module _ (journal : Journal) where
       let line : List ℕ = joined ((byte ∷ first) ∷ words) in
       let bytes = joined_bytes (byte ∷ first) words is all in
       let found = ap (words_after (next_line state)) (words_joined (byte ∷ first) words is all) ∙ said in
-      let step = said_line state after line (joined_some byte first words) unended (line_utf8 line bytes) found in
-      (says.0, says.1,
-      ap (λ t. after_lines line_after state (lines_of t)) same
-      ∙ ap (after_lines line_after state) (lines_of-newline line more (line_whole line bytes))
-      ∙ after_first line_after state after line (lines_of more) step ∙ says.2,
-      says.3, says.4)
+      let step = said_line state after line (joined_some byte first words) unended (line_utf8 line bytes) found in (
+        says.0,
+        says.1,
+        ap (λ t. after_lines line_after state (lines_of t)) same
+            ∙ ap (after_lines line_after state) (lines_of-newline line more (line_whole line bytes))
+            ∙ after_first line_after state after line (lines_of more) step ∙ says.2,
+        says.3,
+        says.4,
+      )
 
   module _ (real : Bool) where
     ops_say : (rest : List Placed) (line : ℕ) (ops : List Placed) (op_lines : List ℕ) (more : List ℕ) → All HoldsOp rest

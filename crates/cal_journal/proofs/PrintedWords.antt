@@ -1,9 +1,9 @@
 -- The words of printed lines are read as what was printed.
-use Rattle.std.proofs.Common.{◌≡◌, ◌≢◌, ℕ, zero, suc, ◌+◌, ◌<◌, ◌≤◌, ◌^◌, ◌⊎◌, inl, inr, Bool, true, false, cond, eqb, List, [], ◌∷◌, ◌++◌, length, min, refl, sym, ap, subst, ◌∙◌, arith, lit≤, lit<}
-use Rattle.std.specs.Prelude.{Option, Some, None, Result, Ok, codes, decimal, IfSome, nat_lt, nat_le, ◌&&◌, ◌==◌, not, slice_index}
-use Rattle.std.specs.List.{All, list_all, slice_split}
+use Rattle.std.proofs.Common.{◌≡◌, ◌≢◌, ℕ, zero, suc, ◌<◌, ◌≤◌, ◌^◌, Bool, true, false, cond, eqb, List, [], ◌∷◌, ◌++◌, min, refl, sym, ap, subst, ◌∙◌, arith, lit≤, lit<}
+use Rattle.std.specs.Prelude.{Option, Some, None, Result, Ok, codes, decimal, IfSome, nat_lt, nat_le, ◌&&◌, slice_index}
+use Rattle.std.specs.List.{All, list_all}
 use Rattle.std.specs.Option.{option_map}
-use Rattle.std.specs.Str.{IsAscii, bytes_eq, is_utf8}
+use Rattle.std.specs.Str.{bytes_eq, is_utf8}
 use Rattle.std.specs.Str.Parse.{AllDigits}
 use Rattle.std.specs.Cmp.{first_so, second_so}
 use Rattle.std.specs.Cmp.Lexicographic.{same_text}
@@ -22,7 +22,7 @@ use Rattle.cal_line.specs.Lines.{HasNoNewline}
 use Rattle.cal_script.specs.Lines.{joined, pieces, words_of}
 use Rattle.cal_script.specs.declared.journal.Reply as replies
 use Rattle.cal_script.specs.declared.journal.Reply.TheVariants as reply
-use Rattle.cal_journal.specs.Words.{long_number, numbered_reply, reading_said, reply_of, reply_said, short_number}
+use Rattle.cal_journal.specs.Words.{long_number, reading_said, reply_of, reply_said, short_number}
 use Rattle.cal_journal.specs.ReadBack.{HoldsReply}
 
 -- ---- bytes
@@ -62,7 +62,6 @@ decimal_word n small =
     All-weaker IsDigit IsWordByte (λ byte is. (omega arith, omega arith)) (decimal n) (decimal_digits n small)
 
 -- ---- words in a line
-
 
 not_space : (byte : ℕ) → IsWordByte byte → eqb byte 32 ≡ false
 not_space byte is = ne_eqb byte 32 (λ (same : byte ≡ 32). omega arith)

@@ -1,6 +1,6 @@
 -- A script, and a journal behind it or none.
 use Rattle.std.specs.Prelude.{◌≡◌, ◌≢◌, ◌&&◌, true, nat_eq, ℕ, ◌+◌, ◌-◌, ◌≤◌, Bool, List, [], ◌∷◌}
-use Rattle.std.specs.Prelude.{length, Option, Some, None, Result, Ok, Err, codes, take, drop}
+use Rattle.std.specs.Prelude.{length, Option, Some, None, Result, Ok, codes, take, drop}
 use Rattle.std.specs.Prelude.{◌==◌}
 use Rattle.std.specs.List.{position_or_len, starts_with}
 use Rattle.cal_input.specs.FirstFault.{after_lines, IsFirstFault}

@@ -1,5 +1,5 @@
 -- What the reader of a journal knows of the lines so far (private).
-use Rattle.std.specs.Prelude.{◌≡◌, ℕ, ◌<◌, ◌^◌, Bool, List, Option, Some, None, Result, Ok, Err}
+use Rattle.std.specs.Prelude.{◌≡◌, ℕ, Bool, List, Option, Some, None, Result, Ok, Err}
 use Rattle.std.specs.Prelude.{if◌then◌else◌}
 use Rattle.cal_script.specs.declared.journal.LineNote.{LineNote}
 use Rattle.cal_script.specs.declared.journal.ThreadNote.{ThreadNote}

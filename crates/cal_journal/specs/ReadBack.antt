@@ -1,5 +1,5 @@
 -- Journals whose text is read again.
-use Rattle.std.specs.Prelude.{◌≡◌, ℕ, ◌<◌, ◌^◌, List, length, All, Some, IfSome}
+use Rattle.std.specs.Prelude.{◌≡◌, ℕ, ◌<◌, ◌^◌, length, All, Some, IfSome}
 use Rattle.cal_script.specs.declared.journal.Journal.{Journal}
 use Rattle.cal_script.specs.declared.journal.JournalText.{JournalText}
 use Rattle.cal_script.specs.declared.journal.LineNote.{LineNote}

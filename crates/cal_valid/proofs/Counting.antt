@@ -1,6 +1,6 @@
 -- The tally of lines that go on.
 use Rattle.std.proofs.Common.{◌≡◌, ℕ, zero, suc, Bool, List, [], ◌∷◌, ◌++◌, All, refl, sym, ap, ◌∙◌}
-use Rattle.std.specs.Prelude.{Option, Some, None, slice_get}
+use Rattle.std.specs.Prelude.{Some, slice_get}
 use Rattle.std.proofs.lemmas.List.Elements.{All-head, All-tail}
 use Rattle.cal_value.specs.declared.attribute.Attribute.{Attribute}
 use Rattle.cal_value.specs.declared.variant.Variant.{Variant}
@@ -9,7 +9,7 @@ use Rattle.cal_script.specs.declared.script.Channel.{Channel}
 use Rattle.cal_script.specs.declared.script.Line as lines
 use Rattle.cal_script.specs.declared.script.Line.TheVariants as line
 use Rattle.cal_script.specs.declared.tally.Tally.{Tally}
-use Rattle.cal_valid.specs.Counts.{is_process_line, line_words, no_tally, tally_lines, tally_of, tally_threads, value_at, words_made, attribute_at}
+use Rattle.cal_valid.specs.Counts.{is_process_line, line_words, no_tally, tally_lines, tally_of, tally_threads, words_made}
 use Rattle.cal_valid.specs.Valid.{IsOpening, IsPlaced}
 
 module _ (attributes : List Attribute) (values : List Variant) where
@@ -30,7 +30,7 @@ module _ (attributes : List Attribute) (values : List Variant) where
       → tally_of attributes values (earlier ++ (thread ++ l ∷ []) ∷ []) ≡ counted process words tally
   tally_line earlier thread l process words tally is makes tallied =
       let before : tally_lines attributes values (next_thread (tally_of attributes values earlier)) thread ≡ tally =
-          sym (threads-push earlier no_tally thread) ∙ tallied in
+      sym (threads-push earlier no_tally thread) ∙ tallied in
       threads-push earlier no_tally (thread ++ l ∷ [])
       ∙ lines-push thread (next_thread (tally_of attributes values earlier)) l
       ∙ (λ i. counted (is i) (makes i) (before i))

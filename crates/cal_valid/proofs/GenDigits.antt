@@ -1,7 +1,6 @@
 -- Decimals in lines: they have no space, newline or backslash, and read back.
-use Rattle.std.proofs.Common.{◌≡◌, ◌≢◌, ℕ, ℤ, pos, ◌<◌, ◌≤◌, ◌^◌, Bool, true, false, cond, eqb, List, [], ◌∷◌, length, map, refl, sym, ap, ◌∙◌, arith, lit≤, lit<}
-use Rattle.std.specs.Prelude.{Option, Some, Ok, codes, decimal, not}
-use Rattle.std.specs.Str.{IsAscii, is_utf8}
+use Rattle.std.proofs.Common.{◌≡◌, ◌≢◌, ℕ, pos, ◌<◌, ◌≤◌, ◌^◌, Bool, true, false, cond, eqb, List, [], ◌∷◌, length, refl, sym, arith, lit<}
+use Rattle.std.specs.Prelude.{Some, decimal}
 use Rattle.std.specs.Str.Parse.{AllDigits}
 use Rattle.std.proofs.lemmas.Bool.{ne_eqb, eqb-true}
 use Rattle.std.proofs.lemmas.Bool.Decides.{nat_tests}
@@ -14,7 +13,7 @@ use Rattle.cal_value.specs.Reading.{uint_of, value_of}
 use Rattle.cal_value.specs.declared.kind.Kind.TheVariants as kind
 use Rattle.cal_value.specs.declared.variant.Variant.TheVariants as variant
 use Rattle.cal_value.proofs.RoundTrip.{reads_back}
-use Rattle.cal_line.specs.Tokens.{Token, Spells, byte_of, character, comma, equals, itself, nothing, spelled_text, token}
+use Rattle.cal_line.specs.Tokens.{Spells, byte_of, character, comma, equals, itself, nothing, spelled_text, token}
 use Rattle.cal_line.proofs.TokenSteps.{spelled_text-Spells}
 use Rattle.cal_script.specs.Lines.{is_word, words_of}
 use Rattle.cal_script.proofs.Values.{uint_read}

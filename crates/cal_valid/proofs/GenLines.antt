@@ -1,10 +1,10 @@
 -- What each line of a generated script makes of what stands before it.
-use Rattle.std.proofs.Common.{◌≡◌, ◌≢◌, ℕ, zero, suc, pos, ◌+◌, ◌/◌, ◌<◌, ◌≤◌, ◌^◌, Bool, true, false, cond, eqb, List, [], ◌∷◌, ◌++◌, length, refl, sym, ap, ◌∙◌, arith, lit≤, lit<}
-use Rattle.std.specs.Prelude.{Option, Some, None, Result, Ok, Err, codes, decimal, nat_lt, nat_le, ◌&&◌, ◌==◌, not, slice_index}
+use Rattle.std.proofs.Common.{◌≡◌, ◌≢◌, ℕ, zero, suc, pos, ◌<◌, ◌≤◌, Bool, true, false, cond, eqb, List, [], ◌∷◌, ◌++◌, length, refl, ap, ◌∙◌, arith, lit≤, lit<}
+use Rattle.std.specs.Prelude.{Option, Some, None, Result, Ok, Err, codes, decimal, nat_lt, ◌&&◌, ◌==◌, not, slice_index}
 use Rattle.std.specs.List.{All, list_all}
 use Rattle.std.specs.Option.{ok_or}
 use Rattle.std.specs.Cmp.{first_so, second_so}
-use Rattle.std.specs.Str.{IsAscii, IsUtf8, is_utf8}
+use Rattle.std.specs.Str.{is_utf8}
 use Rattle.std.proofs.lemmas.Bool.{le-leb}
 use borrow.Author.Tests.{eqb-false, ltb-true}
 use Rattle.std.proofs.lemmas.List.Elements.{All-nil, All-cons, All-head, All-tail, All-append, All-weaker}
@@ -13,15 +13,14 @@ use Rattle.cal_gen.specs.Generated as gen
 use Rattle.cal_gen.proofs.EachLine.{each_line}
 use Rattle.cal_input.specs.FirstFault.{◌>>=◌}
 use Rattle.cal_line.specs.Lines.{HasNoNewline}
-use Rattle.cal_line.specs.Tokens.{spelled_text}
-use Rattle.cal_value.specs.Reading.{uint_of, value_of}
+use Rattle.cal_value.specs.Reading.{value_of}
 use Rattle.cal_value.specs.declared.attribute.Attribute.{Attribute}
 use Rattle.cal_value.specs.declared.kind.Kind.TheVariants as kind
 use Rattle.cal_value.specs.declared.variant.Variant.{Variant}
 use Rattle.cal_value.specs.declared.variant.Variant.TheVariants as variant
 use Rattle.cal_words.proofs.Bytes.{length-text_words}
 use Rattle.cal_script.specs.Limits.{fits}
-use Rattle.cal_script.specs.Lines.{is_skipped, is_word, words_of}
+use Rattle.cal_script.specs.Lines.{is_skipped, words_of}
 use Rattle.cal_script.specs.Parts.{allowed, number_said, value_said}
 use Rattle.cal_script.specs.Reading.{limited, line_after, text_after, words_after}
 use Rattle.cal_script.specs.State.{State, counted, node_length, opening, with_line, with_opening}

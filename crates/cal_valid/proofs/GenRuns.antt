@@ -1,6 +1,6 @@
 -- The text of a generated script means a valid script.
-use Rattle.std.proofs.Common.{◌≡◌, ℕ, zero, suc, ◌+◌, ◌*◌, ◌/◌, ◌<◌, ◌≤◌, Bool, true, false, leb, List, [], ◌∷◌, ◌++◌, length, take, refl, sym, ap, subst, ◌∙◌, arith, append_assoc, lit≤}
-use Rattle.std.specs.Prelude.{Option, Some, None, Result, Ok, codes, max, ◌&&◌}
+use Rattle.std.proofs.Common.{◌≡◌, ℕ, zero, suc, ◌+◌, ◌*◌, ◌/◌, ◌≤◌, Bool, true, false, leb, List, [], ◌∷◌, ◌++◌, length, take, refl, ap, ◌∙◌, arith, append_assoc}
+use Rattle.std.specs.Prelude.{Option, Some, None, Result, Ok, codes, ◌&&◌}
 use Rattle.std.specs.List.{All}
 use Rattle.std.specs.Option.{option_to_list}
 use Rattle.std.proofs.Math.Nat.{le-mul_of_pos_right, mul-le-mul}
@@ -12,8 +12,8 @@ use Rattle.cal_input.specs.FirstFault.{◌>>=◌, after_lines}
 use Rattle.cal_line.proofs.Inputs.{lines_of-newline}
 use Rattle.cal_value.specs.declared.variant.Variant.{Variant}
 use Rattle.cal_script.specs.Limits.{arena, fits, tree_words}
-use Rattle.cal_script.specs.Lines.{is_skipped, lines_of, words_of}
-use Rattle.cal_script.specs.Reading.{line_after, words_after}
+use Rattle.cal_script.specs.Lines.{lines_of}
+use Rattle.cal_script.specs.Reading.{line_after}
 use Rattle.cal_script.specs.State.{State, counted, next_thread, no_lines, script_of}
 use Rattle.cal_script.specs.declared.kind.ScriptKind.{ScriptKind}
 use Rattle.cal_script.specs.declared.script.Line.{Line}
@@ -28,10 +28,11 @@ Ends state text = (final : State) × (after_lines line_after state (lines_of tex
 
 ends_line : (state after : State) (line rest : List ℕ) → All IsClean line → line_after state line ≡ Ok after
     → Ends after rest → Ends state (line ++ 10 ∷ rest)
-ends_line state after line rest clean said ends =
-    (ends.0,
-    ap (after_lines line_after state) (lines_of-newline line rest (clean_whole line clean))
-    ∙ ap (λ (found : Result State ScriptKind). found >>= (λ s. after_lines line_after s (lines_of rest))) said ∙ ends.1)
+ends_line state after line rest clean said ends = (
+  ends.0,
+  ap (after_lines line_after state) (lines_of-newline line rest (clean_whole line clean))
+      ∙ ap (λ (found : Result State ScriptKind). found >>= (λ s. after_lines line_after s (lines_of rest))) said ∙ ends.1,
+)
 
 ends_text : (state : State) (text same : List ℕ) → text ≡ same → Ends state same → Ends state text
 ends_text state text same is ends = (ends.0, ap (λ t. after_lines line_after state (lines_of t)) is ∙ ends.1)

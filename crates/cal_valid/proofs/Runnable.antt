@@ -1,18 +1,16 @@
 -- Every valid script can be run.
-use Rattle.std.proofs.Common.{◌≡◌, ℕ, ◌+◌, ◌<◌, ◌≤◌, Bool, true, false, cond, ◌&&◌, leb, List, [], ◌∷◌, ◌++◌, length, All, refl, sym, ap, subst, ◌∙◌, arith}
-use Rattle.std.specs.Prelude.{Option, Some, None, Result, Ok, Err, unwrap_or, sum_by, not}
+use Rattle.std.proofs.Common.{◌≡◌, ℕ, ◌≤◌, Bool, true, false, ◌&&◌, leb, List, [], ◌∷◌, ◌++◌, length, All, refl, sym, subst, arith}
+use Rattle.std.specs.Prelude.{Result, Ok, not}
 use Rattle.std.specs.Option.{option_to_list}
 use Rattle.std.specs.Str.{is_utf8}
 use Rattle.std.proofs.lemmas.Bool.{leb-true}
-use Rattle.std.proofs.lemmas.Bool.Decides.{nat_tests}
 use Rattle.std.proofs.lemmas.List.{length-append}
 use Rattle.std.proofs.lemmas.List.Sums.{sum_by-append}
 use Rattle.std.proofs.lemmas.List.Elements.{All-nil, All-append}
-use Rattle.cal_input.specs.FirstFault.{◌>>=◌, after_lines}
+use Rattle.cal_input.specs.FirstFault.{after_lines}
 use Rattle.cal_script.specs.declared.kind.ScriptKind.{ScriptKind}
 use Rattle.cal_script.specs.declared.kind.ScriptKind.TheVariants.{NotText, TooMany}
 use Rattle.cal_script.specs.declared.script.Script.{Script}
-use Rattle.cal_script.specs.declared.script.Line as lines
 use Rattle.cal_script.specs.Lines.{is_skipped, lines_of, words_of}
 use Rattle.cal_script.specs.Limits.{arena, fits, thread_count, tree_words}
 use Rattle.cal_script.specs.Reading.{IsValidScript, limited, line_after, text_after, words_after}
@@ -90,7 +88,7 @@ runnable state fine =
       room =
           (let shape = leb-true (tree_words (thread_count state) (arena state.tally)) 134217728 passed.5 in
           let counts : tree_words (length (state.earlier ++ option_to_list state.thread)) (arena (script_tally (script_of state)))
-              ≡ tree_words (thread_count state) (arena state.tally) = (λ i. tree_words (thread_number state i) (arena (fine.sound.tallied i))) in
+          ≡ tree_words (thread_count state) (arena state.tally) = (λ i. tree_words (thread_number state i) (arena (fine.sound.tallied i))) in
           subst (λ (n : ℕ). n ≤ 134217728) (sym counts) shape);
       places = All-append (All (IsAt state)) state.earlier (option_to_list state.thread) fine.sound.earlier (ended (IsAt state) state.thread fine.sound.thread);
     }

@@ -1,11 +1,10 @@
 -- What holds of all that stands between two lines.
-use Rattle.std.proofs.Common.{◌≡◌, ℕ, zero, suc, ◌+◌, ◌<◌, ◌≤◌, ◌^◌, Bool, true, false, cond, List, [], ◌∷◌, ◌++◌, length, All, refl, sym, ap, subst, ◌∙◌, arith}
-use Rattle.std.specs.Prelude.{Option, Some, None, unwrap_or, slice_get, sum_by}
+use Rattle.std.proofs.Common.{◌≡◌, ℕ, ◌+◌, Bool, List, [], ◌∷◌, ◌++◌, length, All, refl, sym, ap, subst, ◌∙◌, arith}
+use Rattle.std.specs.Prelude.{Option, Some, None, unwrap_or, sum_by}
 use Rattle.std.specs.Option.{option_to_list}
 use Rattle.std.proofs.lemmas.List.{length_push}
-use Rattle.std.proofs.lemmas.List.Sums.{sum_by-append, sum_by_push}
+use Rattle.std.proofs.lemmas.List.Sums.{sum_by-append}
 use Rattle.std.proofs.lemmas.List.Elements.{All-nil, All-cons, All-append, All-push, All-weaker}
-use Rattle.std.proofs.lemmas.Option.{slice_get_within}
 use Rattle.cal_value.specs.declared.attribute.Attribute.{Attribute}
 use Rattle.cal_value.specs.declared.variant.Variant.{Variant}
 use Rattle.cal_script.specs.declared.script.Channel.{Channel}
@@ -13,8 +12,8 @@ use Rattle.cal_script.specs.declared.script.Line as lines
 use Rattle.cal_script.specs.declared.script.Line.TheVariants as line
 use Rattle.cal_script.specs.declared.tally.Tally.{Tally}
 use Rattle.cal_script.specs.State.{State, counted, next_thread, with_line}
-use Rattle.cal_valid.specs.Counts.{is_process_line, line_words, no_tally, tally_of}
-use Rattle.cal_valid.specs.Valid.{IsFlushed, IsOpening, IsPlaced}
+use Rattle.cal_valid.specs.Counts.{is_process_line, line_words, tally_of}
+use Rattle.cal_valid.specs.Valid.{IsOpening, IsPlaced}
 use Rattle.cal_valid.proofs.Counting.{slice_get-more, tally_line, tally_more, tally_thread}
 
 -- the lines that stand have their places
@@ -75,8 +74,8 @@ more_tallied : (state : State) (thread : List lines.Line) (l : lines.Line) (proc
     → tally_of state.attributes state.values (state.earlier ++ (unwrap_or state.thread [] ++ l ∷ []) ∷ []) ≡ counted process words state.tally
 more_tallied state thread l process words is processes makes =
     let P : Option (List lines.Line) → Type 0 = λ t.
-        tally_of state.attributes state.values (state.earlier ++ option_to_list t) ≡ state.tally
-        → tally_of state.attributes state.values (state.earlier ++ (unwrap_or t [] ++ l ∷ []) ∷ []) ≡ counted process words state.tally in
+    tally_of state.attributes state.values (state.earlier ++ option_to_list t) ≡ state.tally
+    → tally_of state.attributes state.values (state.earlier ++ (unwrap_or t [] ++ l ∷ []) ∷ []) ≡ counted process words state.tally in
     subst P (sym is) (tally_line state.attributes state.values state.earlier thread l process words state.tally processes makes)
 
 pub line_sound : (state : State) (thread : List lines.Line) (l : lines.Line) (process : Bool) (words : ℕ) → state.thread ≡ Some thread → IsAt state l

@@ -1,7 +1,7 @@
 -- Each line keeps what holds of what stands.
-use Rattle.std.proofs.Common.{◌≡◌, ℕ, ◌+◌, ◌<◌, ◌≤◌, ◌^◌, Bool, true, false, cond, List, [], ◌∷◌, ◌++◌, length, All, refl, sym, ap, subst, ◌∙◌, arith}
-use Rattle.std.specs.Prelude.{Option, Some, None, Result, Ok, Err, is_some, unwrap_or, slice_get, codes}
-use Rattle.std.specs.Option.{ok_or, option_map, option_to_list}
+use Rattle.std.proofs.Common.{◌≡◌, ℕ, ◌<◌, ◌≤◌, ◌^◌, true, false, cond, List, [], ◌∷◌, ◌++◌, length, refl, ap, subst, ◌∙◌, arith}
+use Rattle.std.specs.Prelude.{Option, Some, None, Result, Ok, Err, is_some, slice_get, codes}
+use Rattle.std.specs.Option.{ok_or}
 use Rattle.std.specs.Str.{bytes_eq}
 use Rattle.std.proofs.lemmas.Option.{slice_get_within}
 use Rattle.std.proofs.lemmas.Bool.Decides.{nat_tests}
@@ -12,16 +12,15 @@ use Rattle.cal_value.specs.declared.attribute.Attribute.{Attribute}
 use Rattle.cal_value.specs.declared.variant.Variant.{Variant}
 use Rattle.cal_input.specs.FirstFault.{◌>>=◌}
 use Rattle.cal_script.specs.declared.kind.ScriptKind.{ScriptKind}
-use Rattle.cal_script.specs.declared.kind.ScriptKind.TheVariants.{Misplaced, WrongArity, NotAggregate, BadValue, UnknownWord}
-use Rattle.cal_script.specs.declared.script.Channel.{Channel}
+use Rattle.cal_script.specs.declared.kind.ScriptKind.TheVariants.{Misplaced, WrongArity, NotAggregate, BadValue}
 use Rattle.cal_script.specs.declared.script.Line as lines
 use Rattle.cal_script.specs.declared.script.Line.TheVariants as line
 use Rattle.cal_script.specs.Lines.{no_word, one_word, three_words, two_words, word_and_rest}
 use Rattle.cal_script.specs.Parts.{attribute_names, attribute_named, attribute_of, channel_named, channel_names, channel_of, number_said, place_of, value_said}
-use Rattle.cal_script.specs.Reading.{attribute_after, channel_after, earlier_channels, end_after, flush_after, global_after, global_of, in_header, in_thread, key_after, keyed, last_channel, opening_after, opening_said, snapshot_after, thread_after, tick_after, value_after, with_values, words_after}
+use Rattle.cal_script.specs.Reading.{attribute_after, channel_after, earlier_channels, end_after, flush_after, global_after, global_of, key_after, keyed, last_channel, opening_after, opening_said, snapshot_after, thread_after, tick_after, value_after, with_values, words_after}
 use Rattle.cal_script.specs.State.{State, made_words, next_thread, opening, with_line, with_opening}
 use Rattle.cal_valid.specs.Counts.{attribute_at, is_process, value_at, words_made}
-use Rattle.cal_valid.specs.Valid.{IsFlushed, IsOpening, IsPlaced}
+use Rattle.cal_valid.specs.Valid.{IsFlushed, IsOpening}
 use Rattle.cal_valid.proofs.Binds.{bind_ok, choice_ok, if_ok, ok_or_ok}
 use Rattle.cal_valid.proofs.Values.{named_at, said_kind}
 use Rattle.cal_valid.proofs.States.{IsAt, IsSame, IsSound, header_sound, line_sound, thread_sound, values_sound}

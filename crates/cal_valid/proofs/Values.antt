@@ -1,6 +1,6 @@
 -- The kinds of the values that lines say.
-use Rattle.std.proofs.Common.{◌≡◌, ℕ, ℤ, ◌<◌, Bool, true, false, cond, List, refl, sym, ap, subst, ◌∙◌}
-use Rattle.std.specs.Prelude.{Option, Some, None, Result, Ok, Err, unwrap_or, slice_get}
+use Rattle.std.proofs.Common.{◌≡◌, ℕ, ℤ, true, List, refl, sym, ap, ◌∙◌}
+use Rattle.std.specs.Prelude.{Option, Some, None, Ok, unwrap_or, slice_get}
 use Rattle.std.specs.Option.{ok_or, option_map}
 use Rattle.cal_input.specs.FirstFault.{◌>>=◌}
 use Rattle.cal_value.specs.Decimals.{fixed_of}
@@ -12,7 +12,6 @@ use Rattle.cal_value.specs.declared.kind.Kind.TheVariants as kind
 use Rattle.cal_value.specs.declared.variant.Variant as variants
 use Rattle.cal_value.specs.declared.variant.Variant.TheVariants as variant
 use Rattle.cal_line.specs.Tokens.{spelled_text}
-use Rattle.cal_script.specs.declared.kind.ScriptKind.{ScriptKind}
 use Rattle.cal_script.specs.declared.kind.ScriptKind.TheVariants.{BadEscape, BadValue, UnknownName}
 use Rattle.cal_script.specs.Parts.{allowed, at_place, is_allowed, value_said}
 use Rattle.cal_valid.proofs.Binds.{bind_ok, if_ok, ok_or_ok}

@@ -1,5 +1,5 @@
 -- What holds of each script that some bytes mean, so that it can be run without a test.
-use Rattle.std.specs.Prelude.{◌≡◌, ℕ, ◌<◌, ◌≤◌, ◌^◌, List, [], length, sum_by, slice_get, All}
+use Rattle.std.specs.Prelude.{◌≡◌, ℕ, ◌<◌, ◌≤◌, ◌^◌, List, length, sum_by, slice_get, All}
 use Rattle.std.specs.Prelude.{Some, true}
 use Rattle.cal_value.specs.Values.{kind_of}
 use Rattle.cal_value.specs.declared.attribute.Attribute.{Attribute}

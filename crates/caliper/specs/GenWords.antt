@@ -85,8 +85,8 @@ abbrev pub gen_from : ℕ → Option ℕ → Option ℕ → Option ℕ → Resul
 gen_from place (Some seed) (Some threads) (Some lines) = Ok (Gen seed threads lines)
 gen_from place seed threads lines = Err place
 
--- The command of these options, and of the words from this place on. Where the lines are too many in
--- all, the later of the two words breaks the rule.
+-- The command of these options, and of the words from this place on. Where the lines are too many
+-- in all, the later of the two words breaks the rule.
 abbrev pub gen_of : ℕ → GenOptions → List (List ℕ) → Result Command ℕ
 gen_of place options [] = gen_from place options.seed options.threads options.lines
 gen_of place options (word ∷ words) =

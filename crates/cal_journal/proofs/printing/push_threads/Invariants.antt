@@ -1,4 +1,4 @@
-use Rattle.std.proofs.Common.{◌≡◌, ◌+◌, ◌++◌, drop}
+use Rattle.std.proofs.Common.{◌≡◌, ◌++◌, drop}
 use Rattle.cal_journal.specs.Printing.{threads_text}
 use Rattle.cal_journal.proofs.printing.push_threads.Given as goal
 

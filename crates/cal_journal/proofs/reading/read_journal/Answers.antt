@@ -1,8 +1,5 @@
-use Rattle.std.proofs.Common.{◌≡◌, ℕ, List, [], length, rules, refl, sym, ap, ◌∙◌, arith}
-use Rattle.std.specs.Prelude.{Some, None}
-use Rattle.cal_script.specs.Lines.{lines_of}
-use Rattle.cal_journal.specs.Pending.{state_of}
-use Rattle.cal_journal.proofs.JournalRuns.{run_on, fault_told, run_said, run_cut, said_journal, cut_journal}
+use Rattle.std.proofs.Common.{rules, sym, ◌∙◌}
+use Rattle.cal_journal.proofs.JournalRuns.{run_on, fault_told, said_journal, cut_journal}
 use Rattle.cal_journal.proofs.reading.read_journal.Goals as goal
 
 pub returns-in-Err-clause-fault : goal.returns-in-Err-clause-fault
