@@ -1,9 +1,10 @@
 -- The bytes of an input decide the answer: they have one first fault or a text, and not both.
-use Rattle.std.proofs.Common.{◌≡◌, ℕ, ◌<◌, ◌≤◌, ◌⊎◌, inl, inr, List, length, length-append, Option, Some, None, IfSome, Result, Ok, Err, refl, sym, ap, subst, ◌∙◌, arith}
+use Rattle.std.proofs.Common.{◌≡◌, ℕ, ◌<◌, ◌≤◌, ◌⊎◌, inl, inr, List, [], length, length-append, lit≤, Option, Some, None, IfSome, Result, Ok, Err, refl, sym, ap, subst, ◌∙◌, arith}
 use Rattle.std.specs.Option.{IsSomeAnd, IsNone}
 use Rattle.std.proofs.lemmas.Option.{IfSome_then}
 use Rattle.cal_base.specs.Change.{Change, HasFailed}
 use Rattle.cal_base.specs.Told.{TakesOver}
+use Rattle.cal_base.specs.declared.reading.ReadEnd.TheVariants as end
 use Rattle.cal_base.proofs.Taking.{ReadsAll-left}
 use Rattle.cal_input.proofs.FirstFaults.{falls_whole, one_first}
 use Rattle.cal_input.specs.FirstFault.{after_lines}
@@ -12,12 +13,13 @@ use Rattle.cal_read.specs.Stream.{line_step, no_lines}
 use Rattle.cal_first_form.specs.Lines.{lines_of}
 use Rattle.cal_first_form.proofs.Runs.{none_from_fault, first_fault_one}
 use Rattle.caliper.specs.Causes.{input_limit, Answers, BytesDecide, IsDue, ReadsInput}
+use Rattle.caliper.specs.Causes.{Stops, WorksOn, bytes_for}
 use Rattle.caliper.specs.Inputs.{IsFaultOf, IsTextOf}
 use Rattle.caliper.specs.declared.fault.Fault as faults
 use Rattle.caliper.specs.declared.fault.Fault.TheVariants as fault
 use Rattle.caliper.specs.declared.fault.InputKind.{InputKind}
 use Rattle.caliper.specs.declared.fault.InputKind.TheVariants.{Stream}
-use Rattle.caliper.specs.Tasks.{Task, SerialTask, QueryTask, Refusal, by_word, by_text}
+use Rattle.caliper.specs.Tasks.{Task, GenTask, SerialTask, QueryTask, Refusal, by_word, by_text}
 
 none_and_some : {A : Type 0} (o : Option A) (P : A → Type 0) → IsNone o → IsSomeAnd o P → ⊥
 none_and_some None P none some = some
@@ -26,6 +28,7 @@ none_and_some (Some x) P none some = absurd cc
 -- bytes with a text have no first fault
 fault_and_text : (task : Task) (bytes text : List ℕ) (line : ℕ) (kind : InputKind)
     → IsFaultOf task bytes line kind → IsTextOf task bytes text → ⊥
+fault_and_text (GenTask seed threads lines) bytes text line kind faulty is = faulty
 fault_and_text SerialTask bytes text line kind faulty is =
     none_and_some _ _ (none_from_fault (lines_of bytes) line faulty.0) is
 fault_and_text (QueryTask query join) bytes text line kind faulty is =
@@ -38,6 +41,7 @@ fault_and_text (QueryTask query join) bytes text line kind faulty is =
 one_fault : (task : Task) (bytes : List ℕ) (line other : ℕ) (kind others : InputKind)
     → IsFaultOf task bytes line kind → IsFaultOf task bytes other others → (line ≡ other)
     × (kind ≡ others)
+one_fault (GenTask seed threads lines) bytes line other kind others faulty also = absurd faulty
 one_fault SerialTask bytes line other kind others faulty also =
     (first_fault_one (lines_of bytes) line other faulty.0 also.0, cc (faulty.1, also.1))
 one_fault (QueryTask query join) bytes line other kind others faulty also =
@@ -109,6 +113,27 @@ of_the_left input P Q reads then =
     IfSome_then input.old (ReadsAll-left input_limit input reads.0 reads.1) (λ left same.
     subst Q (sym same) (then reads.0 reads.1.within reads.2))
 
+-- the same of the bytes that a task works on
+of_the_bytes : (task : Task) (input : Change) (P Q : List ℕ → Type 0) → WorksOn task input P
+    → ((bytes : List ℕ) → length bytes ≤ input_limit → P bytes → Q bytes)
+    → IfSome (bytes_for task input) Q
+of_the_bytes (GenTask seed threads lines) input P Q works then = then [] (lit≤ tt) works
+of_the_bytes SerialTask input P Q works then = of_the_left input P Q works then
+of_the_bytes (QueryTask query join) input P Q works then = of_the_left input P Q works then
+
+-- a task whose input is too long works on more bytes than the limit
+over_the_limit : (task : Task) (input : Change) → Stops task end.TooLong input
+    → IfSome (bytes_for task input) (λ bytes. input_limit < length bytes)
+over_the_limit (GenTask seed threads lines) input long = absurd cc
+over_the_limit SerialTask input long = left_over input_limit input.old input.new long
+over_the_limit (QueryTask query join) input long = left_over input_limit input.old input.new long
+
+-- a task whose reading failed has an input that failed
+failed_input : (task : Task) (input : Change) → Stops task end.ReadFault input → HasFailed input
+failed_input (GenTask seed threads lines) input fails = absurd cc
+failed_input SerialTask input fails = fails.0
+failed_input (QueryTask query join) input fails = fails.0
+
 -- what is answered is what the bytes call for
 pub answers_decide : (asked : Result Task Refusal) (input output : Change)
     (answer : Option faults.Fault) → Answers asked input output answer
@@ -117,20 +142,20 @@ answers_decide (Err (by_word place)) input output answer given = tt
 answers_decide (Err (by_text f)) input output answer given = λ memory.
     elim given [ inl told ↦ told | inr ran ↦ absurd (memory ran) ]
 answers_decide (Ok task) input output None given = λ sound memory.
-    of_the_left input _ _ given (λ bytes within written.
+    of_the_bytes task input _ _ given (λ bytes within written.
     due_text task bytes output None written.0 (inl refl) within written.1)
 answers_decide (Ok task) input output (Some (fault.Usage word)) given = absurd given
 answers_decide (Ok task) input output (Some (fault.BadInput line kind)) given = λ sound memory.
-    of_the_left input _ _ given (λ bytes within faulty.
+    of_the_bytes task input _ _ given (λ bytes within faulty.
     due_fault task bytes output line kind within faulty)
 answers_decide (Ok task) input output (Some (fault.BadQuery place kind)) given = absurd given
 answers_decide (Ok task) input output (Some fault.ReadFault) given =
-    λ sound memory. absurd (sound given.0)
+    λ sound memory. absurd (sound (failed_input task input given))
 answers_decide (Ok task) input output (Some fault.WriteFault) given = λ sound memory.
-    of_the_left input _ _ given.1 (λ bytes within written.
+    of_the_bytes task input _ _ given.1 (λ bytes within written.
     due_text task bytes output _ written.0 (inr (refl, given.0)) within written.1)
 answers_decide (Ok task) input output (Some fault.OutOfMemory) given =
     λ sound memory. absurd (memory refl)
 answers_decide (Ok task) input output (Some fault.TooLong) given = λ sound memory.
-    IfSome_then input.old (left_over input_limit input.old input.new given) (λ left over.
+    IfSome_then (bytes_for task input) (over_the_limit task input given) (λ left over.
     due_over task left output over)

@@ -1,6 +1,6 @@
 -- What is answered where the text of a query is refused, or memory runs out while it is read.
-use Rattle.std.proofs.Common.{◌≡◌, ◌⊎◌, ℕ, Bool, true, false, List, [], Option, Some, None, Result, Ok, Err, refl, sym, subst, arith, inl, inr}
-use Rattle.std.specs.Prelude.{String}
+use Rattle.std.proofs.Common.{◌≡◌, ◌⊎◌, ℕ, Bool, true, false, cond, List, [], Option, Some, None, Result, Ok, Err, refl, sym, subst, arith, inl, inr}
+use Rattle.std.specs.Prelude.{String, IsErr}
 use Rattle.std.specs.Global.{Global}
 use Rattle.cal_base.specs.Change.{Change}
 use Rattle.cal_base.specs.Told.{Takes, TakesUpTo}
@@ -9,7 +9,7 @@ use Rattle.cal_ql.specs.Tokens.{Fault}
 use Rattle.cal_ql.specs.declared.query.Query.{Query}
 use Rattle.cal_query.specs.Layout.{has_layout}
 use Rattle.caliper.specs.Causes.{Answers, input_limit}
-use Rattle.caliper.specs.Tasks.{Refusal, Task, by_text, query_task, task_of}
+use Rattle.caliper.specs.Tasks.{LeavesInput, QueryTask, Refusal, Task, by_text, query_task, task_of}
 use Rattle.caliper.specs.Words.{text_at}
 use Rattle.caliper.specs.declared.fault.Fault as faults
 use Rattle.caliper.specs.declared.fault.Fault.TheVariants as fault
@@ -49,3 +49,20 @@ module _ (input output : Change) (same : input.new ≡ input.old) where
       rw memory (ran_out q join (reading (text_at words q)))
   text_refused words q join f (inr refused) =
       told (task_of words (command.Query q join)) f (refused join)
+
+leaves_plain : (plain : Bool) (query : Query) (join : Bool) (refusal : Refusal)
+    → LeavesInput (cond plain (Ok (QueryTask query join)) (Err refusal))
+    → IsErr (cond plain (Ok (QueryTask query join)) (Err refusal))
+leaves_plain true query join refusal leaves = absurd leaves
+leaves_plain false query join refusal leaves = tt
+
+leaves_read : (q : Option ℕ) (join : Bool) (read : Result Query Fault)
+    → LeavesInput (query_task q join read) → IsErr (query_task q join read)
+leaves_read q join (Err found) leaves = tt
+leaves_read q join (Ok query) leaves = leaves_plain (is_plain query) query join _ leaves
+
+-- a query reads its input, unless its text is refused
+pub leaves_query : (words : List (String Global)) (q : Option ℕ) (join : Bool)
+    → LeavesInput (task_of words (command.Query q join))
+    → IsErr (task_of words (command.Query q join))
+leaves_query words q join leaves = leaves_read q join (reading (text_at words q)) leaves

@@ -1,14 +1,15 @@
 -- What a call answers, and why, by what it did to the input and the output that it was lent.
-use Rattle.std.specs.Prelude.{◌≡◌, ◌≢◌, ◌⊎◌, ℕ, ◌<◌, ◌≤◌, ◌↔◌, List, length, Option, None, Some, IfSome, Result, Ok, Err}
+use Rattle.std.specs.Prelude.{◌≡◌, ◌≢◌, ◌⊎◌, ℕ, ◌<◌, ◌≤◌, ◌↔◌, List, [], length, Option, None, Some, IfSome, Result, Ok, Err}
 use Rattle.cal_base.specs.Change.{Change, HasFailed}
 use Rattle.cal_base.specs.ReadEnds.{ReadsAll, StopsAt}
 use Rattle.cal_base.specs.Told.{Appends, AppendsFront}
+use Rattle.cal_base.specs.declared.reading.ReadEnd as ends
 use Rattle.cal_base.specs.declared.reading.ReadEnd.TheVariants as end
 use Rattle.caliper.specs.Inputs.{IsFaultOf, IsTextOf}
 use Rattle.caliper.specs.declared.fault.Fault as faults
 use Rattle.caliper.specs.declared.fault.Fault.TheVariants as fault
 use Rattle.caliper.specs.declared.fault.InputKind.{InputKind}
-use Rattle.caliper.specs.Tasks.{Task, Refusal, by_word, by_text}
+use Rattle.caliper.specs.Tasks.{Task, GenTask, Refusal, by_word, by_text}
 
 -- the most bytes that an input may have (ours)
 abbrev pub input_limit : ℕ
@@ -18,14 +19,24 @@ input_limit = 268435456
 abbrev pub ReadsInput : Change → (List ℕ → Type 0) → Type 0
 ReadsInput input P = (bytes : List ℕ) × ReadsAll input_limit input bytes × P bytes
 
--- the text of the input was put behind what the output has
+-- This holds of the bytes that a task works on: those of its input. `gen` reads none.
+abbrev pub WorksOn : Task → Change → (List ℕ → Type 0) → Type 0
+WorksOn (GenTask seed threads lines) input P = P []
+WorksOn _ input P = ReadsInput input P
+
+-- why the input of a task wasn't read to its end: for `gen` memory alone may be missing
+abbrev pub Stops : Task → ends.ReadEnd → Change → Type 0
+Stops (GenTask seed threads lines) how input = how ≡ end.OutOfMemory
+Stops _ how input = StopsAt how input_limit input
+
+-- the text of the task's bytes was put behind what the output has
 abbrev pub Writes : Task → Change → Change → Type 0
-Writes task input output = ReadsInput input (λ bytes.
+Writes task input output = WorksOn task input (λ bytes.
     (text : List ℕ) × IsTextOf task bytes text × Appends output.old output.new text)
 
--- some front of the text of the input was put behind what the output has
+-- some front of the text of the task's bytes was put behind what the output has
 abbrev pub WritesFront : Task → Change → Change → Type 0
-WritesFront task input output = ReadsInput input (λ bytes.
+WritesFront task input output = WorksOn task input (λ bytes.
     (text : List ℕ) × IsTextOf task bytes text × AppendsFront output.old output.new text)
 
 -- Which fault has which cause, where the words ask for a task (ours). So none is Usage or BadQuery;
@@ -33,12 +44,12 @@ WritesFront task input output = ReadsInput input (λ bytes.
 abbrev pub Causes : Task → Change → Change → faults.Fault → Type 0
 Causes task input output (fault.Usage word) = ⊥
 Causes task input output (fault.BadInput line kind) =
-    ReadsInput input (λ bytes. IsFaultOf task bytes line kind)
+    WorksOn task input (λ bytes. IsFaultOf task bytes line kind)
 Causes task input output (fault.BadQuery place kind) = ⊥
-Causes task input output fault.ReadFault = StopsAt end.ReadFault input_limit input
+Causes task input output fault.ReadFault = Stops task end.ReadFault input
 Causes task input output fault.WriteFault = HasFailed output × WritesFront task input output
-Causes task input output fault.OutOfMemory = StopsAt end.OutOfMemory input_limit input
-Causes task input output fault.TooLong = StopsAt end.TooLong input_limit input
+Causes task input output fault.OutOfMemory = Stops task end.OutOfMemory input
+Causes task input output fault.TooLong = Stops task end.TooLong input
 
 -- What is answered: to words that break the word rule at a place, that place; to a text that is
 -- refused, why, unless memory ran out; to a task, nothing where the text was written whole, and else
@@ -69,6 +80,11 @@ pub record IsDue (task : Task) (bytes : List ℕ) (output : Change)
       → (answer ≡ Some (fault.BadInput line kind)) ↔ HasFault task bytes line kind
   pub written : (HasFailed output → ⊥) → (answer ≡ None) ↔ HasText task bytes
 
+-- the bytes that a task works on, where its input tells them
+abbrev pub bytes_for : Task → Change → Option (List ℕ)
+bytes_for (GenTask seed threads lines) input = Some []
+bytes_for _ input = input.old
+
 -- Where memory doesn't run out, a text that is refused decides the answer; and where a task is asked
 -- for and the input doesn't fail, the bytes of an input that tells them do.
 abbrev pub BytesDecide : Result Task Refusal → Change → Change → Option faults.Fault → Type 0
@@ -77,4 +93,4 @@ BytesDecide (Err (by_text f)) input output answer =
     answer ≢ Some fault.OutOfMemory → answer ≡ Some f
 BytesDecide (Ok task) input output answer =
     (HasFailed input → ⊥) → answer ≢ Some fault.OutOfMemory
-    → IfSome input.old (λ bytes. IsDue task bytes output answer)
+    → IfSome (bytes_for task input) (λ bytes. IsDue task bytes output answer)

@@ -1,3 +1,4 @@
+pub mod GenWords
 pub mod Words
 pub mod Tasks
 pub mod Texts

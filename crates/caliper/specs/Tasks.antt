@@ -12,8 +12,10 @@ use Rattle.caliper.specs.declared.fault.Fault.TheVariants as fault
 use Rattle.caliper.specs.declared.words.Command as commands
 use Rattle.caliper.specs.declared.words.Command.TheVariants as command
 
--- what a command does: `query` answers a query, with the globals joined to each row or not
+-- what a command does: `gen` makes the script of a seed, with so many threads of so many lines, and
+-- `query` answers a query, with the globals joined to each row or not
 pub data Task : Type 0 where
+  GenTask : ℕ → ℕ → ℕ → Task
   SerialTask : Task
   QueryTask : Query → Bool → Task
 
@@ -30,6 +32,7 @@ query_task q join (Ok query) =
     if has_layout query.format then Ok (QueryTask query join) else Err (by_text (fault.Usage (unwrap_or q 0)))
 
 abbrev pub task_of : List (String Global) → commands.Command → Result Task Refusal
+task_of words (command.Gen seed threads lines) = Ok (GenTask seed threads lines)
 task_of words command.Serial = Ok SerialTask
 task_of words (command.Query q join) = query_task q join (reading (text_at words q))
 
@@ -40,3 +43,9 @@ task_asked words (Ok command) = task_of words command
 -- what the words behind the program's name ask for, or why they are refused
 abbrev pub tasked : List (String Global) → Result Task Refusal
 tasked words = task_asked words (asked words)
+
+-- no input is read: the words are refused, or ask for a script that needs none
+abbrev pub LeavesInput : Result Task Refusal → Type 0
+LeavesInput (Err refusal) = Unit {0}
+LeavesInput (Ok (GenTask seed threads lines)) = Unit {0}
+LeavesInput (Ok _) = ⊥

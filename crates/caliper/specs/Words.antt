@@ -6,6 +6,7 @@ use Rattle.std.specs.List.{starts_with}
 use Rattle.std.specs.Global.{Global}
 use Rattle.std.specs.Option.{option_map_or}
 use Rattle.std.specs.Str.{bytes_eq}
+use Rattle.caliper.specs.GenWords.{gen_of, no_gen_options}
 use Rattle.caliper.specs.declared.words.Command.{Command}
 use Rattle.caliper.specs.declared.words.Command.TheVariants.{Serial, Query}
 use Rattle.caliper.specs.declared.words.Options.{Options}
@@ -63,7 +64,8 @@ abbrev pub command_of : List (List ℕ) → Result Command ℕ
 command_of [] = Err 0
 command_of (word ∷ words) =
     if bytes_eq word (codes "serial") then alone Serial words
-    else (if bytes_eq word (codes "query") then query_of 1 no_options words else Err 0)
+    else (if bytes_eq word (codes "query") then query_of 1 no_options words
+    else (if bytes_eq word (codes "gen") then gen_of 1 no_gen_options words else Err 0))
 
 -- what the words behind the program's name ask for
 abbrev pub asked : List (String Global) → Result Command ℕ

@@ -9,6 +9,8 @@
 mod about;
 mod asking;
 mod fault;
+mod gen_words;
+mod generating;
 mod outcome;
 mod query;
 mod report;

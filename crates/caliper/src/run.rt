@@ -1,4 +1,4 @@
-ghost use Rattle.std.specs.Prelude.{◌≡◌, ◌≢◌, Some, Ok, IsErr, IfOk, IfErr, IfSome, IfNone};
+ghost use Rattle.std.specs.Prelude.{◌≡◌, ◌≢◌, Some, Ok, IfOk, IfErr, IfSome, IfNone};
 ghost use Rattle.std.specs.Result.{result_err};
 ghost use Rattle.cal_base.specs.Change.{Change, change_of};
 ghost use Rattle.cal_first_form.specs.Reading.{meaning};
@@ -6,9 +6,10 @@ ghost use Rattle.cal_first_form.specs.Shape.{IsScript};
 ghost use Rattle.caliper.specs.Causes.{Answers, BytesDecide, Causes, ReadsInput};
 ghost use Rattle.caliper.specs.Ends.{Tells};
 ghost use Rattle.caliper.specs.Faults.{report_of, status_of};
-ghost use Rattle.caliper.specs.Tasks.{SerialTask, tasked};
+ghost use Rattle.caliper.specs.Tasks.{LeavesInput, SerialTask, tasked};
 
 use crate::outcome::end;
+use crate::generating::write_generated;
 use crate::query::query;
 use crate::{Command, Fault, InputKind, Outcome, read_words, serial_text};
 use cal_base::{ReadEnd, Sink, Source, read_all};
@@ -43,7 +44,7 @@ pub fn run<S: Source, W: Sink, E: Sink>(
         (change_of W.written W.faults output.old output.new) result.fault }
 
     // What is left as it was.
-    ensures input { IsErr (tasked words.now) → input.new ≡ input.old }
+    ensures input { LeavesInput (tasked words.now) → input.new ≡ input.old }
     ensures output { IfSome result.fault (λ fault.
         fault ≢ Fault.WriteFault → output.new ≡ output.old) }
     ensures errors { IfNone result.fault (errors.new ≡ errors.old) }
@@ -53,6 +54,7 @@ pub fn run<S: Source, W: Sink, E: Sink>(
 }
 
 /// Does what the words ask for, and gives the fault where it does less.
+#[tactic(auto, using(crate::proofs::Tasks::leaves_query))]
 fn carry_out<S: Source, W: Sink>(
     alloc: Global,
     words: &[String],
@@ -61,12 +63,17 @@ fn carry_out<S: Source, W: Sink>(
 ) -> Option<Fault>
     ensures answers { Answers (tasked words.now) (change_of S.left S.faults input.old input.new)
         (change_of W.written W.faults output.old output.new) result }
-    ensures input { IsErr (tasked words.now) → input.new ≡ input.old }
+    ensures input { LeavesInput (tasked words.now) → input.new ≡ input.old }
     ensures output { IfSome result (λ fault. fault ≢ Fault.WriteFault → output.new ≡ output.old) }
 {
-    match read_words(words) {
+    match read_words(alloc, words) {
         Ok(Command::Serial) => serial(alloc, input, output).err(),
         Ok(Command::Query { q, join }) => query(alloc, words, q, join, input, output).err(),
+        Ok(Command::Gen {
+            seed,
+            threads,
+            lines,
+        }) => write_generated(alloc, seed, threads, lines, output).err(),
         Err(word) => Some(Fault::Usage { word }),
     }
 }

@@ -1,9 +1,9 @@
-ghost use Rattle.std.specs.Prelude.{◌≡◌, ◌≢◌, Some, IsErr, IfOk, IfErr, OnErr};
+ghost use Rattle.std.specs.Prelude.{◌≡◌, ◌≢◌, Some, IfOk, IfErr, OnErr};
 ghost use Rattle.std.specs.Process.{exit_status};
 ghost use Rattle.cal_base.specs.Change.{change_of};
 ghost use Rattle.caliper.specs.Ends.{Serves, Shows, Tells};
 ghost use Rattle.caliper.specs.Faults.{fault_line, status_of};
-ghost use Rattle.caliper.specs.Tasks.{tasked};
+ghost use Rattle.caliper.specs.Tasks.{LeavesInput, tasked};
 
 use crate::about::{HELP, VERSION};
 use crate::outcome::end;
@@ -33,7 +33,7 @@ pub fn serve<S: Source, W: Sink, E: Sink>(
     ensures input { OnErr words (input.new ≡ input.old) }
 
     // What is left as it was.
-    ensures unread { IfOk words (λ words. IsErr (tasked words.items) → input.new ≡ input.old) }
+    ensures unread { IfOk words (λ words. LeavesInput (tasked words.items) → input.new ≡ input.old) }
     ensures output { exit_status result ≢ 0 → exit_status result ≢ 6 → output.new ≡ output.old }
     ensures errors { exit_status result ≡ 0 → errors.new ≡ errors.old }
 {
@@ -56,7 +56,7 @@ fn answer<S: Source, W: Sink, E: Sink>(
         (change_of S.left S.faults input.old input.new)
         (change_of W.written W.faults output.old output.new)
         (change_of E.written E.faults errors.old errors.new) }
-    ensures input { IsErr (tasked words.now) → input.new ≡ input.old }
+    ensures input { LeavesInput (tasked words.now) → input.new ≡ input.old }
     ensures output { result.status ≢ 0 → result.status ≢ 6 → output.new ≡ output.old }
     ensures errors { result.status ≡ 0 → errors.new ≡ errors.old }
 {

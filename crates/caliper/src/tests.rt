@@ -1,4 +1,5 @@
 mod failing;
+mod generated;
 mod queries;
 mod rows;
 mod scripts;

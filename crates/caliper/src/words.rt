@@ -3,6 +3,9 @@ ghost use Rattle.std.specs.Option.{option_copied};
 ghost use Rattle.caliper.specs.Words.{asked, given_once, no_options, q_text, query_of, text_at};
 ghost use Rattle.caliper.specs.Words.{with_join, with_q, with_word};
 
+use crate::gen_words::read_gen;
+use std::alloc::Global;
+
 /// What the program is asked to do.
 #[derive(Clone, Copy, Debug, PartialEq, Eq)]
 pub enum Command {
@@ -11,6 +14,8 @@ pub enum Command {
     /// Reads a stream and lays out the answer of a query, with the globals joined to each row where
     /// that is asked. The text of the query stands in the word at the place `q`, if it is there.
     Query { q: Option<u32>, join: bool },
+    /// Generates the script of a seed, with so many threads of so many lines.
+    Gen { seed: u32, threads: u32, lines: u32 },
 }
 
 /// What the options of `query` say so far.
@@ -78,7 +83,7 @@ impl Options {
 
 /// The command of the words behind the program's name, or the place, from 0, of the first word that
 /// breaks the word rule; where a word is missing, the number of words.
-pub fn read_words(words: &[String]) -> Result<Command, u32>
+pub fn read_words(alloc: Global, words: &[String]) -> Result<Command, u32>
     ensures { result ≡ asked words.now }
 {
     let Some((command, others)) = words.split_first() else {
@@ -88,6 +93,7 @@ pub fn read_words(words: &[String]) -> Result<Command, u32>
         "serial" if others.is_empty() => Ok(Command::Serial),
         "serial" => Err(1),
         "query" => read_query(others),
+        "gen" => read_gen(alloc, others),
         _ => Err(0),
     }
 }
