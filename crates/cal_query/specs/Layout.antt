@@ -4,6 +4,7 @@ use Rattle.cal_base.specs.Change.{Change}
 use Rattle.cal_base.specs.ReadEnds.{ReadsAll, StopsAt}
 use Rattle.cal_base.specs.declared.reading.ReadEnd.TheVariants as read_end
 use Rattle.cal_engine.specs.Answers.{answer_of}
+use Rattle.cal_jsonfmt.specs.Json.{json}
 use Rattle.cal_ql.specs.declared.names.Format as formats
 use Rattle.cal_ql.specs.declared.names.Format.TheVariants as format
 use Rattle.cal_ql.specs.declared.query.Query.{Query}
@@ -11,6 +12,7 @@ use Rattle.cal_read.specs.Stream.{IsFault, IsStreamOf}
 use Rattle.cal_read.specs.declared.kind.StreamKind.{StreamKind}
 use Rattle.cal_rowset.specs.declared.rowset.Rowset.{Rowset}
 use Rattle.cal_tabfmt.specs.Expand.{expand}
+use Rattle.cal_tabfmt.specs.Table.{table}
 use Rattle.cal_value.specs.declared.record.Rec.{Rec}
 use Rattle.cal_value.specs.declared.record.Records.{Records}
 use Rattle.cal_query.specs.Joining.{rows_seen}
@@ -19,13 +21,15 @@ use Rattle.cal_query.specs.declared.end.RowsEnd.TheVariants as end
 
 -- the layout of an answer in a format; one that isn't built yet has no text
 abbrev pub layout : formats.Format → Rowset → List ℕ
+layout format.Table answer = table answer
+layout format.Json answer = json answer
 layout format.Expand answer = expand answer
-layout _ answer = []
+layout format.Tree answer = []
 
 -- whether a format is built
 abbrev pub has_layout : formats.Format → Bool
-has_layout format.Expand = true
-has_layout _ = false
+has_layout format.Tree = false
+has_layout _ = true
 
 -- what a query prints of the rows that it sees: the layout of its answer, in its format
 abbrev pub answer_text : Query → List Rec → List ℕ

@@ -1,9 +1,10 @@
 ghost use Rattle.std.specs.Prelude.{◌≡◌, IfOk};
 ghost use Rattle.cal_query.specs.Layout.{has_layout, layout};
 
+use cal_jsonfmt::json_text;
 use cal_ql::Format;
 use cal_rowset::Rowset;
-use cal_tabfmt::expand_text;
+use cal_tabfmt::{expand_text, table_text};
 use cal_value::{OutOfMemory, Text};
 use std::alloc::Global;
 
@@ -12,8 +13,10 @@ pub(crate) fn lay_out(alloc: Global, format: Format, answer: &Rowset) -> Result<
     ensures { IfOk result (λ text. text ≡ layout format answer.now) }
 {
     match format {
+        Format::Table => table_text(alloc, answer),
+        Format::Json => json_text(alloc, answer),
         Format::Expand => expand_text(alloc, answer),
-        _ => Ok(Text::new(alloc)),
+        Format::Tree => Ok(Text::new(alloc)),
     }
 }
 
@@ -21,5 +24,5 @@ pub(crate) fn lay_out(alloc: Global, format: Format, answer: &Rowset) -> Result<
 pub fn has_layout(format: Format) -> bool
     ensures { result ≡ has_layout format }
 {
-    format == Format::Expand
+    format != Format::Tree
 }
