@@ -5,6 +5,7 @@ use Rattle.std.specs.Prelude.{Some, None}
 use Rattle.std.specs.List.{AllByRecursion}
 use Rattle.std.proofs.lemmas.Bool.{ne_eqb}
 use Rattle.std.proofs.lemmas.List.{same_from_push}
+use Rattle.std.proofs.lemmas.List.Elements.{All-from_recursion}
 use Rattle.cal_context.proofs.ListLemmas.{IsFront-refl}
 use Rattle.cal_value.specs.declared.attribute.Entry.{Entry}
 use Rattle.cal_value.specs.declared.kind.Kind as kinds
@@ -19,25 +20,6 @@ use Rattle.cal_write.proofs.PlaceLemmas.{id_within, node_at_id}
 use Rattle.cal_read.specs.BuiltIn as first
 use Rattle.cal_read.specs.Nodes.{Named, node_at}
 use Rattle.cal_stream.proofs.Knows.{Knows, stream_node}
-
--- what holds of each place of the built-in nodes
-module _ (P : ℕ → Type 0) (p0 : P 0) (p1 : P 1) (p2 : P 2) (p3 : P 3) (p4 : P 4) (p5 : P 5)
-    (p6 : P 6) (p7 : P 7) (p8 : P 8) (p9 : P 9) (p10 : P 10) (p11 : P 11) where
-  each_place : (i : ℕ) → i < 12 → P i
-  each_place zero h = p0
-  each_place (suc zero) h = p1
-  each_place (suc (suc zero)) h = p2
-  each_place (suc (suc (suc zero))) h = p3
-  each_place (suc (suc (suc (suc zero)))) h = p4
-  each_place (suc (suc (suc (suc (suc zero))))) h = p5
-  each_place (suc (suc (suc (suc (suc (suc zero)))))) h = p6
-  each_place (suc (suc (suc (suc (suc (suc (suc zero))))))) h = p7
-  each_place (suc (suc (suc (suc (suc (suc (suc (suc zero)))))))) h = p8
-  each_place (suc (suc (suc (suc (suc (suc (suc (suc (suc zero))))))))) h = p9
-  each_place (suc (suc (suc (suc (suc (suc (suc (suc (suc (suc zero)))))))))) h = p10
-  each_place (suc (suc (suc (suc (suc (suc (suc (suc (suc (suc (suc zero))))))))))) h = p11
-  each_place (suc (suc (suc (suc (suc (suc (suc (suc (suc (suc (suc (suc i)))))))))))) h = absurd
-      (omega (arith, h))
 
 -- a node is known by its place
 IsThereAt : Node → Type 0
@@ -59,19 +41,27 @@ of_kind k = record { attr = type_attribute; value = value.Kind k }
 of_name : List ℕ → Entry
 of_name name = record { attr = name_attribute; value = value.Text name }
 
-built_in-has : (n : Node) → Has built_in n → IsThereAt n
+built_in-all : AllByRecursion IsThereAt built_in
 unfolding built_in of_kind of_name
-built_in-has n h = subst IsThereAt (node_at_id built_in n [] h)
-    (each_place (λ i. IsThereAt (get_or built_in i []))
-    (there-at [] (of_kind kind.Usr) refl) (there-at [] (of_kind kind.Int) refl)
-    (there-at [] (of_kind kind.Uint) refl) (there-at [] (of_kind kind.Str) refl)
-    (there-at [] (of_kind kind.Addr) refl) (there-at [] (of_kind kind.Double) refl)
-    (there-at [] (of_kind kind.Bool) refl) (there-at [] (of_kind kind.TypeName) refl)
-    (there-at (node_of_kind kind.Str) (of_name name_attribute.name) refl)
-    (there-at (node_of_kind kind.TypeName) (of_name type_attribute.name) refl)
-    (there-at (node_of_kind kind.Int) (of_name prop_attribute.name) refl)
-    (there-at [] (of_kind kind.Ptr) refl)
-    (id_in built_in n) (id_within built_in n h))
+built_in-all = (
+  there-at [] (of_kind kind.Usr) refl,
+  (there-at [] (of_kind kind.Int) refl,
+  (there-at [] (of_kind kind.Uint) refl,
+  (there-at [] (of_kind kind.Str) refl,
+  (there-at [] (of_kind kind.Addr) refl,
+  (there-at [] (of_kind kind.Double) refl,
+  (there-at [] (of_kind kind.Bool) refl,
+  (there-at [] (of_kind kind.TypeName) refl,
+  (there-at (node_of_kind kind.Str) (of_name name_attribute.name) refl,
+  (there-at (node_of_kind kind.TypeName) (of_name type_attribute.name) refl,
+  (there-at (node_of_kind kind.Int) (of_name prop_attribute.name) refl,
+  (there-at [] (of_kind kind.Ptr) refl, tt))))))))))),
+)
+
+built_in-has : (n : Node) → Has built_in n → IsThereAt n
+built_in-has n h =
+    subst IsThereAt (node_at_id built_in n [] h)
+    (All-from_recursion IsThereAt built_in built_in-all (id_in built_in n) [] (id_within built_in n h))
 
 -- no node has an id from 12 on
 node_at-none : (named : List Named) (id : ℕ) → AllByRecursion (λ (n : Named). n.id < 12) named

@@ -13,3 +13,4 @@ mod Begin
 mod ReadsBack
 mod Counted
 mod Back
+mod Seen
