@@ -45,17 +45,37 @@ built_in-all : AllByRecursion IsThereAt built_in
 unfolding built_in of_kind of_name
 built_in-all = (
   there-at [] (of_kind kind.Usr) refl,
-  (there-at [] (of_kind kind.Int) refl,
-  (there-at [] (of_kind kind.Uint) refl,
-  (there-at [] (of_kind kind.Str) refl,
-  (there-at [] (of_kind kind.Addr) refl,
-  (there-at [] (of_kind kind.Double) refl,
-  (there-at [] (of_kind kind.Bool) refl,
-  (there-at [] (of_kind kind.TypeName) refl,
-  (there-at (node_of_kind kind.Str) (of_name name_attribute.name) refl,
-  (there-at (node_of_kind kind.TypeName) (of_name type_attribute.name) refl,
-  (there-at (node_of_kind kind.Int) (of_name prop_attribute.name) refl,
-  (there-at [] (of_kind kind.Ptr) refl, tt))))))))))),
+  (
+    there-at [] (of_kind kind.Int) refl,
+    (
+      there-at [] (of_kind kind.Uint) refl,
+      (
+        there-at [] (of_kind kind.Str) refl,
+        (
+          there-at [] (of_kind kind.Addr) refl,
+          (
+            there-at [] (of_kind kind.Double) refl,
+            (
+              there-at [] (of_kind kind.Bool) refl,
+              (
+                there-at [] (of_kind kind.TypeName) refl,
+                (
+                  there-at (node_of_kind kind.Str) (of_name name_attribute.name) refl,
+                  (
+                    there-at (node_of_kind kind.TypeName) (of_name type_attribute.name) refl,
+                    (
+                      there-at (node_of_kind kind.Int) (of_name prop_attribute.name) refl,
+                      (there-at [] (of_kind kind.Ptr) refl, tt),
+                    ),
+                  ),
+                ),
+              ),
+            ),
+          ),
+        ),
+      ),
+    ),
+  ),
 )
 
 built_in-has : (n : Node) → Has built_in n → IsThereAt n

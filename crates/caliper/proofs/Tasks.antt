@@ -50,16 +50,16 @@ module _ (input output : Change) (same : input.new ≡ input.old) where
   text_refused words q join f (inr refused) =
       told (task_of words (command.Query q join)) f (refused join)
 
-leaves_plain : (plain : Bool) (query : Query) (join : Bool) (refusal : Refusal)
-    → LeavesInput (cond plain (Ok (QueryTask query join)) (Err refusal))
-    → IsErr (cond plain (Ok (QueryTask query join)) (Err refusal))
-leaves_plain true query join refusal leaves = absurd leaves
-leaves_plain false query join refusal leaves = tt
+leaves_built : (built : Bool) (query : Query) (join : Bool) (refusal : Refusal)
+    → LeavesInput (cond built (Ok (QueryTask query join)) (Err refusal))
+    → IsErr (cond built (Ok (QueryTask query join)) (Err refusal))
+leaves_built true query join refusal leaves = absurd leaves
+leaves_built false query join refusal leaves = tt
 
 leaves_read : (q : Option ℕ) (join : Bool) (read : Result Query Fault)
     → LeavesInput (query_task q join read) → IsErr (query_task q join read)
 leaves_read q join (Err found) leaves = tt
-leaves_read q join (Ok query) leaves = leaves_plain (is_plain query) query join _ leaves
+leaves_read q join (Ok query) leaves = leaves_built (has_layout query.format) query join _ leaves
 
 -- a query reads its input, unless its text is refused
 pub leaves_query : (words : List (String Global)) (q : Option ℕ) (join : Bool)

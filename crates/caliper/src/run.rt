@@ -8,8 +8,8 @@ ghost use Rattle.caliper.specs.Ends.{Tells};
 ghost use Rattle.caliper.specs.Faults.{report_of, status_of};
 ghost use Rattle.caliper.specs.Tasks.{LeavesInput, SerialTask, tasked};
 
-use crate::outcome::end;
 use crate::generating::write_generated;
+use crate::outcome::end;
 use crate::query::query;
 use crate::{Command, Fault, InputKind, Outcome, read_words, serial_text};
 use cal_base::{ReadEnd, Sink, Source, read_all};
@@ -69,11 +69,13 @@ fn carry_out<S: Source, W: Sink>(
     match read_words(alloc, words) {
         Ok(Command::Serial) => serial(alloc, input, output).err(),
         Ok(Command::Query { q, join }) => query(alloc, words, q, join, input, output).err(),
-        Ok(Command::Gen {
-            seed,
-            threads,
-            lines,
-        }) => write_generated(alloc, seed, threads, lines, output).err(),
+        Ok(
+            Command::Gen {
+                seed,
+                threads,
+                lines,
+            },
+        ) => write_generated(alloc, seed, threads, lines, input, output).err(),
         Err(word) => Some(Fault::Usage { word }),
     }
 }
