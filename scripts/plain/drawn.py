@@ -20,8 +20,8 @@ QUERIES = (
     'select inclusive_sum(x) as i,sum(x) group by path', 'select x,y,x as again', 'order by x desc,y', 'select *', 'group by nosuch',
     'select count( where x', 'format xml', 'where x>', 'let a=mean(x)', 'select a b', 'where x,,y', 'group path', 'select "a\\"b', ';',
 )
-EXPAND = ('', ' format expand')
-FORMATS = EXPAND + (' format table', ' format tree', ' format json')
+BUILT = ('', ' format expand', ' format table', ' format json')
+FORMATS = BUILT + (' format tree',)
 
 
 class Drawing:

@@ -111,7 +111,7 @@ fn texts_of_queries_are_read(rt: HostRuntime) -> Result<(), Fail> {
             4,
         ),
         refused(
-            &["query", "--globals=off", "--q=format json"],
+            &["query", "--globals=off", "--q=format tree"],
             "x",
             "caliper: usage: word 3\n",
             2,
