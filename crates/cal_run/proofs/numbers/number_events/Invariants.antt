@@ -1,0 +1,12 @@
+use Rattle.std.proofs.Common.{take}
+use Rattle.std.specs.List.{AllZip}
+use Rattle.cal_context.specs.Tree.{Grows}
+use Rattle.cal_run.specs.Numbers.{EventsStand}
+use Rattle.cal_run.proofs.numbers.number_events.Given as goal
+
+-- the events of the attributes so far have their numbers
+abbrev pub invariant-loop-attribute : goal.invariant-loop-attribute
+invariant-loop-attribute l = record {
+  numbered : AllZip (EventsStand l.context) l.numbers.items (take l.attribute-index l.attributes);
+  grows : Grows l.fn.context l.context;
+}

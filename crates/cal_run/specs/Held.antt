@@ -1,0 +1,53 @@
+-- How a run keeps boards in a context: by nodes.
+use Rattle.std.specs.Prelude.{◌≡◌, ℕ, ◌<◌, ◌≤◌, List, length, All}
+use Rattle.cal_board.specs.Blackboard.{Blackboard}
+use Rattle.cal_board.specs.Contexts.{NodeStands}
+use Rattle.cal_board.specs.PathBoards.{AreKnown}
+use Rattle.cal_board.specs.Standing.{Stands}
+use Rattle.cal_board.specs.declared.opened.Slot.{Slot}
+use Rattle.cal_context.specs.Tree.{Tree}
+use Rattle.cal_context.specs.declared.numbers.NodeNumber.{NodeNumber}
+use Rattle.cal_run.specs.History.{process_board}
+use Rattle.cal_run.specs.declared.operation.Operation.{Operation}
+use Rattle.cal_run.specs.declared.process.Process.{Process}
+use Rattle.cal_script.specs.declared.journal.Placed.{Placed}
+use Rattle.cal_script.specs.declared.script.Script.{Script}
+use Rattle.cal_value.specs.declared.variant.Variant.{Variant}
+use Rattle.cal_words.specs.declared.op.OpCode as codes
+use Rattle.cal_words.specs.declared.op.OpCode.TheVariants as code
+
+-- an operation's attribute is one of the script's, and so is the value that it opens
+abbrev pub IsOpened : Script → codes.OpCode → ℕ → Type 0
+IsOpened script code.Begin value = value < length script.values
+IsOpened script code.End value = Unit {0}
+IsOpened script code.Set value = value < length script.values
+
+pub record HasPlaces (script : Script) (op : Operation) : Type 0 where
+  pub attr : op.attr < length script.attributes
+  pub value : IsOpened script op.code op.value
+
+-- the attribute of each open value is one of the script's
+pub record IsKnown (script : Script) (b : Blackboard Variant) : Type 0 where
+  pub references : All (λ (s : Slot Variant). AreKnown script.attributes s.opened) b.references
+  pub as_values : All (λ (s : Slot Variant). AreKnown script.attributes s.opened) b.as_values
+
+-- A board of nodes stands for this board.
+pub record Holds (t : Tree) (script : Script) (held : Blackboard NodeNumber) (b : Blackboard Variant)
+    : Type 0 where
+  pub stands : Stands (NodeStands t) held b
+  pub known : IsKnown script b
+
+-- for some board
+abbrev pub HoldsSome : Tree → Script → Blackboard NodeNumber → Type 0
+HoldsSome t script held = (b : Blackboard Variant) × Holds t script held b
+
+-- what the board stood for before, changed so, it stands for now
+abbrev pub HoldsThen : (was is : Tree) → Script → (old new : Blackboard NodeNumber)
+    → (Blackboard Variant → Blackboard Variant) → Type 0
+HoldsThen was is script old new change =
+    (b : Blackboard Variant) → Holds was script old b → Holds is script new (change b)
+
+-- The process's board after so many operations of a history.
+pub record IsProcess (t : Tree) (script : Script) (history : List Placed) (p : Process) : Type 0 where
+  pub holds : Holds t script p.board (process_board script history p.count)
+  pub within : p.count ≤ length history

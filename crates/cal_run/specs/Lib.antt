@@ -1,0 +1,10 @@
+pub mod Lines
+pub mod History
+pub mod Snapshots
+pub mod Steps
+pub mod Runs
+pub mod Lawful
+pub mod Seeing
+pub mod Plain
+pub mod Numbers
+pub mod Held

@@ -1,0 +1,188 @@
+ghost use Rattle.std.specs.Prelude.{◌≡◌, [], IfOk, OnOk};
+ghost use Rattle.std.specs.List.{AllZip};
+ghost use Rattle.cal_context.specs.Lists.{IsFront};
+ghost use Rattle.cal_context.specs.Tree.{Grows};
+ghost use Rattle.cal_run.specs.Numbers.{AreNumbered, EventsStand, IsNumber, ValuesStand};
+ghost use Rattle.cal_run.specs.Snapshots.{added, event_name, event_of};
+ghost use Rattle.cal_value.specs.declared.kind.Kind.TheVariants as kind;
+
+use cal_context::{AttributeNumber, Context, ValueNumber};
+use cal_script::Script;
+use cal_value::{Attribute, Kind, OutOfMemory, Props, Text, Variant};
+use cal_words::OpCode;
+use std::alloc::Global;
+
+/// The numbers of a script's values in a context, place by place, and those of the attributes that
+/// services add. The script's own attributes have their places as numbers.
+#[derive(Debug, Drop)]
+pub struct Numbers {
+    pub values: Vec<ValueNumber>,
+    /// Of each attribute, the attributes of its events.
+    pub events: Vec<EventNumbers>,
+    pub duration: AttributeNumber,
+    pub inclusive: AttributeNumber,
+    pub depth: AttributeNumber,
+    pub count: AttributeNumber,
+}
+
+/// The numbers of the attributes of an attribute's events.
+#[derive(Clone, Copy, Debug, PartialEq, Eq)]
+pub struct EventNumbers {
+    pub begin: AttributeNumber,
+    pub end: AttributeNumber,
+    pub set: AttributeNumber,
+}
+
+/// An attribute that a service adds is as value, and no event.
+const ADDED: Props = Props(65);
+
+impl Numbers {
+    /// Gives each attribute and value of a script its number in a context without attributes, and
+    /// each attribute that a service may add. An attribute that stands twice in the script, as none
+    /// of a valid one does, is answered as want of memory is. An `Err` may leave some in the context.
+    pub fn of(alloc: Global, script: &Script, context: &mut Context) -> Result<Numbers, OutOfMemory>
+        requires { context.old.attributes ≡ [] }
+        ensures numbered { IfOk result (AreNumbered context.new script.now) }
+        ensures grows { Grows context.old context.new }
+    {
+        place_attributes(script.attributes.as_slice(), context)?;
+        Self::of_placed(alloc, script, context)
+    }
+
+    /// The same, where the context's first attributes are the script's.
+    fn of_placed(
+        alloc: Global,
+        script: &Script,
+        context: &mut Context,
+    ) -> Result<Numbers, OutOfMemory>
+        requires { IsFront script.now.attributes context.old.attributes }
+        ensures numbered { IfOk result (AreNumbered context.new script.now) }
+        ensures grows { Grows context.old context.new }
+    {
+        let values = number_values(alloc, script.values.as_slice(), context)?;
+        let events = number_events(alloc, script.attributes.as_slice(), context)?;
+        let duration = number_uint(alloc, "time.duration.ns", context)?;
+        let inclusive = number_uint(alloc, "time.inclusive.duration.ns", context)?;
+        let depth = number_uint(alloc, "region.depth", context)?;
+        let count = number_uint(alloc, "region.count", context)?;
+        Ok(Numbers {
+            values,
+            events,
+            duration,
+            inclusive,
+            depth,
+            count,
+        })
+    }
+}
+
+/// Gives each attribute its place as its number.
+fn place_attributes(attributes: &[Attribute], context: &mut Context) -> Result<(), OutOfMemory>
+    requires { context.old.attributes ≡ [] }
+    ensures placed { OnOk result (context.new.attributes ≡ attributes.now) }
+    ensures grows { Grows context.old context.new }
+{
+    for (place, attribute) in attributes.iter().enumerate() {
+        let number = context.attribute(attribute)?;
+        if number.0 as usize != place {
+            return Err(OutOfMemory);
+        }
+    }
+    Ok(())
+}
+
+fn number_values(
+    alloc: Global,
+    values: &[Variant],
+    context: &mut Context,
+) -> Result<Vec<ValueNumber>, OutOfMemory>
+    ensures numbered { IfOk result (λ numbers. ValuesStand context.new numbers.items values.now) }
+    ensures grows { Grows context.old context.new }
+{
+    let mut numbers = Vec::with_capacity(alloc, values.len())?;
+    for value in values {
+        numbers.push(context.value(value)?)?;
+    }
+    Ok(numbers)
+}
+
+fn number_events(
+    alloc: Global,
+    attributes: &[Attribute],
+    context: &mut Context,
+) -> Result<Vec<EventNumbers>, OutOfMemory>
+    ensures numbered { IfOk result
+        (λ numbers. AllZip (EventsStand context.new) numbers.items attributes.now) }
+    ensures grows { Grows context.old context.new }
+{
+    let mut numbers = Vec::with_capacity(alloc, attributes.len())?;
+    for attribute in attributes {
+        numbers.push(number_events_of(alloc, attribute, context)?)?;
+    }
+    Ok(numbers)
+}
+
+fn number_events_of(
+    alloc: Global,
+    attribute: &Attribute,
+    context: &mut Context,
+) -> Result<EventNumbers, OutOfMemory>
+    ensures numbered { IfOk result (λ numbers. EventsStand context.new numbers attribute.now) }
+    ensures grows { Grows context.old context.new }
+{
+    let begin = number_event(alloc, OpCode::Begin, attribute, context)?;
+    let end = number_event(alloc, OpCode::End, attribute, context)?;
+    let set = number_event(alloc, OpCode::Set, attribute, context)?;
+    Ok(EventNumbers { begin, end, set })
+}
+
+fn number_event(
+    alloc: Global,
+    code: OpCode,
+    attribute: &Attribute,
+    context: &mut Context,
+) -> Result<AttributeNumber, OutOfMemory>
+    ensures numbered { IfOk result (λ n. IsNumber context.new n (event_of code attribute.now)) }
+    ensures grows { Grows context.old context.new }
+{
+    let mut name = Text::from_str(alloc, event_name(code))?;
+    name.push_str(attribute.name.as_str())?;
+    number_added(name, attribute.kind, context)
+}
+
+fn event_name(code: OpCode) -> &'static str
+    ensures { result.now ≡ event_name code }
+{
+    match code {
+        OpCode::Begin => "event.begin#",
+        OpCode::End => "event.end#",
+        OpCode::Set => "event.set#",
+    }
+}
+
+fn number_uint(
+    alloc: Global,
+    name: &str,
+    context: &mut Context,
+) -> Result<AttributeNumber, OutOfMemory>
+    ensures numbered { IfOk result (λ n. IsNumber context.new n (added name.now kind.Uint)) }
+    ensures grows { Grows context.old context.new }
+{
+    number_added(Text::from_str(alloc, name)?, Kind::Uint, context)
+}
+
+/// The number of an attribute that a service adds.
+fn number_added(
+    name: Text,
+    kind: Kind,
+    context: &mut Context,
+) -> Result<AttributeNumber, OutOfMemory>
+    ensures numbered { IfOk result (λ n. IsNumber context.new n (added name kind)) }
+    ensures grows { Grows context.old context.new }
+{
+    context.attribute(&Attribute {
+        name,
+        kind,
+        props: ADDED,
+    })
+}
