@@ -8,6 +8,4 @@
 #[cfg(test)]
 mod faults;
 #[cfg(test)]
-mod printed;
-#[cfg(test)]
 mod said;
