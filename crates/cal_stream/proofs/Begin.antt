@@ -1,6 +1,6 @@
 -- Before the first line the reader knows the built-in nodes.
-use Rattle.std.proofs.Common.{◌≡◌, ◌≢◌, ◌<◌, ◌≤◌, ◌∙◌, ℕ, zero, suc, Bool, List, [], ◌∷◌, ◌++◌}
-use Rattle.std.proofs.Common.{get_or, refl, sym, ap, subst, arith, lit<, if◌then◌else◌}
+use Rattle.std.proofs.Common.{◌≡◌, ◌≢◌, ◌<◌, ◌≤◌, ◌∙◌, ℕ, Bool, List, [], ◌∷◌, ◌++◌}
+use Rattle.std.proofs.Common.{refl, sym, ap, subst, arith, lit<, if◌then◌else◌}
 use Rattle.std.specs.Prelude.{Some, None}
 use Rattle.std.specs.List.{AllByRecursion}
 use Rattle.std.proofs.lemmas.Bool.{ne_eqb}
@@ -81,7 +81,8 @@ built_in-all = (
 built_in-has : (n : Node) → Has built_in n → IsThereAt n
 built_in-has n h =
     subst IsThereAt (node_at_id built_in n [] h)
-    (All-from_recursion IsThereAt built_in built_in-all (id_in built_in n) [] (id_within built_in n h))
+    (All-from_recursion IsThereAt built_in built_in-all (id_in built_in n) []
+    (id_within built_in n h))
 
 -- no node has an id from 12 on
 node_at-none : (named : List Named) (id : ℕ) → AllByRecursion (λ (n : Named). n.id < 12) named
