@@ -1,0 +1,5 @@
+use Rattle.std.proofs.Common.{◌≡◌, ℕ, ◌×◌, length, get_or, None}
+use Rattle.cal_treefmt.proofs.chains.no_places.Given as goal
+
+abbrev pub invariant-loop-i : goal.invariant-loop-i
+invariant-loop-i l = (length l.places.items ≡ l.i) × ((k : ℕ) → get_or l.places.items k None ≡ None)

@@ -1,0 +1,5 @@
+pub mod Nodes
+pub mod Lines
+pub mod Chains
+pub mod Walks
+pub mod Orders

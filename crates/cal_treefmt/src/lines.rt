@@ -1,0 +1,118 @@
+ghost use Rattle.std.specs.Prelude.{◌≡◌, ◌<◌, List, ◌++◌, length, map, option_map, IfOk, OnOk};
+ghost use Rattle.std.specs.Prelude.{slice_index_or, [], MatchOption, ⊤};
+ghost use Rattle.cal_value.specs.declared.record.Rec.{Rec};
+ghost use Rattle.cal_context.specs.Tree.{path_at};
+ghost use Rattle.cal_treefmt.specs.Lines.{indent as indent_of, label as label_of, node_lines};
+ghost use Rattle.cal_treefmt.specs.Lines.{row_lines, tree_lines};
+ghost use Rattle.cal_treefmt.specs.Orders.{nodes_in};
+ghost use Rattle.cal_treefmt.specs.Plans.{IsPlan, IsPlanOf, IsPlaceOf, left_rows, shown};
+
+use crate::plan::Plan;
+use cal_context::{Context, NodeNumber};
+use cal_value::{OutOfMemory, Text, TryCopy, print_value};
+use std::alloc::Global;
+
+/// A line: its label, and the place of its row, if it shows one.
+#[derive(Drop)]
+pub(crate) struct Line {
+    pub(crate) label: Text,
+    pub(crate) row: Option<usize>,
+}
+
+/// The lines of the rows of a plan.
+pub(crate) fn lines(alloc: Global, plan: &Plan) -> Result<Vec<Line>, OutOfMemory>
+    requires { IsPlanOf plan.now }
+    ensures { IfOk result (λ lines. (rows : List Rec) → IsPlan plan.now rows
+        → map (shown rows) lines.items ≡ tree_lines rows) }
+{
+    let mut lines = Vec::new(alloc);
+    push_rows(alloc, &mut lines, plan, &Text::new(alloc), plan.rows.first(0))?;
+    for place in &plan.order {
+        push_node(alloc, &mut lines, plan, *place)?;
+    }
+    Ok(lines)
+}
+
+/// Adds the lines of a node.
+fn push_node(
+    alloc: Global,
+    lines: &mut Vec<Line>,
+    plan: &Plan,
+    place: usize,
+) -> Result<(), OutOfMemory>
+    requires plan { IsPlanOf plan.now }
+    requires within { place < length (nodes_in plan.now.context) }
+    ensures { OnOk result ((rows : List Rec) → IsPlan plan.now rows
+        → map (shown rows) lines.new.items ≡ map (shown rows) lines.old.items
+        ++ node_lines rows (slice_index_or (nodes_in plan.now.context) place [])) }
+{
+    let label = label(alloc, &plan.context, place)?;
+    match plan.rows.first(place + 1) {
+        Some(row) => push_rows(alloc, lines, plan, &label, Some(row)),
+        None => push_line(lines, label),
+    }
+}
+
+/// Adds a line without a row.
+fn push_line(lines: &mut Vec<Line>, label: Text) -> Result<(), OutOfMemory>
+    ensures { OnOk result ((rows : List Rec) → map (shown rows) lines.new.items
+        ≡ map (shown rows) lines.old.items ++ record { label = label; row = None } ∷ []) }
+{
+    lines.push(Line { label, row: None })?;
+    Ok(())
+}
+
+/// Adds a line for a row and each later one at its node.
+fn push_rows(
+    alloc: Global,
+    lines: &mut Vec<Line>,
+    plan: &Plan,
+    label: &Text,
+    from: Option<usize>,
+) -> Result<(), OutOfMemory>
+    requires plan { IsPlanOf plan.now }
+    requires within { IsPlaceOf plan.now from }
+    ensures { OnOk result ((rows : List Rec) → IsPlan plan.now rows
+        → map (shown rows) lines.new.items ≡ map (shown rows) lines.old.items
+        ++ row_lines label.now (left_rows rows from)) }
+{
+    let mut from = from;
+    while let Some(row) = from {
+        lines.push(Line {
+            label: label.copy(alloc)?,
+            row: Some(row),
+        })?;
+        from = plan.rows.next(row);
+    }
+    Ok(())
+}
+
+/// The label of a node.
+fn label(alloc: Global, context: &Context, place: usize) -> Result<Text, OutOfMemory>
+    requires { place < length (nodes_in context.now) }
+    ensures { IfOk result (λ text. text
+        ≡ label_of (slice_index_or (nodes_in context.now) place [])) }
+{
+    let mut label = Text::new(alloc);
+    let Ok(number) = u32::try_from(place + 1) else {
+        return Err(OutOfMemory);
+    };
+    if let Some(link) = context.link(NodeNumber(number)) {
+        indent(&mut label, context, link.parent)?;
+        print_value(context.value_at(link.value), &mut label)?;
+    }
+    Ok(label)
+}
+
+/// Adds two spaces for each entry of a node.
+fn indent(label: &mut Text, context: &Context, node: NodeNumber) -> Result<(), OutOfMemory>
+    requires { node.0 < length context.now.paths }
+    ensures { OnOk result (label.new ≡ label.old ++ indent_of (path_at context.now node)) }
+{
+    let mut node = node;
+    while let Some(link) = context.link(node) {
+        label.push_str("  ")?;
+        node = link.parent;
+    }
+    Ok(())
+}
