@@ -1,3 +1,6 @@
 pub mod Firsts
 pub mod Walking
 pub mod Chaining
+pub mod Keyed
+pub mod Ordering
+pub mod Naming

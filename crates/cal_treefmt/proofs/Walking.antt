@@ -1,10 +1,10 @@
 -- What a context has after one more node, after one more row.
-use Rattle.std.proofs.Common.{◌≡◌, ℕ, suc, ◌+◌, ◌<◌, Bool, List, [], ◌∷◌, ◌++◌, ◌⊎◌, inl, inr, length, get_or, map, take, refl, sym, ap, ◌∙◌, subst, arith, append_assoc}
+use Rattle.std.proofs.Common.{◌≡◌, ℕ, suc, ◌+◌, ◌<◌, Bool, List, [], ◌∷◌, ◌++◌, ◌⊎◌, inl, inr, length, get_or, map, take, refl, sym, ap, ◌∙◌, subst, arith, append_assoc, true, false, filter, if◌then◌else◌}
 use Rattle.std.specs.List.{All, Contains, flat_map}
 use Rattle.std.specs.Ordering.{eq_by_cmp}
 use Rattle.std.proofs.lemmas.Grind.{flat_map-append}
 use Rattle.std.proofs.lemmas.List.{append-nil, map-append, map-id, take_more}
-use Rattle.std.proofs.lemmas.List.Elements.{All-push}
+use Rattle.std.proofs.lemmas.List.Elements.{All-push, filter-append}
 use Rattle.std.proofs.lemmas.Option.{get_or_from_slice_get, slice_get_within}
 use Rattle.cal_value.specs.ExactOrder.{exact_equiv, exact_tells}
 use Rattle.cal_value.specs.Order.{attribute_cmp, path_cmp}
@@ -19,7 +19,8 @@ use Rattle.cal_context.specs.declared.numbers.AttributeNumber.{AttributeNumber}
 use Rattle.cal_context.specs.declared.numbers.NodeNumber.{NodeNumber}
 use Rattle.cal_context.proofs.CallerLemmas.{Grows-refl, Grows-trans, path_at-Grows, attribute_at-Grows, within_paths}
 use Rattle.cal_context.proofs.ListLemmas.{map-alike}
-use Rattle.cal_rowset.specs.Hierarchy.{hierarchy}
+use Rattle.cal_value.specs.Flat.{joined}
+use Rattle.cal_rowset.specs.Hierarchy.{hierarchy, is_of_hierarchy}
 use Rattle.cal_treefmt.specs.Nodes.{firsts, is_node, nodes_of, nodes_on}
 use Rattle.cal_treefmt.specs.Walks.{AreAt, HasNodes, Walks, attributes_of}
 use Rattle.cal_treefmt.proofs.Firsts.{firsts-Adds}
@@ -160,3 +161,32 @@ module _ (old new : Tree) (rows : List Rec) (i : ℕ) (row : Rec) (n : NodeNumbe
         ∙ ap (λ s. s ++ hierarchy row ∷ []) at.paths
         ∙ sym (ap (map hierarchy) more ∙ map-append hierarchy (take i rows) (row ∷ []));
   }
+
+-- ---- along a path, and along paths
+
+abbrev nested : Entry → Bool
+nested e = is_of_hierarchy e.attr
+
+pub Walks-more : (a b c : Tree) (from mid to : NodeNumber) (path : List Entry) (i : ℕ) (e : Entry) → i < length path → e ≡ get_or path i e → Walks a b from (filter nested (take i path)) mid
+    → Walks b c mid (filter nested (e ∷ [])) to → Walks a c from (filter nested (take (i + 1) path)) to
+Walks-more a b c from mid to path i e within is h g =
+    subst (λ (es : List Entry). Walks a c from es to)
+    (sym (filter-append nested (take i path) (e ∷ [])) ∙ ap (filter nested) (ap (λ f. take i path ++ f ∷ []) is ∙ sym (take_more path i e within)))
+    (Walks-trans a b c from mid to (filter nested (take i path)) (filter nested (e ∷ [])) h g)
+
+pub Walks-path : (a b c : Tree) (from mid to : NodeNumber) (paths : List (List Entry)) (i : ℕ) (path : List Entry) → i < length paths → path ≡ get_or paths i path
+    → Walks a b from (filter nested (joined (take i paths))) mid → Walks b c mid (filter nested path) to → Walks a c from (filter nested (joined (take (i + 1) paths))) to
+Walks-path a b c from mid to paths i path within is h g =
+    subst (λ (es : List Entry). Walks a c from es to)
+    (sym (filter-append nested (joined (take i paths)) path)
+    ∙ ap (filter nested) (
+    ap (λ es. joined (take i paths) ++ es) (sym (append-nil path))
+    ∙ sym (flat_map-append (λ (p : List Entry). p) (take i paths) (path ∷ []))
+    ∙ ap joined (ap (λ p. take i paths ++ p ∷ []) is ∙ sym (take_more paths i path within))))
+    (Walks-trans a b c from mid to (filter nested (joined (take i paths))) (filter nested path) h g)
+
+pub Walks-nested : (old new : Tree) (from to : NodeNumber) (e : Entry) → is_of_hierarchy e.attr ≡ true → Walks old new from (e ∷ []) to → Walks old new from (filter nested (e ∷ [])) to
+Walks-nested old new from to e is walks = subst (λ (es : List Entry). Walks old new from es to) (ap (λ b. if b then e ∷ [] else []) (sym is)) walks
+
+pub Walks-other : (t : Tree) (from : NodeNumber) (e : Entry) → from.0 < length t.paths → is_of_hierarchy e.attr ≡ false → Walks t t from (filter nested (e ∷ [])) from
+Walks-other t from e within is = subst (λ (es : List Entry). Walks t t from es from) (ap (λ b. if b then e ∷ [] else []) (sym is)) (Walks-none t from within)

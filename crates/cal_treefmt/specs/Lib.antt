@@ -3,3 +3,5 @@ pub mod Lines
 pub mod Chains
 pub mod Walks
 pub mod Orders
+pub mod Plans
+pub mod Columns

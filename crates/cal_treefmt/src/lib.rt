@@ -6,5 +6,8 @@
 #![tactic(auto)]
 
 mod chains;
+mod columns;
+mod lines;
 mod nodes;
 mod order;
+mod plan;
