@@ -4,3 +4,4 @@ pub mod Chaining
 pub mod Keyed
 pub mod Ordering
 pub mod Naming
+pub mod Lining

@@ -43,7 +43,7 @@ below-other : (node : List Entry) (later : List (List Entry)) (above : List Entr
 below-other node later above e = ap (λ b. if b then node ∷ (below later node ++ below later above) else below later above) e
 
 -- the root, and then the nodes
-counted_in : (t : Tree) → IsContext t → length t.paths ≡ suc (length (nodes_in t))
+pub counted_in : (t : Tree) → IsContext t → length t.paths ≡ suc (length (nodes_in t))
 counted_in t context = omega (arith, length-drop 1 t.paths, root_within context)
 
 pub nth_is : (t : Tree) (k : ℕ) → path_at t (record { 0 = suc k }) ≡ nth_node t k

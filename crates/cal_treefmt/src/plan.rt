@@ -22,6 +22,7 @@ impl Plan {
         ensures { IfOk result (λ plan. IsPlan plan rows.now) }
     {
         let nodes = Nodes::new(alloc, rows)?;
+        nodes.context.has_each_once();
         let children = children(alloc, &nodes.context)?;
         let order = order(alloc, &nodes.context, &children)?;
         let rows = Chains::new(alloc, &nodes.of_rows, nodes.context.node_count())?;

@@ -1,0 +1,123 @@
+-- The lines of nodes and of rows.
+use Rattle.std.proofs.Common.{◌≡◌, ℕ, suc, ◌+◌, ◌-◌, ◌<◌, ◌≤◌, Bool, true, false, List, [], ◌∷◌, ◌++◌, ◌⊎◌, inl, inr, length, get_or, map, take, drop, filter, Option, None, Some, refl, sym, ap, ◌∙◌, subst, arith, append_assoc, drop-cons, if◌then◌else◌, slice_get}
+use Rattle.std.specs.List.{flat_map}
+use Rattle.std.proofs.lemmas.Grind.{flat_map-append}
+use Rattle.std.proofs.lemmas.List.{append-nil, map-append, take_all, take_more}
+use Rattle.std.proofs.lemmas.Option.{slice_get-get_or}
+use Rattle.cal_value.specs.ExactOrder.{exact_decides}
+use Rattle.cal_value.specs.OrderLaws.{path_exact}
+use Rattle.cal_value.specs.Values.{value_text}
+use Rattle.cal_value.specs.declared.attribute.Entry.{Entry}
+use Rattle.cal_value.specs.declared.record.Rec.{Rec}
+use Rattle.cal_context.specs.Tree.{Tree, IsContext, path_at}
+use Rattle.cal_context.specs.declared.numbers.NodeNumber.{NodeNumber}
+use Rattle.cal_context.proofs.CallerLemmas.{root_path, root_within}
+use Rattle.cal_rowset.specs.Hierarchy.{hierarchy}
+use Rattle.cal_treefmt.specs.Chains.{IsChained, IsNext, key_at}
+use Rattle.cal_treefmt.specs.Lines as lines
+use Rattle.cal_treefmt.specs.Lines.{indent, label, lines_of, node_lines, row_lines, rows_at, tree_lines}
+use Rattle.cal_treefmt.specs.Nodes.{is_node, ordered_nodes}
+use Rattle.cal_treefmt.specs.Orders.{AreRows, nodes_in}
+use Rattle.cal_treefmt.specs.Plans.{IsPlaceOf, IsPlan, left_rows, shown}
+use Rattle.cal_treefmt.specs.Walks.{AreAt}
+use Rattle.cal_treefmt.specs.declared.chains.Chains.{Chains}
+use Rattle.cal_treefmt.specs.declared.lines.Line.{Line}
+use Rattle.cal_treefmt.specs.declared.plan.Plan.{Plan}
+use Rattle.cal_treefmt.proofs.Keyed.{counted, node_same, passed_all, passed_to}
+use Rattle.cal_treefmt.proofs.Ordering.{counted_in, nth_is, nth_node}
+
+-- ---- labels
+
+indent-push : (path : List Entry) (e : Entry) → indent (path ++ e ∷ []) ≡ 32 ∷ 32 ∷ indent path
+indent-push [] e = refl
+indent-push (f ∷ path) e = ap (λ spaces. 32 ∷ 32 ∷ spaces) (indent-push path e)
+
+pub label-push : (path : List Entry) (e : Entry) → label (path ++ e ∷ []) ≡ indent path ++ value_text e.value
+label-push [] e = refl
+label-push (f ∷ []) e = refl
+label-push (f ∷ g ∷ path) e = ap (λ rest. 32 ∷ 32 ∷ rest) (label-push (g ∷ path) e)
+
+-- two spaces more, and one entry less to go
+pub indent-more : (text new : List ℕ) (path up : List Entry) (e : Entry) → path ≡ up ++ e ∷ [] → new ≡ text ++ 32 ∷ 32 ∷ [] → new ++ indent up ≡ text ++ indent path
+indent-more text new path up e is written =
+    ap (λ front. front ++ indent up) written ∙ append_assoc text (32 ∷ 32 ∷ []) (indent up)
+    ∙ ap (λ spaces. text ++ spaces) (sym (indent-push up e) ∙ ap indent (sym is))
+
+-- ---- rows
+
+abbrev no_row : Rec
+no_row = record { paths = []; imms = [] }
+
+abbrev row_at : List Rec → ℕ → Rec
+row_at rows k = get_or rows k no_row
+
+rows_at-here : (row : Rec) (rows : List Rec) (node : List Entry) → hierarchy row ≡ node → rows_at (row ∷ rows) node ≡ row ∷ rows_at rows node
+rows_at-here row rows node e =
+    ap (λ b. if b then row ∷ rows_at rows node else rows_at rows node) ((exact_decides path_exact (hierarchy row) node).1 e)
+
+rows_at-other : (row : Rec) (rows : List Rec) (node : List Entry) → is_node (hierarchy row) node ≡ false → rows_at (row ∷ rows) node ≡ rows_at rows node
+rows_at-other row rows node e = ap (λ b. if b then row ∷ rows_at rows node else rows_at rows node) e
+
+-- a row, and the later ones at its node
+left-here : (rows : List Rec) (k : ℕ) → k < length rows → left_rows rows (Some k) ≡ row_at rows k ∷ rows_at (drop (suc k) rows) (hierarchy (row_at rows k))
+left-here rows k l =
+    ap (λ rest. rows_at rest (hierarchy (row_at rows k))) (drop-cons rows k no_row l)
+    ∙ rows_at-here (row_at rows k) (drop (suc k) rows) (hierarchy (row_at rows k)) refl
+
+pub lines_of-left : (text : List ℕ) (rows : List Rec) (k : ℕ) → k < length rows → row_lines text (left_rows rows (Some k)) ≡ lines_of text (left_rows rows (Some k))
+lines_of-left text rows k l = by (left_rows rows (Some k)) (left-here rows k l)
+  where
+    by : (left : List Rec) → left ≡ row_at rows k ∷ rows_at (drop (suc k) rows) (hierarchy (row_at rows k)) → row_lines text left ≡ lines_of text left
+    by [] e = cc
+    by (row ∷ rest) e = refl
+
+module _ (t : Tree) (context : IsContext t) (rows : List Rec) (chains : Chains) (at : AreRows t rows chains) where
+  numbers : List NodeNumber
+  numbers = at.0
+
+  long : length numbers ≡ length rows
+  long = counted t context hierarchy rows numbers at.1.0 no_row
+
+  pub places : length chains.next.items ≡ length rows
+  places = at.1.1.places_counted ∙ long
+
+  -- the rows at a node from one place on, by the first
+  left-is : (i : ℕ) (n : NodeNumber) (next : Option ℕ) → n.0 < length t.paths → IsNext numbers i n.0 next → rows_at (drop i rows) (path_at t n) ≡ left_rows rows next
+  left-is i n None within lacks =
+      passed_all t context hierarchy rows numbers at.1.0 no_row n within (λ rest. rows_at rest (path_at t n)) (λ x rest e. rows_at-other x rest (path_at t n) e) i lacks
+  left-is i n (Some k) within first =
+      passed_to t context hierarchy rows numbers at.1.0 no_row n within (λ rest. rows_at rest (path_at t n)) (λ x rest e. rows_at-other x rest (path_at t n) e) i k first
+      ∙ ap (λ rest. rows_at rest (path_at t n)) (sym (drop-cons rows k no_row (omega (arith, first.within, long))))
+      ∙ ap (rows_at (drop k rows)) (sym (node_same t context hierarchy rows numbers at.1.0 no_row n k (omega (arith, first.within, long)) first.is))
+
+  pub left-first : (n : NodeNumber) (next : Option ℕ) → n.0 < length t.paths → IsNext numbers 0 n.0 next → left_rows rows next ≡ rows_at rows (path_at t n)
+  left-first n next within is = sym (left-is 0 n next within is)
+
+  pub left-next : (k : ℕ) (next : Option ℕ) → k < length rows → IsNext numbers (suc k) (key_at numbers k) next → left_rows rows (Some k) ≡ row_at rows k ∷ left_rows rows next
+  left-next k next l is =
+      let n = get_or numbers k (record { 0 = 0 }) in
+      let here = node_same t context hierarchy rows numbers at.1.0 no_row n k l refl in
+      left-here rows k l
+      ∙ ap (λ rest. row_at rows k ∷ rest) (
+      ap (rows_at (drop (suc k) rows)) here
+      ∙ left-is (suc k) n next (at.1.0.within k (record { 0 = 0 }) (omega (arith, l, long))) is)
+
+  -- and where it is
+  pub left-within : (i key : ℕ) (next : Option ℕ) → IsNext numbers i key next → (k : ℕ) → next ≡ Some k → k < length rows
+  left-within i key None is k e = cc
+  left-within i key (Some j) is k e = let first = is.within in omega (arith, first, long, some_is j k e)
+    where
+      some_is : (a b : ℕ) → Some a ≡ Some b → a ≡ b
+      some_is a b h = cc
+
+-- ---- lines
+
+-- a line with a row, and those that are left
+pub row_lines-more : (rows : List Rec) (text : List ℕ) (old : List Line) (line : Line) (k : ℕ) (left : List Rec) (whole : List lines.Line) → k < length rows → line ≡ record { label = text; row = Some k }
+    → map (shown rows) old ++ row_lines text (row_at rows k ∷ left) ≡ whole → map (shown rows) (old ++ line ∷ []) ++ row_lines text left ≡ whole
+row_lines-more rows text old line k left whole l is before =
+    ap (λ front. front ++ row_lines text left) (map-append (shown rows) old (line ∷ []))
+    ∙ append_assoc (map (shown rows) old) (shown rows line ∷ []) (row_lines text left)
+    ∙ ap (λ (first : lines.Line). map (shown rows) old ++ first ∷ row_lines text left)
+    (ap (shown rows) is ∙ (λ j. record { label = text; row = slice_get-get_or rows k no_row l j }))
+    ∙ before
