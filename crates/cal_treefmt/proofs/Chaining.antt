@@ -43,7 +43,7 @@ module _ (keys : List NodeNumber) where
 
   module _ (place count : ℕ) (first next : List (Option ℕ)) (within : place < length keys) (small : key_at keys place < count)
       (chains : AreChains keys (suc place) count first next) where
-    key : ℕ
+    abbrev key : ℕ
     key = key_at keys place
 
     here : IsFirst keys place key place

@@ -1,5 +1,5 @@
 -- A list whose items are keyed by nodes: what is found of a node from one place on.
-use Rattle.std.proofs.Common.{◌≡◌, ℕ, suc, ◌+◌, ◌<◌, ◌≤◌, Bool, true, false, List, [], ◌∷◌, ◌⊎◌, inl, inr, length, get_or, map, drop, filter, Option, None, Some, refl, sym, ap, ◌∙◌, subst, arith, drop-cons, true≢false, if◌then◌else◌, ◌-◌}
+use Rattle.std.proofs.Common.{◌≡◌, ℕ, zero, suc, ◌+◌, ◌<◌, ◌≤◌, Bool, true, false, List, [], ◌∷◌, ◌⊎◌, inl, inr, length, get_or, map, drop, filter, Option, None, Some, refl, sym, ap, ◌∙◌, subst, arith, drop-cons, true≢false, if◌then◌else◌, ◌-◌}
 use Rattle.std.proofs.lemmas.Bool.{cases_lt}
 use Rattle.std.proofs.lemmas.List.{drop_all, get_or-map, length-map}
 use Rattle.cal_value.specs.ExactOrder.{exact_decides}
@@ -14,7 +14,7 @@ use Rattle.cal_treefmt.specs.Chains.{IsFirst, IsNext, LacksKey, key_at}
 use Rattle.cal_treefmt.specs.Nodes.{is_node}
 use Rattle.cal_treefmt.specs.Walks.{AreAt}
 
-abbrev root : NodeNumber
+abbrev pub root : NodeNumber
 root = record { 0 = 0 }
 
 module _ {X : Type 0} (t : Tree) (context : IsContext t) (f : X → List Entry) (xs : List X) (numbers : List NodeNumber) (at : AreAt t numbers (map f xs)) (d : X) where
@@ -43,7 +43,7 @@ module _ {X : Type 0} (t : Tree) (context : IsContext t) (f : X → List Entry) 
     -- what passes over the items at other nodes
     module _ {Y : Type 0} (within : n.0 < length t.paths) (g : List X → Y) (passes : (x : X) (rest : List X) → is_node (f x) (path_at t n) ≡ false → g (x ∷ rest) ≡ g rest) where
       passed : (m i k : ℕ) → i + m ≡ k → k ≤ length xs → LacksKey numbers i k n.0 → g (drop i xs) ≡ g (drop k xs)
-      passed 0 i k e l lacks = ap (λ (j : ℕ). g (drop j xs)) (omega (arith, e))
+      passed zero i k e l lacks = ap (λ (j : ℕ). g (drop j xs)) (omega (arith, e))
       passed (suc m) i k e l lacks =
           ap g (drop-cons xs i d (omega (arith, e, l)))
           ∙ passes (get_or xs i d) (drop (suc i) xs) (node_other within i (omega (arith, e, l)) (lacks i (omega arith) (omega (arith, e))))

@@ -1,5 +1,5 @@
 -- The lines of nodes and of rows.
-use Rattle.std.proofs.Common.{◌≡◌, ℕ, suc, ◌+◌, ◌-◌, ◌<◌, ◌≤◌, Bool, true, false, List, [], ◌∷◌, ◌++◌, ◌⊎◌, inl, inr, length, get_or, map, take, drop, filter, Option, None, Some, refl, sym, ap, ◌∙◌, subst, arith, append_assoc, drop-cons, if◌then◌else◌, slice_get}
+use Rattle.std.proofs.Common.{◌≡◌, ℕ, suc, ◌+◌, ◌-◌, ◌<◌, ◌≤◌, Bool, true, false, List, [], ◌∷◌, ◌++◌, ◌⊎◌, inl, inr, length, get_or, map, take, drop, filter, Option, None, Some, refl, sym, ap, ◌∙◌, subst, arith, append_assoc, drop-cons, if◌then◌else◌, slice_get, tt}
 use Rattle.std.specs.List.{flat_map}
 use Rattle.std.proofs.lemmas.Grind.{flat_map-append}
 use Rattle.std.proofs.lemmas.List.{append-nil, map-append, take_all, take_more}
@@ -18,7 +18,7 @@ use Rattle.cal_treefmt.specs.Lines as lines
 use Rattle.cal_treefmt.specs.Lines.{indent, label, lines_of, node_lines, row_lines, rows_at, tree_lines}
 use Rattle.cal_treefmt.specs.Nodes.{is_node, ordered_nodes}
 use Rattle.cal_treefmt.specs.Orders.{AreRows, nodes_in}
-use Rattle.cal_treefmt.specs.Plans.{IsPlaceOf, IsPlan, left_rows, shown}
+use Rattle.cal_treefmt.specs.Plans.{IsPlaceOf, IsPlan, IsPlanOf, left_rows, shown}
 use Rattle.cal_treefmt.specs.Walks.{AreAt}
 use Rattle.cal_treefmt.specs.declared.chains.Chains.{Chains}
 use Rattle.cal_treefmt.specs.declared.lines.Line.{Line}
@@ -72,23 +72,23 @@ lines_of-left text rows k l = by (left_rows rows (Some k)) (left-here rows k l)
     by (row ∷ rest) e = refl
 
 module _ (t : Tree) (context : IsContext t) (rows : List Rec) (chains : Chains) (at : AreRows t rows chains) where
-  numbers : List NodeNumber
+  abbrev numbers : List NodeNumber
   numbers = at.0
 
   long : length numbers ≡ length rows
-  long = counted t context hierarchy rows numbers at.1.0 no_row
+  long = counted t context hierarchy rows numbers at.1 no_row
 
   pub places : length chains.next.items ≡ length rows
-  places = at.1.1.places_counted ∙ long
+  places = at.2.places_counted ∙ long
 
   -- the rows at a node from one place on, by the first
   left-is : (i : ℕ) (n : NodeNumber) (next : Option ℕ) → n.0 < length t.paths → IsNext numbers i n.0 next → rows_at (drop i rows) (path_at t n) ≡ left_rows rows next
   left-is i n None within lacks =
-      passed_all t context hierarchy rows numbers at.1.0 no_row n within (λ rest. rows_at rest (path_at t n)) (λ x rest e. rows_at-other x rest (path_at t n) e) i lacks
+      passed_all t context hierarchy rows numbers at.1 no_row n within (λ rest. rows_at rest (path_at t n)) (λ x rest e. rows_at-other x rest (path_at t n) e) i lacks
   left-is i n (Some k) within first =
-      passed_to t context hierarchy rows numbers at.1.0 no_row n within (λ rest. rows_at rest (path_at t n)) (λ x rest e. rows_at-other x rest (path_at t n) e) i k first
+      passed_to t context hierarchy rows numbers at.1 no_row n within (λ rest. rows_at rest (path_at t n)) (λ x rest e. rows_at-other x rest (path_at t n) e) i k first
       ∙ ap (λ rest. rows_at rest (path_at t n)) (sym (drop-cons rows k no_row (omega (arith, first.within, long))))
-      ∙ ap (rows_at (drop k rows)) (sym (node_same t context hierarchy rows numbers at.1.0 no_row n k (omega (arith, first.within, long)) first.is))
+      ∙ ap (rows_at (drop k rows)) (sym (node_same t context hierarchy rows numbers at.1 no_row n k (omega (arith, first.within, long)) first.is))
 
   pub left-first : (n : NodeNumber) (next : Option ℕ) → n.0 < length t.paths → IsNext numbers 0 n.0 next → left_rows rows next ≡ rows_at rows (path_at t n)
   left-first n next within is = sym (left-is 0 n next within is)
@@ -96,19 +96,11 @@ module _ (t : Tree) (context : IsContext t) (rows : List Rec) (chains : Chains) 
   pub left-next : (k : ℕ) (next : Option ℕ) → k < length rows → IsNext numbers (suc k) (key_at numbers k) next → left_rows rows (Some k) ≡ row_at rows k ∷ left_rows rows next
   left-next k next l is =
       let n = get_or numbers k (record { 0 = 0 }) in
-      let here = node_same t context hierarchy rows numbers at.1.0 no_row n k l refl in
+      let here = node_same t context hierarchy rows numbers at.1 no_row n k l refl in
       left-here rows k l
       ∙ ap (λ rest. row_at rows k ∷ rest) (
       ap (rows_at (drop (suc k) rows)) here
-      ∙ left-is (suc k) n next (at.1.0.within k (record { 0 = 0 }) (omega (arith, l, long))) is)
-
-  -- and where it is
-  pub left-within : (i key : ℕ) (next : Option ℕ) → IsNext numbers i key next → (k : ℕ) → next ≡ Some k → k < length rows
-  left-within i key None is k e = cc
-  left-within i key (Some j) is k e = let first = is.within in omega (arith, first, long, some_is j k e)
-    where
-      some_is : (a b : ℕ) → Some a ≡ Some b → a ≡ b
-      some_is a b h = cc
+      ∙ left-is (suc k) n next (at.1.within k (record { 0 = 0 }) (omega (arith, l, long))) is)
 
 -- ---- lines
 
@@ -121,3 +113,39 @@ row_lines-more rows text old line k left whole l is before =
     ∙ ap (λ (first : lines.Line). map (shown rows) old ++ first ∷ row_lines text left)
     (ap (shown rows) is ∙ (λ j. record { label = text; row = slice_get-get_or rows k no_row l j }))
     ∙ before
+
+-- how many places there are from one on
+abbrev pub places_from : ℕ → Option ℕ → ℕ
+places_from count None = 0
+places_from count (Some place) = count - place
+
+-- the next place, of which it is known that it follows in each reading of the plan
+abbrev pub Follows : Plan → ℕ → Option ℕ → Type 0
+Follows p k next = (keys : List NodeNumber) (count : ℕ) → IsChained keys count p.rows → k < length keys → IsNext keys (suc k) (key_at keys k) next
+
+module _ (p : Plan) (k : ℕ) (next : Option ℕ) where
+  follows : (rows : List Rec) (plan : IsPlan p rows) → k < length p.rows.next.items → Follows p k next → IsNext plan.at.0 (suc k) (key_at plan.at.0 k) next
+  follows rows plan within is = is plan.at.0 (length p.context.paths) plan.at.2 (omega (arith, within, plan.at.2.places_counted))
+
+  pub place-next : IsPlanOf p → k < length p.rows.next.items → Follows p k next → IsPlaceOf p next
+  place-next of within is = by next (follows of.0 of.1 within is)
+    where
+      by : (o : Option ℕ) → IsNext of.1.at.0 (suc k) (key_at of.1.at.0 k) o → IsPlaceOf p o
+      by None lacks = tt
+      by (Some j) first = omega (arith, first.within, of.1.at.2.places_counted)
+
+  pub place-smaller : IsPlanOf p → k < length p.rows.next.items → Follows p k next → places_from (length p.rows.next.items) next < length p.rows.next.items - k
+  place-smaller of within is = by next (follows of.0 of.1 within is)
+    where
+      by : (o : Option ℕ) → IsNext of.1.at.0 (suc k) (key_at of.1.at.0 k) o → places_from (length p.rows.next.items) o < length p.rows.next.items - k
+      by None lacks = omega (arith, within)
+      by (Some j) first = omega (arith, within, first.within, first.later, of.1.at.2.places_counted)
+
+  pub lines-more : (rows : List Rec) (text : List ℕ) (old new : List Line) (copied : List ℕ) (whole : List lines.Line) (plan : IsPlan p rows) → k < length p.rows.next.items → Follows p k next
+      → copied ≡ text → new ≡ old ++ record { label = copied; row = Some k } ∷ [] → map (shown rows) old ++ row_lines text (left_rows rows (Some k)) ≡ whole
+      → map (shown rows) new ++ row_lines text (left_rows rows next) ≡ whole
+  lines-more rows text old new copied whole plan within is copy written before =
+      let places_is = places p.context plan.context rows p.rows plan.at in
+      ap (λ l. map (shown rows) l ++ row_lines text (left_rows rows next)) written
+      ∙ row_lines-more rows text old (record { label = copied; row = Some k }) k (left_rows rows next) whole (omega (arith, within, places_is)) (λ j. record { label = copy j; row = Some k })
+      (ap (λ left. map (shown rows) old ++ row_lines text left) (sym (left-next p.context plan.context rows p.rows plan.at k next (omega (arith, within, places_is)) (follows rows plan within is))) ∙ before)

@@ -1,5 +1,5 @@
 -- What a context has after one more node, after one more row.
-use Rattle.std.proofs.Common.{◌≡◌, ℕ, suc, ◌+◌, ◌<◌, Bool, List, [], ◌∷◌, ◌++◌, ◌⊎◌, inl, inr, length, get_or, map, take, refl, sym, ap, ◌∙◌, subst, arith, append_assoc, true, false, filter, if◌then◌else◌}
+use Rattle.std.proofs.Common.{◌≡◌, ℕ, zero, suc, ◌+◌, ◌<◌, Bool, List, [], ◌∷◌, ◌++◌, ◌⊎◌, inl, inr, length, get_or, map, take, refl, sym, ap, ◌∙◌, subst, arith, append_assoc, true, false, filter, if◌then◌else◌}
 use Rattle.std.specs.List.{All, Contains, flat_map}
 use Rattle.std.specs.Ordering.{eq_by_cmp}
 use Rattle.std.proofs.lemmas.Grind.{flat_map-append}
@@ -55,9 +55,9 @@ not_root (f ∷ path) e h = cc
 -- a node below the root goes behind the root and the others
 below_root : (nodes : List (List Entry)) (path : List Entry) (e : Entry) (new : List (List Entry)) → Adds ([] ∷ nodes) (path ++ e ∷ []) new
     → (rest : List (List Entry)) × (new ≡ [] ∷ rest) × Adds nodes (path ++ e ∷ []) rest
-below_root nodes path e new (inl ((0, l, is), same)) = absurd (not_root path e is)
+below_root nodes path e new (inl ((zero, l, is), same)) = absurd (not_root path e is)
 below_root nodes path e new (inl ((suc k, l, is), same)) = (nodes, same, inl ((k, omega (arith, l), is), refl))
-below_root nodes path e new (inr (lacks, is)) = (nodes ++ (path ++ e ∷ []) ∷ [], is, inr (λ there. lacks (suc there.0, omega (arith, there.1.0), there.1.1), refl))
+below_root nodes path e new (inr (lacks, is)) = (nodes ++ (path ++ e ∷ []) ∷ [], is, inr (λ there. lacks (suc there.0, omega (arith, there.1), there.2), refl))
 
 attribute-is : (old new : Tree) (a : Attribute) (n : AttributeNumber) → AddsAttribute old a new n → (n.0 < length new.attributes) × (attribute_at new n ≡ a)
 attribute-is old new a n adds =
@@ -83,7 +83,7 @@ module _ (old mid new : Tree) (up : NodeNumber) (e : Entry) (a : AttributeNumber
       let adds : Adds ([] ∷ firsts is_node seen) (path_at old up ++ e ∷ []) new.paths =
           subst (λ xs. Adds xs (path_at old up ++ e ∷ []) new.paths) (first.paths ∙ is) (subst (λ x. Adds mid.paths x new.paths) path child.paths) in
       let rest = below_root (firsts is_node seen) (path_at old up) e new.paths adds in
-      rest.1.0 ∙ ap (λ xs. [] ∷ xs) (firsts-Adds (exact_equiv path_exact) is_path seen (path_at old up ++ e ∷ []) (firsts is_node seen) rest.0 refl rest.1.1)
+      rest.1 ∙ ap (λ xs. [] ∷ xs) (firsts-Adds (exact_equiv path_exact) is_path seen (path_at old up ++ e ∷ []) (firsts is_node seen) rest.0 refl rest.2)
 
   attributes : (seen : List Entry) → old.attributes ≡ attributes_of seen → new.attributes ≡ attributes_of (seen ++ e ∷ [])
   attributes seen is =
@@ -164,7 +164,7 @@ module _ (old new : Tree) (rows : List Rec) (i : ℕ) (row : Rec) (n : NodeNumbe
 
 -- ---- along a path, and along paths
 
-abbrev nested : Entry → Bool
+abbrev pub nested : Entry → Bool
 nested e = is_of_hierarchy e.attr
 
 pub Walks-more : (a b c : Tree) (from mid to : NodeNumber) (path : List Entry) (i : ℕ) (e : Entry) → i < length path → e ≡ get_or path i e → Walks a b from (filter nested (take i path)) mid
@@ -190,3 +190,11 @@ Walks-nested old new from to e is walks = subst (λ (es : List Entry). Walks old
 
 pub Walks-other : (t : Tree) (from : NodeNumber) (e : Entry) → from.0 < length t.paths → is_of_hierarchy e.attr ≡ false → Walks t t from (filter nested (e ∷ [])) from
 Walks-other t from e within is = subst (λ (es : List Entry). Walks t t from es from) (ap (λ b. if b then e ∷ [] else []) (sym is)) (Walks-none t from within)
+
+-- ---- without rows
+
+pub HasNodes-none : (t : Tree) → t ≡ record { attributes = []; values = []; paths = [] ∷ [] } → HasNodes t []
+HasNodes-none t is = record { nodes = ap (λ (s : Tree). s.paths) is; attributes = ap (λ (s : Tree). s.attributes) is }
+
+pub AreAt-none : (t : Tree) (numbers : List NodeNumber) → numbers ≡ [] → AreAt t numbers []
+AreAt-none t numbers is = subst (λ (ns : List NodeNumber). AreAt t ns []) (sym is) (record { within = λ k d l. absurd (omega (arith, l)); paths = refl })

@@ -25,13 +25,13 @@ IsNext keys from key place =
     MatchOption place (LacksKey keys from (length keys) key) (IsFirst keys from key)
 
 -- the first place of each key, and of each place from one on the next that has its key
-pub record AreChains (keys : List NodeNumber) (from count : ℕ) (first next : List (Option ℕ))
+pub record AreChains (keys : List NodeNumber) (from count : ℕ) (heads nexts : List (Option ℕ))
     : Type 0 where
-  pub keys_counted : length first ≡ count
-  pub places_counted : length next ≡ length keys
-  pub first : (key : ℕ) → key < count → IsNext keys from key (slice_index_or first key None)
+  pub keys_counted : length heads ≡ count
+  pub places_counted : length nexts ≡ length keys
+  pub first : (key : ℕ) → key < count → IsNext keys from key (slice_index_or heads key None)
   pub next : (place : ℕ) → from ≤ place → place < length keys
-      → IsNext keys (suc place) (key_at keys place) (slice_index_or next place None)
+      → IsNext keys (suc place) (key_at keys place) (slice_index_or nexts place None)
 
 -- chains of these keys, each of which is less than a number
 abbrev pub IsChained : List NodeNumber → ℕ → Chains → Type 0

@@ -13,9 +13,8 @@ nested_names rows = map (λ e. e.attr.name) (flat_map hierarchy rows)
 
 -- A column stands beside the tree unless it shows the hierarchy, or a name that stands in the
 -- hierarchy of some row (Giltmoth's layout).
-abbrev pub is_beside : List Rec → Column → Bool
-is_beside rows column =
-    not (is_path column.name) && not (is_known (nested_names rows) column.name)
+abbrev pub is_beside_names : List (List ℕ) → Column → Bool
+is_beside_names names column = not (is_path column.name) && not (is_known names column.name)
 
 abbrev pub columns_beside : List Rec → List Column → List Column
-columns_beside rows columns = filter (is_beside rows) columns
+columns_beside rows columns = filter (is_beside_names (nested_names rows)) columns

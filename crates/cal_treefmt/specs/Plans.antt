@@ -1,5 +1,5 @@
 -- What is laid out, and the lines that are made of it.
-use Rattle.std.specs.Prelude.{◌≡◌, ℕ, ◌<◌, ◌×◌, List, [], Option, None, Some, ⊤}
+use Rattle.std.specs.Prelude.{◌≡◌, ℕ, ◌<◌, List, [], Option, None, Some, ⊤}
 use Rattle.std.specs.Prelude.{drop, filter, length, map, slice_get, slice_index_or, MatchOption}
 use Rattle.std.specs.Option.{option_and_then}
 use Rattle.std.specs.List.{All}
@@ -21,7 +21,7 @@ pub record IsPlan (p : Plan) (rows : List Rec) : Type 0 where
   pub within : All (λ k. k < length (nodes_in p.context)) p.order.items
   pub order : map (λ k. slice_index_or (nodes_in p.context) k []) p.order.items
       ≡ ordered_nodes rows
-  pub rows : AreRows p.context rows p.rows
+  pub at : AreRows p.context rows p.rows
 
 abbrev pub IsPlanOf : Plan → Type 0
 IsPlanOf p = (rows : List Rec) × IsPlan p rows

@@ -12,9 +12,9 @@ use Rattle.cal_rowset.specs.Hierarchy.{hierarchy}
 use Rattle.cal_treefmt.specs.Nodes.{firsts, is_node, nodes_of, nodes_on}
 
 -- the nodes with these paths
-pub record AreAt (t : Tree) (numbers : List NodeNumber) (paths : List (List Entry)) : Type 0 where
+pub record AreAt (t : Tree) (numbers : List NodeNumber) (nodes : List (List Entry)) : Type 0 where
   pub within : All (λ n. n.0 < length t.paths) numbers
-  pub paths : map (path_at t) numbers ≡ paths
+  pub paths : map (path_at t) numbers ≡ nodes
 
 -- The attributes of entries, each where it is first seen.
 abbrev pub attributes_of : List Entry → List Attribute

@@ -60,7 +60,7 @@ fn no_places(alloc: Global, count: usize) -> Result<Vec<Option<usize>>, OutOfMem
     ensures none { IfOk result (λ places. (k : ℕ) → slice_index_or places.items k None ≡ None) }
 {
     let mut places = Vec::with_capacity(alloc, count)?;
-    for _ in 0..count {
+    for _place in 0..count {
         places.push(None)?;
     }
     Ok(places)

@@ -1,11 +1,9 @@
-ghost use Rattle.std.specs.Prelude.{◌≡◌, ℕ, ◌<◌, ◌&&◌, Bool, List, [], ◌∷◌, ◌++◌, filter, length};
-ghost use Rattle.std.specs.Prelude.{map, not, take, IfOk, OnOk};
+ghost use Rattle.std.specs.Prelude.{◌≡◌, ℕ, ◌+◌, ◌<◌, Bool, List, [], ◌∷◌, ◌++◌, filter, length};
+ghost use Rattle.std.specs.Prelude.{take, IfOk, OnOk};
 ghost use Rattle.std.specs.List.{list_any};
 ghost use Rattle.cal_value.specs.declared.record.Rec.{Rec};
-ghost use Rattle.cal_context.specs.Tree.{attribute_at};
-ghost use Rattle.cal_rowset.specs.Cells.{is_path};
 ghost use Rattle.cal_rowset.specs.Known.{is_known};
-ghost use Rattle.cal_treefmt.specs.Columns.{columns_beside};
+ghost use Rattle.cal_treefmt.specs.Columns.{columns_beside, is_beside_names};
 ghost use Rattle.cal_treefmt.specs.Walks.{HasNodes};
 
 use cal_context::{AttributeNumber, Context};
@@ -25,17 +23,32 @@ pub(crate) fn columns_beside(
     let names = nested_names(alloc, context)?;
     let mut beside = Vec::new(alloc);
     for column in columns {
-        if is_beside(&names, &column.name) {
-            beside.push(column.copy(alloc)?)?;
-        }
+        push_beside(alloc, &mut beside, &names, column)?;
     }
     Ok(beside)
 }
 
-fn is_beside(names: &Names, name: &Text) -> bool
-    ensures { result ≡ (not (is_path name.now) && not (is_known names.now name.now)) }
+/// Adds a column, unless it shows the hierarchy or one of these names.
+fn push_beside(
+    alloc: Global,
+    beside: &mut Vec<Column>,
+    names: &Names,
+    column: &Column,
+) -> Result<(), OutOfMemory>
+    ensures { OnOk result (beside.new.items ≡ beside.old.items
+        ++ filter (is_beside_names names.now) (column.now ∷ [])) }
 {
-    !is_path(name) && names.place(name).is_none()
+    if is_path(&column.name) || is_known(names, &column.name) {
+        return Ok(());
+    }
+    beside.push(column.copy(alloc)?)?;
+    Ok(())
+}
+
+fn is_known(names: &Names, name: &Text) -> bool
+    ensures { result ≡ is_known names.now name.now }
+{
+    names.place(name).is_some()
 }
 
 /// The names of a context's attributes, each once.

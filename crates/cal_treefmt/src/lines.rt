@@ -1,5 +1,5 @@
-ghost use Rattle.std.specs.Prelude.{◌≡◌, ◌<◌, List, ◌++◌, length, map, option_map, IfOk, OnOk};
-ghost use Rattle.std.specs.Prelude.{slice_index_or, [], MatchOption, ⊤};
+ghost use Rattle.std.specs.Prelude.{◌≡◌, ◌<◌, List, ◌∷◌, ◌++◌, length, map, suc, IfOk, OnOk};
+ghost use Rattle.std.specs.Prelude.{slice_index_or, [], None};
 ghost use Rattle.cal_value.specs.declared.record.Rec.{Rec};
 ghost use Rattle.cal_context.specs.Tree.{path_at};
 ghost use Rattle.cal_treefmt.specs.Lines.{indent as indent_of, label as label_of, node_lines};
@@ -46,8 +46,9 @@ fn push_node(
         → map (shown rows) lines.new.items ≡ map (shown rows) lines.old.items
         ++ node_lines rows (slice_index_or (nodes_in plan.now.context) place [])) }
 {
-    let label = label(alloc, &plan.context, place)?;
-    match plan.rows.first(place + 1) {
+    let number = numbered(place)?;
+    let label = label(alloc, &plan.context, number)?;
+    match plan.rows.first(number.0 as usize) {
         Some(row) => push_rows(alloc, lines, plan, &label, Some(row)),
         None => push_line(lines, label),
     }
@@ -87,20 +88,27 @@ fn push_rows(
     Ok(())
 }
 
+// The number of the node at a place. A context has fewer than 2^32 nodes.
+fn numbered(place: usize) -> Result<NodeNumber, OutOfMemory>
+    ensures { IfOk result (λ number. number.0 ≡ suc place) }
+{
+    match u32::try_from(place) {
+        Ok(place) if place < u32::MAX => Ok(NodeNumber(place + 1)),
+        _ => Err(OutOfMemory),
+    }
+}
+
 /// The label of a node.
-fn label(alloc: Global, context: &Context, place: usize) -> Result<Text, OutOfMemory>
-    requires { place < length (nodes_in context.now) }
-    ensures { IfOk result (λ text. text
-        ≡ label_of (slice_index_or (nodes_in context.now) place [])) }
+fn label(alloc: Global, context: &Context, node: NodeNumber) -> Result<Text, OutOfMemory>
+    requires { node.0 < length context.now.paths }
+    ensures { IfOk result (λ text. text ≡ label_of (path_at context.now node)) }
 {
     let mut label = Text::new(alloc);
-    let Ok(number) = u32::try_from(place + 1) else {
-        return Err(OutOfMemory);
+    let Some(link) = context.link(node) else {
+        return Ok(label);
     };
-    if let Some(link) = context.link(NodeNumber(number)) {
-        indent(&mut label, context, link.parent)?;
-        print_value(context.value_at(link.value), &mut label)?;
-    }
+    indent(&mut label, context, link.parent)?;
+    print_value(context.value_at(link.value), &mut label)?;
     Ok(label)
 }
 

@@ -23,7 +23,8 @@ impl Nodes {
         let mut context = Context::new(alloc);
         let mut of_rows = Vec::with_capacity(alloc, rows.len())?;
         for row in rows {
-            of_rows.push(add_row(&mut context, row)?)?;
+            let node = add_row(&mut context, row)?;
+            of_rows.push(node)?;
         }
         Ok(Nodes { context, of_rows })
     }

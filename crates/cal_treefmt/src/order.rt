@@ -7,7 +7,7 @@ ghost use Rattle.cal_treefmt.specs.Orders.{AreChildren, AreParents, IsParent, no
 
 use crate::chains::Chains;
 use cal_context::{Context, NodeNumber};
-use cal_value::OutOfMemory;
+use cal_value::{OutOfMemory, Seq};
 use std::alloc::Global;
 
 /// The chains of the children of each node. A place is that of a node among those but the root.
@@ -25,7 +25,8 @@ fn parents(alloc: Global, context: &Context) -> Result<Vec<NodeNumber>, OutOfMem
     context.has_each_once();
     let mut parents = Vec::with_capacity(alloc, context.node_count())?;
     for number in 1..context.node_count() {
-        parents.push(parent(context, number)?)?;
+        let above = parent(context, number)?;
+        parents.push(above)?;
     }
     Ok(parents)
 }
@@ -58,18 +59,21 @@ pub(crate) fn order(
 {
     context.has_each_once();
     let mut order = Vec::with_capacity(alloc, context.node_count())?;
-    let mut left = Vec::new(alloc);
-    push_some(&mut left, children.first(0))?;
+    let mut left = Seq::new(alloc);
+    let first = children.first(0);
+    push_some(&mut left, first)?;
     while let Some(place) = left.pop() {
         order.push(place)?;
-        push_some(&mut left, children.next(place))?;
-        push_some(&mut left, children.first(place + 1))?;
+        let beside = children.next(place);
+        push_some(&mut left, beside)?;
+        let below = children.first(place + 1);
+        push_some(&mut left, below)?;
     }
     Ok(order)
 }
 
-fn push_some(left: &mut Vec<usize>, place: Option<usize>) -> Result<(), OutOfMemory>
-    ensures { OnOk result (left.new.items ≡ left.old.items ++ option_to_list place) }
+fn push_some(left: &mut Seq<usize>, place: Option<usize>) -> Result<(), OutOfMemory>
+    ensures { OnOk result (left.new ≡ left.old ++ option_to_list place) }
 {
     if let Some(place) = place {
         left.push(place)?;

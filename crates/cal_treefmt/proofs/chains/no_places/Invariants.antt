@@ -1,5 +1,8 @@
-use Rattle.std.proofs.Common.{◌≡◌, ℕ, ◌×◌, length, get_or, None}
+use Rattle.std.proofs.Common.{◌≡◌, ℕ, length, get_or, None}
 use Rattle.cal_treefmt.proofs.chains.no_places.Given as goal
 
-abbrev pub invariant-loop-i : goal.invariant-loop-i
-invariant-loop-i l = (length l.places.items ≡ l.i) × ((k : ℕ) → get_or l.places.items k None ≡ None)
+abbrev pub invariant-loop-place : goal.invariant-loop-place
+invariant-loop-place l = record {
+  counted : length l.places.items ≡ l._place;
+  none : (k : ℕ) → get_or l.places.items k None ≡ None;
+}

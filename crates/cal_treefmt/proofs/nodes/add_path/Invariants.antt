@@ -5,4 +5,4 @@ use Rattle.cal_treefmt.proofs.nodes.add_path.Given as goal
 
 abbrev pub invariant-loop-entry : goal.invariant-loop-entry
 invariant-loop-entry l =
-    Walks l.fn.context l.context l.from (filter (λ e. is_of_hierarchy e.attr) (take l.entry-index l.path)) l.node
+    Walks l.fn.context l.context l.fn.from (filter (λ e. is_of_hierarchy e.attr) (take l.entry-index l.path)) l.node

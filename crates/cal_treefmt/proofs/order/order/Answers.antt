@@ -1,0 +1,26 @@
+use Rattle.std.proofs.Common.{arith, sym, ap, ◌∙◌}
+use Rattle.std.proofs.lemmas.List.{append-nil}
+use Rattle.cal_context.proofs.CallerLemmas.{root_within}
+use Rattle.cal_treefmt.proofs.Ordering.{counted_in, long, nth_node, ordering-place, ordering-smaller, ordering-start, ordering-turn, to_do}
+use Rattle.cal_treefmt.proofs.order.order.Goals as goal
+
+pub loop-place-init : goal.loop-place-init
+loop-place-init c =
+    ordering-start c.args.context.now c.has_each_once.ensures c.requires.0 c.requires.1 _ _ c.first-first.result c.in_ok-order.ensures.items
+    (c.in_ok-push_some.ensures ∙ ap (λ l. l ++ option_to_list c.first-first.result) c.new-left.ensures)
+    (c.first-first.ensures c.requires.0 _ c.requires.2 (root_within c.has_each_once.ensures))
+
+pub overflow_add : goal.overflow_add
+overflow_add c = omega arith
+
+pub loop-place-smaller : goal.loop-place-smaller
+loop-place-smaller c =
+    ordering-smaller c.args.context.now c.has_each_once.ensures c.requires.0 c.requires.1 _ _ _ _ _ _ c.in-Some.place c.next-beside.result c.first-below.result c.loop-place.invariant
+    c.in-Some.ensures.last c.in_ok-push.ensures.items c.in_ok-push_some-2.ensures c.in_ok-push_some-3.ensures
+    (c.next-beside.ensures c.requires.0 _ c.requires.2 (omega arith)) (c.first-below.ensures c.requires.0 _ c.requires.2 (omega arith))
+
+pub loop-place-preserved : goal.loop-place-preserved
+loop-place-preserved c =
+    ordering-turn c.args.context.now c.has_each_once.ensures c.requires.0 c.requires.1 _ _ _ _ _ _ c.in-Some.place c.next-beside.result c.first-below.result c.loop-place.invariant
+    c.in-Some.ensures.last c.in_ok-push.ensures.items c.in_ok-push_some-2.ensures c.in_ok-push_some-3.ensures
+    (c.next-beside.ensures c.requires.0 _ c.requires.2 (omega arith)) (c.first-below.ensures c.requires.0 _ c.requires.2 (omega arith))
