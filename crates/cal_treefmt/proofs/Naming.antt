@@ -57,10 +57,10 @@ list_any-Adds test old x new (inl ((k, l, e), same)) = ap (list_any test) same �
 list_any-Adds test old x new (inr (lacks, is)) = ap (list_any test) is ∙ list_any-push test old x
 
 -- the names of attributes, with one more
-pub learned : (test : List ℕ → Bool) (old new : List (List ℕ)) (attributes : List Attribute) (i : ℕ) (a : Attribute) → i < length attributes → Adds old (get_or attributes i a).name new
+pub learned : (test : List ℕ → Bool) (old new : List (List ℕ)) (attributes : List Attribute) (n i : ℕ) (a : Attribute) → n ≡ i → i < length attributes → Adds old (get_or attributes n a).name new
     → list_any test old ≡ list_any (λ b. test b.name) (take i attributes) → list_any test new ≡ list_any (λ b. test b.name) (take (i + 1) attributes)
-learned test old new attributes i a l adds is =
-    list_any-Adds test old (get_or attributes i a).name new adds
+learned test old new attributes n i a same l adds is =
+    list_any-Adds test old (get_or attributes i a).name new (subst (λ k. Adds old (get_or attributes k a).name new) same adds)
     ∙ ap (λ found. test (get_or attributes i a).name || found) is
     ∙ sym (ap (list_any (λ (b : Attribute). test b.name)) (take_more attributes i a l) ∙ list_any-push (λ (b : Attribute). test b.name) (take i attributes) (get_or attributes i a))
 

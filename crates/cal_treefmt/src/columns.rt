@@ -74,6 +74,7 @@ fn learn(names: &mut Names, context: &Context, number: usize) -> Result<(), OutO
     let Ok(number) = u32::try_from(number) else {
         return Err(OutOfMemory);
     };
-    names.learn(&context.attribute_at(AttributeNumber(number)).name)?;
+    let attribute = context.attribute_at(AttributeNumber(number));
+    names.learn(&attribute.name)?;
     Ok(())
 }

@@ -26,7 +26,9 @@ pub(crate) fn lines(alloc: Global, plan: &Plan) -> Result<Vec<Line>, OutOfMemory
         → map (shown rows) lines.items ≡ tree_lines rows) }
 {
     let mut lines = Vec::new(alloc);
-    push_rows(alloc, &mut lines, plan, &Text::new(alloc), plan.rows.first(0))?;
+    let label = Text::new(alloc);
+    let first = plan.rows.first(0);
+    push_rows(alloc, &mut lines, plan, &label, first)?;
     for place in &plan.order {
         push_node(alloc, &mut lines, plan, *place)?;
     }
@@ -48,7 +50,8 @@ fn push_node(
 {
     let number = numbered(place)?;
     let label = label(alloc, &plan.context, number)?;
-    match plan.rows.first(number.0 as usize) {
+    let first = plan.rows.first(number.0 as usize);
+    match first {
         Some(row) => push_rows(alloc, lines, plan, &label, Some(row)),
         None => push_line(lines, label),
     }
