@@ -19,7 +19,7 @@ root = record { 0 = 0 }
 
 module _ {X : Type 0} (t : Tree) (context : IsContext t) (f : X → List Entry) (xs : List X) (numbers : List NodeNumber) (at : AreAt t numbers (map f xs)) (d : X) where
   pub counted : length numbers ≡ length xs
-  counted = sym (length-map (path_at t) numbers) ∙ ap length at.paths ∙ length-map f xs
+  counted = sym (length-map numbers (path_at t)) ∙ ap length at.paths ∙ length-map xs f
 
   pub node_of : (k : ℕ) → k < length xs → f (get_or xs k d) ≡ path_at t (get_or numbers k root)
   node_of k l =

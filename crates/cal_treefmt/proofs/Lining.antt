@@ -1,5 +1,5 @@
 -- The lines of nodes and of rows.
-use Rattle.std.proofs.Common.{◌≡◌, ℕ, suc, ◌+◌, ◌-◌, ◌<◌, ◌≤◌, Bool, true, false, List, [], ◌∷◌, ◌++◌, ◌⊎◌, inl, inr, length, get_or, map, take, drop, filter, Option, None, Some, refl, sym, ap, ◌∙◌, subst, arith, append_assoc, drop-cons, if◌then◌else◌, slice_get, tt}
+use Rattle.std.proofs.Common.{◌≡◌, ℕ, suc, ◌+◌, ◌-◌, ◌<◌, ◌≤◌, Bool, true, false, List, [], ◌∷◌, ◌++◌, ◌⊎◌, inl, inr, length, get_or, map, take, drop, filter, Option, None, Some, refl, sym, ap, ◌∙◌, subst, arith, append_assoc, drop-cons, if◌then◌else◌, slice_get}
 use Rattle.std.specs.List.{flat_map}
 use Rattle.std.proofs.lemmas.Grind.{flat_map-append}
 use Rattle.std.proofs.lemmas.List.{append-nil, map-append, take_all, take_more}
@@ -9,6 +9,7 @@ use Rattle.cal_value.specs.OrderLaws.{path_exact}
 use Rattle.cal_value.specs.Values.{value_text}
 use Rattle.cal_value.specs.declared.attribute.Entry.{Entry}
 use Rattle.cal_value.specs.declared.record.Rec.{Rec}
+use Rattle.cal_value.specs.declared.variant.Variant.{Variant}
 use Rattle.cal_context.specs.Tree.{Tree, IsContext, path_at}
 use Rattle.cal_context.specs.declared.numbers.NodeNumber.{NodeNumber}
 use Rattle.cal_context.proofs.CallerLemmas.{root_path, root_within}
@@ -75,7 +76,7 @@ module _ (t : Tree) (context : IsContext t) (rows : List Rec) (chains : Chains) 
   abbrev numbers : List NodeNumber
   numbers = at.0
 
-  long : length numbers ≡ length rows
+  pub long : length numbers ≡ length rows
   long = counted t context hierarchy rows numbers at.1 no_row
 
   pub places : length chains.next.items ≡ length rows
@@ -149,3 +150,61 @@ module _ (p : Plan) (k : ℕ) (next : Option ℕ) where
       ap (λ l. map (shown rows) l ++ row_lines text (left_rows rows next)) written
       ∙ row_lines-more rows text old (record { label = copied; row = Some k }) k (left_rows rows next) whole (omega (arith, within, places_is)) (λ j. record { label = copy j; row = Some k })
       (ap (λ left. map (shown rows) old ++ row_lines text left) (sym (left-next p.context plan.context rows p.rows plan.at k next (omega (arith, within, places_is)) (follows rows plan within is))) ∙ before)
+
+-- the first place, of which it is known that it is the first in each reading of the plan
+abbrev pub Leads : Plan → ℕ → Option ℕ → Type 0
+Leads p key first = (keys : List NodeNumber) (count : ℕ) → IsChained keys count p.rows → key < count → IsNext keys 0 key first
+
+module _ (p : Plan) (n : NodeNumber) (first : Option ℕ) where
+  leads : (rows : List Rec) (plan : IsPlan p rows) → n.0 < length p.context.paths → Leads p n.0 first → IsNext plan.at.0 0 n.0 first
+  leads rows plan within is = is plan.at.0 (length p.context.paths) plan.at.2 within
+
+  pub place-first : IsPlanOf p → n.0 < length p.context.paths → Leads p n.0 first → IsPlaceOf p first
+  place-first of within is = by first (leads of.0 of.1 within is)
+    where
+      by : (o : Option ℕ) → IsNext of.1.at.0 0 n.0 o → IsPlaceOf p o
+      by None lacks = tt
+      by (Some j) head = omega (arith, head.within, of.1.at.2.places_counted)
+
+  pub first-rows : (rows : List Rec) (plan : IsPlan p rows) → n.0 < length p.context.paths → Leads p n.0 first → left_rows rows first ≡ rows_at rows (path_at p.context n)
+  first-rows rows plan within is = left-first p.context plan.context rows p.rows plan.at n first within (leads rows plan within is)
+
+-- the lines of a node, by its first row
+abbrev pub first_lines : List ℕ → List Rec → Option ℕ → List lines.Line
+first_lines text rows None = record { label = text; row = None } ∷ []
+first_lines text rows (Some k) = row_lines text (left_rows rows (Some k))
+
+pub node_lines-first : (p : Plan) (rows : List Rec) (place : ℕ) (n : NodeNumber) (first : Option ℕ) (text : List ℕ) → IsPlan p rows → place < length (nodes_in p.context) → n.0 ≡ suc place → Leads p n.0 first
+    → text ≡ label (path_at p.context n) → first_lines text rows first ≡ node_lines rows (nth_node p.context place)
+node_lines-first p rows place n first text plan within is head labelled =
+    lines_are ∙ (λ j. lines_of (labelled j) (left j))
+    ∙ ap (node_lines rows) (ap (λ (k : ℕ). path_at p.context (record { 0 = k })) is ∙ nth_is p.context place)
+  where
+    n_within : n.0 < length p.context.paths
+    n_within = omega (arith, within, is, counted_in p.context plan.context)
+
+    left : left_rows rows first ≡ rows_at rows (path_at p.context n)
+    left = first-rows p n first rows plan n_within head
+
+    by : (o : Option ℕ) → IsNext plan.at.0 0 n.0 o → first_lines text rows o ≡ lines_of text (left_rows rows o)
+    by None lacks = refl
+    by (Some k) next = lines_of-left text rows k (omega (arith, next.within, long p.context plan.context rows p.rows plan.at))
+
+    lines_are : first_lines text rows first ≡ lines_of text (left_rows rows first)
+    lines_are = by first (leads p n first rows plan n_within head)
+
+-- ---- what is written of a label, and at the start
+
+pub label-written : (empty spaces out : List ℕ) (path up : List Entry) (e : Entry) (v : Variant) → path ≡ up ++ e ∷ [] → empty ≡ [] → spaces ≡ empty ++ indent up → v ≡ e.value → out ≡ spaces ++ value_text v
+    → out ≡ label path
+label-written empty spaces out path up e v is none indented same written =
+    written
+    ∙ (λ j. (indented ∙ ap (λ front. front ++ indent up) none) j ++ value_text (same j))
+    ∙ sym (label-push up e) ∙ ap label (sym is)
+
+pub lines-start : (p : Plan) (rows : List Rec) (first : Option ℕ) (text : List ℕ) (old : List Line) (new : List lines.Line) → IsPlan p rows → Leads p 0 first → old ≡ [] → text ≡ []
+    → new ≡ map (shown rows) old ++ row_lines text (left_rows rows first) → new ≡ row_lines (label []) (rows_at rows []) ++ []
+lines-start p rows first text old new plan leads none empty is =
+    is
+    ∙ (λ j. map (shown rows) (none j) ++ row_lines (empty j) ((first-rows p (record { 0 = 0 }) first rows plan (root_within plan.context) leads ∙ ap (rows_at rows) (root_path plan.context)) j))
+    ∙ sym (append-nil (row_lines [] (rows_at rows [])))

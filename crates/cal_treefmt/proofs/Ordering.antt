@@ -131,7 +131,7 @@ All-front : (P : ℕ → Type 0) (xs : List ℕ) (x : ℕ) → All P (xs ++ x �
 All-front P xs x all = λ k d l. subst P (get_or_append_left xs (x ∷ []) d k l) (all k d (omega (arith, l, length_push xs x)))
 
 module _ (t : Tree) (context : IsContext t) (numbers : List NodeNumber) (parents : AreParents t numbers) where
-  long : length numbers ≡ length (nodes_in t)
+  pub long : length numbers ≡ length (nodes_in t)
   long = counted t context parent (nodes_in t) numbers parents.at []
 
   -- the nodes from a place on that are below a node, by the first that is its child
