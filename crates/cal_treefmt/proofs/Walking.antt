@@ -81,7 +81,7 @@ module _ (old mid new : Tree) (up : NodeNumber) (e : Entry) (a : AttributeNumber
   nodes : (seen : List (List Entry)) → old.paths ≡ [] ∷ firsts is_node seen → new.paths ≡ [] ∷ firsts is_node (seen ++ (path_at old up ++ e ∷ []) ∷ [])
   nodes seen is =
       let adds : Adds ([] ∷ firsts is_node seen) (path_at old up ++ e ∷ []) new.paths =
-          subst (λ xs. Adds xs (path_at old up ++ e ∷ []) new.paths) (first.paths ∙ is) (subst (λ x. Adds mid.paths x new.paths) path child.paths) in
+      subst (λ xs. Adds xs (path_at old up ++ e ∷ []) new.paths) (first.paths ∙ is) (subst (λ x. Adds mid.paths x new.paths) path child.paths) in
       let rest = below_root (firsts is_node seen) (path_at old up) e new.paths adds in
       rest.1 ∙ ap (λ xs. [] ∷ xs) (firsts-Adds (exact_equiv path_exact) is_path seen (path_at old up ++ e ∷ []) (firsts is_node seen) rest.0 refl rest.2)
 

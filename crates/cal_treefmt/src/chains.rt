@@ -19,11 +19,7 @@ pub(crate) struct Chains {
 
 impl Chains {
     /// The chains of these keys, each of which is less than `count`.
-    pub(crate) fn new(
-        alloc: Global,
-        keys: &[NodeNumber],
-        count: usize,
-    ) -> Result<Self, OutOfMemory>
+    pub(crate) fn new(alloc: Global, keys: &[NodeNumber], count: usize) -> Result<Self, OutOfMemory>
         requires { All (λ key. key.0 < count) keys.now }
         ensures { IfOk result (λ chains. IsChained keys.now count chains) }
     {
@@ -39,8 +35,8 @@ impl Chains {
 
     /// The first place of a key.
     pub(crate) fn first(&self, key: usize) -> Option<usize>
-        ensures { (keys : List numbers.NodeNumber) (count : ℕ) → IsChained keys count self.now → key < count
-            → IsNext keys 0 key result }
+        ensures { (keys : List numbers.NodeNumber) (count : ℕ) → IsChained keys count self.now
+            → key < count → IsNext keys 0 key result }
     {
         *self.first.as_slice().get(key)?
     }

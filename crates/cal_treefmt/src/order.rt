@@ -53,7 +53,8 @@ pub(crate) fn order(
     children: &Chains,
 ) -> Result<Vec<usize>, OutOfMemory>
     requires { AreChildren context.now children.now }
-    ensures within { IfOk result (λ places. All (λ k. k < length (nodes_in context.now)) places.items) }
+    ensures within { IfOk result (λ places.
+        All (λ k. k < length (nodes_in context.now)) places.items) }
     ensures nodes { IfOk result (λ places. map (λ k. slice_index_or (nodes_in context.now) k [])
         places.items ≡ below (nodes_in context.now) []) }
 {
