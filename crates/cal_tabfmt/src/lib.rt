@@ -6,12 +6,22 @@
 #![tactic(auto)]
 
 mod column_lines;
+mod ends;
+mod grid;
+mod held;
 mod hierarchy_cell;
 mod lines;
 mod part;
 mod path;
+mod shape;
+mod shown_text;
 mod snapshot_cells;
+mod table;
+mod table_lines;
 mod writer;
 
+pub use grid::grid_text;
 pub use lines::expand_text;
+pub use shown_text::on_line;
+pub use table::table_text;
 pub use writer::ExpandWriter;

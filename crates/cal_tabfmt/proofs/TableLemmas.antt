@@ -1,0 +1,79 @@
+-- One row more of a table, and one column more.
+use Rattle.std.proofs.Common.{◌≡◌, ◌≢◌, ℕ, zero, suc, ◌+◌, ◌<◌, Bool, true, false, ◌||◌, List, [], ◌∷◌, ◌++◌, length, get_or, take, drop, set, map, not, refl, sym, ap, ap₂, ◌∙◌, add-one, arith}
+use Rattle.std.specs.List.{list_any}
+use Rattle.std.proofs.lemmas.List.{map-append, take_more}
+use Rattle.std.proofs.lemmas.List.Folds.{list_any-append}
+use Rattle.cal_value.specs.declared.record.Rec.{Rec}
+use Rattle.cal_rowset.specs.Cells.{content}
+use Rattle.cal_rowset.specs.Filling.{is_nothing}
+use Rattle.cal_rowset.specs.declared.rowset.Column.{Column}
+use Rattle.cal_rowset.specs.Showing.{nth_column}
+use Rattle.cal_tabfmt.specs.Grid.{grid}
+use Rattle.cal_tabfmt.specs.Table.{cell_text, header_line, is_right, is_words, row_line, table_lines}
+use Rattle.cal_tabfmt.specs.Tables.{are_numbers, held}
+use Rattle.cal_tabfmt.specs.declared.held.Held.{Held}
+
+or_none : (a b : Bool) → (a || (b || false)) ≡ (a || b)
+or_none true b = refl
+or_none false true = refl
+or_none false false = refl
+
+-- what a column holds with one row more
+any_more : (p : Rec → Bool) (rows : List Rec) (row : Rec) → list_any p (rows ++ row ∷ []) ≡ (list_any p rows || p row)
+any_more p rows row = list_any-append p rows (row ∷ []) ∙ or_none (list_any p rows) (p row)
+
+pub held-push : (rows : List Rec) (row : Rec) (column : Column) (new : Held) → new.some ≡ ((held rows column).some || not (is_nothing (content row column.name))) → new.words ≡ ((held rows column).words || is_words (content row column.name))
+    → new ≡ held (rows ++ row ∷ []) column
+held-push rows row column new some words = ap₂ (λ (a b : Bool). record { some = a; words = b })
+    (some ∙ sym (any_more (λ r. not (is_nothing (content r column.name))) rows row))
+    (words ∙ sym (any_more (λ r. is_words (content r column.name)) rows row))
+
+-- the columns before a place have a row more
+abbrev pub held_before : List Rec → Rec → List Column → ℕ → List Held
+held_before rows row columns k = map (held (rows ++ row ∷ [])) (take k columns) ++ map (held rows) (drop k columns)
+
+-- and so has the one at that place
+before-set : (rows : List Rec) (row : Rec) (columns : List Column) (k : ℕ) (column : Column) (new : Held) → k < length columns → column ≡ get_or columns k column → new ≡ held (rows ++ row ∷ []) column
+    → set (held_before rows row columns k) k new ≡ held_before rows row columns (suc k)
+before-set rows row [] k column new within is same = absurd (omega (arith, within))
+before-set rows row (c ∷ columns) zero column new within is same = ap (λ (h : Held). h ∷ map (held rows) columns) (same ∙ ap (held (rows ++ row ∷ [])) is)
+before-set rows row (c ∷ columns) (suc k) column new within is same = ap (λ (rest : List Held). held (rows ++ row ∷ []) c ∷ rest) (before-set rows row columns k column new (omega (arith, within)) is same)
+
+pub held_before-set : (rows : List Rec) (row : Rec) (columns : List Column) (k : ℕ) (column : Column) (new : Held) → k < length columns → column ≡ get_or columns k column → new ≡ held (rows ++ row ∷ []) column
+    → set (held_before rows row columns k) k new ≡ held_before rows row columns (k + 1)
+held_before-set rows row columns k column new within is same = rw (add-one k) (before-set rows row columns k column new within is same)
+
+-- what is held at that place before
+pub held_before-at : (rows : List Rec) (row : Rec) (columns : List Column) (k : ℕ) (column : Column) (d : Held) → k < length columns → column ≡ get_or columns k column → get_or (held_before rows row columns k) k d ≡ held rows column
+held_before-at rows row [] k column d within is = absurd (omega (arith, within))
+held_before-at rows row (c ∷ columns) zero column d within is = ap (held rows) (sym is)
+held_before-at rows row (c ∷ columns) (suc k) column d within is = held_before-at rows row columns k column d (omega (arith, within)) is
+
+-- a line with one cell more
+pub row_line-more : (row : Rec) (columns : List Column) (k : ℕ) (line : List (List ℕ)) (text : List ℕ) → k < length columns → line ≡ row_line (take k columns) row → text ≡ cell_text row (nth_column columns k)
+    → line ++ text ∷ [] ≡ row_line (take (k + 1) columns) row
+row_line-more row columns k line text within is same =
+    ap₂ (λ (l : List (List ℕ)) (t : List ℕ). l ++ t ∷ []) is same
+    ∙ sym (map-append (cell_text row) (take k columns) (nth_column columns k ∷ []))
+    ∙ ap (map (cell_text row)) (sym (take_more columns k (record { header = []; name = [] }) within))
+
+-- a table with one row more
+pub lines-push : (columns : List Column) (rows : List Rec) (row : Rec) (lines : List (List (List ℕ))) (line : List (List ℕ)) → lines ≡ header_line columns ∷ map (row_line columns) rows → line ≡ row_line columns row
+    → lines ++ line ∷ [] ≡ header_line columns ∷ map (row_line columns) (rows ++ row ∷ [])
+lines-push columns rows row lines line is same =
+    ap₂ (λ (ls : List (List (List ℕ))) (l : List (List ℕ)). ls ++ l ∷ []) is same
+    ∙ ap (λ (rest : List (List (List ℕ))). header_line columns ∷ rest) (sym (map-append (row_line columns) rows (row ∷ [])))
+
+-- which columns are right-aligned
+pub rights_are : (columns : List Column) (rows : List Rec) → map are_numbers (map (held rows) columns) ≡ map (is_right rows) columns
+rights_are [] rows = refl
+rights_are (column ∷ columns) rows = ap (λ (rest : List Bool). is_right rows column ∷ rest) (rights_are columns rows)
+
+-- the table of some columns
+pub table_lines-some : (columns : List Column) (rows : List Rec) → length columns ≢ 0 → table_lines columns rows ≡ grid (map (is_right rows) columns) (header_line columns ∷ map (row_line columns) rows)
+table_lines-some [] rows some = absurd (some refl)
+table_lines-some (column ∷ columns) rows some = refl
+
+pub table_lines-none : (columns : List Column) (rows : List Rec) → length columns ≡ 0 → [] ≡ table_lines columns rows
+table_lines-none [] rows none = refl
+table_lines-none (column ∷ columns) rows none = absurd (omega (arith, none))

@@ -1,0 +1,11 @@
+use Rattle.std.proofs.Common.{◌∙◌, sym}
+use Rattle.cal_tabfmt.proofs.TableLemmas.{lines-push}
+use Rattle.cal_tabfmt.proofs.table.Table.add.Goals as goal
+
+pub returns : goal.returns
+returns c =
+    λ columns row rows shows counted is.
+    record {
+      lines = c.in_ok-push.ensures.ok ∙ lines-push columns rows row _ _ is.lines (c.in_ok-row_line.ensures columns row shows counted);
+      held = c.hold_row.ensures columns row rows shows is.held;
+    }

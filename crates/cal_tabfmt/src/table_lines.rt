@@ -1,0 +1,50 @@
+ghost use Rattle.std.specs.Prelude.{◌≡◌, ◌<◌, List, length, IfOk};
+ghost use Rattle.cal_value.specs.declared.record.Rec.{Rec};
+ghost use Rattle.cal_rowset.specs.Showing.{ShowsRow, nth_column};
+ghost use Rattle.cal_rowset.specs.declared.rowset.Column as columns;
+ghost use Rattle.cal_tabfmt.specs.Table.{cell_text, header_line, row_line};
+
+use crate::shown_text::on_line;
+use cal_rowset::{Column, ShownRow};
+use cal_value::{OutOfMemory, Seq, Text};
+use std::alloc::Global;
+
+/// The texts of the headers.
+pub(crate) fn header_line(alloc: Global, columns: &[Column]) -> Result<Seq<Text>, OutOfMemory>
+    ensures { IfOk result (λ line. line ≡ header_line columns.now) }
+{
+    let mut line = Seq::new(alloc);
+    for column in columns {
+        line.push(on_line(alloc, column.header.as_str())?)?;
+    }
+    Ok(line)
+}
+
+/// The texts of the cells of a row, which is shown in so many columns.
+pub(crate) fn row_line(
+    alloc: Global,
+    count: usize,
+    shown: &ShownRow,
+) -> Result<Seq<Text>, OutOfMemory>
+    ensures { IfOk result (λ line. (columns : List columns.Column) (row : Rec)
+        → ShowsRow shown.now columns row → count ≡ length columns
+        → line ≡ row_line columns row) }
+{
+    let mut line = Seq::new(alloc);
+    for place in 0..count {
+        line.push(cell_text(alloc, place, shown)?)?;
+    }
+    Ok(line)
+}
+
+/// The text of the cell in a column.
+fn cell_text(alloc: Global, place: usize, shown: &ShownRow) -> Result<Text, OutOfMemory>
+    ensures { IfOk result (λ text. (columns : List columns.Column) (row : Rec)
+        → ShowsRow shown.now columns row → place < length columns
+        → text ≡ cell_text row (nth_column columns place)) }
+{
+    match shown.cell(place) {
+        Some(cell) => on_line(alloc, cell.text.as_str()),
+        None => Ok(Text::new(alloc)),
+    }
+}
