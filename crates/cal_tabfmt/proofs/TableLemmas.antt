@@ -1,7 +1,7 @@
 -- One row more of a table, and one column more.
-use Rattle.std.proofs.Common.{◌≡◌, ◌≢◌, ℕ, zero, suc, ◌+◌, ◌<◌, Bool, true, false, ◌||◌, List, [], ◌∷◌, ◌++◌, length, get_or, take, drop, set, map, not, refl, sym, ap, ap₂, ◌∙◌, add-one, arith}
+use Rattle.std.proofs.Common.{◌≡◌, ◌≢◌, ℕ, zero, suc, ◌+◌, ◌<◌, Bool, true, false, ◌||◌, List, [], ◌∷◌, ◌++◌, length, get_or, take, drop, set, map, not, refl, sym, ap, ap₂, ◌∙◌, append-nil, add-one, drop_of_length-le, ◌≤◌, arith}
 use Rattle.std.specs.List.{list_any}
-use Rattle.std.proofs.lemmas.List.{map-append, take_more}
+use Rattle.std.proofs.lemmas.List.{map-append, take_all, take_more}
 use Rattle.std.proofs.lemmas.List.Folds.{list_any-append}
 use Rattle.cal_value.specs.declared.record.Rec.{Rec}
 use Rattle.cal_rowset.specs.Cells.{content}
@@ -10,7 +10,7 @@ use Rattle.cal_rowset.specs.declared.rowset.Column.{Column}
 use Rattle.cal_rowset.specs.Showing.{nth_column}
 use Rattle.cal_tabfmt.specs.Grid.{grid}
 use Rattle.cal_tabfmt.specs.Table.{cell_text, header_line, is_right, is_words, row_line, table_lines}
-use Rattle.cal_tabfmt.specs.Tables.{are_numbers, held}
+use Rattle.cal_tabfmt.specs.Tables.{are_numbers, held, held_before}
 use Rattle.cal_tabfmt.specs.declared.held.Held.{Held}
 
 or_none : (a b : Bool) → (a || (b || false)) ≡ (a || b)
@@ -28,26 +28,28 @@ held-push rows row column new some words = ap₂ (λ (a b : Bool). record { some
     (some ∙ sym (any_more (λ r. not (is_nothing (content r column.name))) rows row))
     (words ∙ sym (any_more (λ r. is_words (content r column.name)) rows row))
 
--- the columns before a place have a row more
-abbrev pub held_before : List Rec → Rec → List Column → ℕ → List Held
-held_before rows row columns k = map (held (rows ++ row ∷ [])) (take k columns) ++ map (held rows) (drop k columns)
-
--- and so has the one at that place
-before-set : (rows : List Rec) (row : Rec) (columns : List Column) (k : ℕ) (column : Column) (new : Held) → k < length columns → column ≡ get_or columns k column → new ≡ held (rows ++ row ∷ []) column
+-- the column at a place has a row more
+before-set : (rows : List Rec) (row : Rec) (columns : List Column) (k : ℕ) (new : Held) → k < length columns → new ≡ held (rows ++ row ∷ []) (nth_column columns k)
     → set (held_before rows row columns k) k new ≡ held_before rows row columns (suc k)
-before-set rows row [] k column new within is same = absurd (omega (arith, within))
-before-set rows row (c ∷ columns) zero column new within is same = ap (λ (h : Held). h ∷ map (held rows) columns) (same ∙ ap (held (rows ++ row ∷ [])) is)
-before-set rows row (c ∷ columns) (suc k) column new within is same = ap (λ (rest : List Held). held (rows ++ row ∷ []) c ∷ rest) (before-set rows row columns k column new (omega (arith, within)) is same)
+before-set rows row [] k new within same = absurd (omega (arith, within))
+before-set rows row (c ∷ columns) zero new within same = ap (λ (h : Held). h ∷ map (held rows) columns) same
+before-set rows row (c ∷ columns) (suc k) new within same = ap (λ (rest : List Held). held (rows ++ row ∷ []) c ∷ rest) (before-set rows row columns k new (omega (arith, within)) same)
 
-pub held_before-set : (rows : List Rec) (row : Rec) (columns : List Column) (k : ℕ) (column : Column) (new : Held) → k < length columns → column ≡ get_or columns k column → new ≡ held (rows ++ row ∷ []) column
+pub held_before-set : (rows : List Rec) (row : Rec) (columns : List Column) (k : ℕ) (new : Held) → k < length columns → new ≡ held (rows ++ row ∷ []) (nth_column columns k)
     → set (held_before rows row columns k) k new ≡ held_before rows row columns (k + 1)
-held_before-set rows row columns k column new within is same = rw (add-one k) (before-set rows row columns k column new within is same)
+held_before-set rows row columns k new within same = rw (add-one k) (before-set rows row columns k new within same)
 
 -- what is held at that place before
-pub held_before-at : (rows : List Rec) (row : Rec) (columns : List Column) (k : ℕ) (column : Column) (d : Held) → k < length columns → column ≡ get_or columns k column → get_or (held_before rows row columns k) k d ≡ held rows column
-held_before-at rows row [] k column d within is = absurd (omega (arith, within))
-held_before-at rows row (c ∷ columns) zero column d within is = ap (held rows) (sym is)
-held_before-at rows row (c ∷ columns) (suc k) column d within is = held_before-at rows row columns k column d (omega (arith, within)) is
+pub held_before-at : (rows : List Rec) (row : Rec) (columns : List Column) (k : ℕ) (d : Held) → k < length columns → get_or (held_before rows row columns k) k d ≡ held rows (nth_column columns k)
+held_before-at rows row [] k d within = absurd (omega (arith, within))
+held_before-at rows row (c ∷ columns) zero d within = refl
+held_before-at rows row (c ∷ columns) (suc k) d within = held_before-at rows row columns k d (omega (arith, within))
+
+-- after the last column each has the row
+pub held_before-all : (rows : List Rec) (row : Rec) (columns : List Column) (k : ℕ) → length columns ≤ k → held_before rows row columns k ≡ map (held (rows ++ row ∷ [])) columns
+held_before-all rows row columns k past =
+    ap₂ (λ (front rest : List Column). map (held (rows ++ row ∷ [])) front ++ map (held rows) rest) (take_all k columns past) (drop_of_length-le columns past)
+    ∙ append-nil (map (held (rows ++ row ∷ [])) columns)
 
 -- a line with one cell more
 pub row_line-more : (row : Rec) (columns : List Column) (k : ℕ) (line : List (List ℕ)) (text : List ℕ) → k < length columns → line ≡ row_line (take k columns) row → text ≡ cell_text row (nth_column columns k)

@@ -1,10 +1,10 @@
-ghost use Rattle.std.specs.Prelude.{◌≡◌, ◌∷◌, ◌++◌, ◌||◌, [], List, map, not, IfOk};
+ghost use Rattle.std.specs.Prelude.{◌≡◌, ◌+◌, ◌<◌, ◌∷◌, ◌++◌, ◌||◌, [], List, length, map, not, IfOk};
 ghost use Rattle.cal_value.specs.declared.record.Rec.{Rec};
 ghost use Rattle.cal_rowset.specs.Filling.{is_nothing};
 ghost use Rattle.cal_rowset.specs.Showing.{ShowsRow};
 ghost use Rattle.cal_rowset.specs.declared.rowset.Column as columns;
 ghost use Rattle.cal_tabfmt.specs.Table.{is_words};
-ghost use Rattle.cal_tabfmt.specs.Tables.{are_numbers, held};
+ghost use Rattle.cal_tabfmt.specs.Tables.{are_numbers, held, held_before};
 
 use cal_rowset::{Column, Content, ShownRow};
 use cal_value::OutOfMemory;
@@ -60,9 +60,22 @@ pub(crate) fn hold_row(all: &mut Vec<Held>, shown: &ShownRow)
         → all.new.items ≡ map (held (rows ++ row ∷ [])) columns }
 {
     for place in 0..all.len() {
-        if let Some(cell) = shown.cell(place) {
-            all[place] = all[place].with(cell.content);
-        }
+        hold_cell(all, place, shown);
+    }
+}
+
+/// Adds the cell of one column.
+fn hold_cell(all: &mut Vec<Held>, place: usize, shown: &ShownRow)
+    requires { place < length all.old.items }
+    ensures counted { length all.new.items ≡ length all.old.items }
+    ensures held { (columns : List columns.Column) (row : Rec) (rows : List Rec)
+        → ShowsRow shown.now columns row → place < length columns
+        → all.old.items ≡ held_before rows row columns place
+        → all.new.items ≡ held_before rows row columns (place + 1) }
+{
+    match shown.cell(place) {
+        Some(cell) => all[place] = all[place].with(cell.content),
+        None => (),
     }
 }
 

@@ -7,5 +7,5 @@ returns c =
     λ columns row rows shows counted is.
     record {
       lines = c.in_ok-push.ensures.ok ∙ lines-push columns rows row _ _ is.lines (c.in_ok-row_line.ensures columns row shows counted);
-      held = c.hold_row.ensures columns row rows shows is.held;
+      known = c.hold_row.ensures columns row rows shows is.known;
     }
