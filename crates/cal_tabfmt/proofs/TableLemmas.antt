@@ -1,5 +1,5 @@
 -- One row more of a table, and one column more.
-use Rattle.std.proofs.Common.{◌≡◌, ◌≢◌, ℕ, zero, suc, ◌+◌, ◌<◌, Bool, true, false, ◌||◌, List, [], ◌∷◌, ◌++◌, length, get_or, take, drop, set, map, not, refl, sym, ap, ap₂, ◌∙◌, append-nil, add-one, drop_of_length-le, ◌≤◌, arith}
+use Rattle.std.proofs.Common.{◌≡◌, ◌≢◌, ℕ, zero, suc, ◌+◌, ◌<◌, Bool, true, false, ◌||◌, List, [], ◌∷◌, ◌++◌, length, get_or, take, drop, set, map, not, refl, sym, ap, ap₂, ◌∙◌, append_assoc, append-nil, add-one, drop_of_length-le, ◌≤◌, arith}
 use Rattle.std.specs.List.{list_any}
 use Rattle.std.proofs.lemmas.List.{map-append, take_all, take_more}
 use Rattle.std.proofs.lemmas.List.Folds.{list_any-append}
@@ -8,7 +8,7 @@ use Rattle.cal_rowset.specs.Cells.{content}
 use Rattle.cal_rowset.specs.Filling.{is_nothing}
 use Rattle.cal_rowset.specs.declared.rowset.Column.{Column}
 use Rattle.cal_rowset.specs.Showing.{nth_column}
-use Rattle.cal_tabfmt.specs.Grid.{grid}
+use Rattle.cal_tabfmt.specs.Grid.{grid, on_line}
 use Rattle.cal_tabfmt.specs.Table.{cell_text, header_line, is_right, is_words, row_line, table_lines}
 use Rattle.cal_tabfmt.specs.Tables.{are_numbers, held, held_before}
 use Rattle.cal_tabfmt.specs.declared.held.Held.{Held}
@@ -51,13 +51,27 @@ held_before-all rows row columns k past =
     ap₂ (λ (front rest : List Column). map (held (rows ++ row ∷ [])) front ++ map (held rows) rest) (take_all k columns past) (drop_of_length-le columns past)
     ∙ append-nil (map (held (rows ++ row ∷ [])) columns)
 
+-- a line with one header more
+pub headers-more : (columns : List Column) (k : ℕ) (column : Column) (before line : List (List ℕ)) (text : List ℕ) → k < length columns → column ≡ get_or columns k column
+    → line ≡ before ++ header_line (take k columns) → text ≡ on_line column.header → line ++ text ∷ [] ≡ before ++ header_line (take (k + 1) columns)
+headers-more columns k column before line text within is so_far same =
+    let shown : Column → List ℕ = λ c. on_line c.header in
+    ap₂ (λ (l : List (List ℕ)) (t : List ℕ). l ++ t ∷ []) so_far same
+    ∙ append_assoc before (map shown (take k columns)) (shown column ∷ [])
+    ∙ ap (λ (rest : List (List ℕ)). before ++ rest)
+      (sym (map-append shown (take k columns) (column ∷ []))
+      ∙ ap (λ (c : Column). map shown (take k columns ++ c ∷ [])) is
+      ∙ ap (map shown) (sym (take_more columns k column within)))
+
 -- a line with one cell more
-pub row_line-more : (row : Rec) (columns : List Column) (k : ℕ) (line : List (List ℕ)) (text : List ℕ) → k < length columns → line ≡ row_line (take k columns) row → text ≡ cell_text row (nth_column columns k)
-    → line ++ text ∷ [] ≡ row_line (take (k + 1) columns) row
-row_line-more row columns k line text within is same =
-    ap₂ (λ (l : List (List ℕ)) (t : List ℕ). l ++ t ∷ []) is same
-    ∙ sym (map-append (cell_text row) (take k columns) (nth_column columns k ∷ []))
-    ∙ ap (map (cell_text row)) (sym (take_more columns k (record { header = []; name = [] }) within))
+pub cells-more : (row : Rec) (columns : List Column) (k : ℕ) (before line : List (List ℕ)) (text : List ℕ) → k < length columns
+    → line ≡ before ++ row_line (take k columns) row → text ≡ cell_text row (nth_column columns k) → line ++ text ∷ [] ≡ before ++ row_line (take (k + 1) columns) row
+cells-more row columns k before line text within so_far same =
+    ap₂ (λ (l : List (List ℕ)) (t : List ℕ). l ++ t ∷ []) so_far same
+    ∙ append_assoc before (row_line (take k columns) row) (cell_text row (nth_column columns k) ∷ [])
+    ∙ ap (λ (rest : List (List ℕ)). before ++ rest)
+      (sym (map-append (cell_text row) (take k columns) (nth_column columns k ∷ []))
+      ∙ ap (map (cell_text row)) (sym (take_more columns k (record { header = []; name = [] }) within)))
 
 -- a table with one row more
 pub lines-push : (columns : List Column) (rows : List Rec) (row : Rec) (lines : List (List (List ℕ))) (line : List (List ℕ)) → lines ≡ header_line columns ∷ map (row_line columns) rows → line ≡ row_line columns row

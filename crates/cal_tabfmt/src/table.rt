@@ -8,7 +8,7 @@ ghost use Rattle.cal_tabfmt.specs.Tables.{IsTable};
 
 use crate::grid::grid_text;
 use crate::held::{Held, hold_row, nothing_held, rights};
-use crate::table_lines::{header_line, row_line};
+use crate::table_lines::{push_cells, push_headers};
 use cal_rowset::{Column, Rowset, ShownRow};
 use cal_value::{OutOfMemory, Rec, Seq, Text};
 use std::alloc::Global;
@@ -51,8 +51,10 @@ impl Table {
     fn new(alloc: Global, columns: &[Column]) -> Result<Table, OutOfMemory>
         ensures { IfOk result (λ made. IsTable made columns.now []) }
     {
+        let mut headers = Seq::new(alloc);
+        push_headers(alloc, &mut headers, columns)?;
         let mut lines = Seq::new(alloc);
-        lines.push(header_line(alloc, columns)?)?;
+        lines.push(headers)?;
         Ok(Table {
             lines,
             held: nothing_held(alloc, columns)?,
@@ -65,7 +67,9 @@ impl Table {
             → ShowsRow shown.now columns row → count ≡ length columns
             → IsTable self.old columns rows → IsTable self.new columns (rows ++ row ∷ [])) }
     {
-        self.lines.push(row_line(alloc, count, shown)?)?;
+        let mut line = Seq::new(alloc);
+        push_cells(alloc, &mut line, count, shown)?;
+        self.lines.push(line)?;
         hold_row(&mut self.held, shown);
         Ok(())
     }

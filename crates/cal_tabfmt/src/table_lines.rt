@@ -1,4 +1,4 @@
-ghost use Rattle.std.specs.Prelude.{◌≡◌, ◌<◌, List, length, IfOk};
+ghost use Rattle.std.specs.Prelude.{◌≡◌, ◌<◌, ◌++◌, List, length, IfOk, OnOk};
 ghost use Rattle.cal_value.specs.declared.record.Rec.{Rec};
 ghost use Rattle.cal_rowset.specs.Showing.{ShowsRow, nth_column};
 ghost use Rattle.cal_rowset.specs.declared.rowset.Column as columns;
@@ -9,32 +9,36 @@ use cal_rowset::{Column, ShownRow};
 use cal_value::{OutOfMemory, Seq, Text};
 use std::alloc::Global;
 
-/// The texts of the headers.
-pub(crate) fn header_line(alloc: Global, columns: &[Column]) -> Result<Seq<Text>, OutOfMemory>
-    ensures { IfOk result (λ line. line ≡ header_line columns.now) }
+/// Adds the texts of the headers to a line. An `Err` may leave a part of them.
+pub fn push_headers(
+    alloc: Global,
+    line: &mut Seq<Text>,
+    columns: &[Column],
+) -> Result<(), OutOfMemory>
+    ensures { OnOk result (line.new ≡ line.old ++ header_line columns.now) }
 {
-    let mut line = Seq::new(alloc);
     for column in columns {
         line.push(on_line(alloc, column.header.as_str())?)?;
     }
-    Ok(line)
+    Ok(())
 }
 
-/// The texts of the cells of a row, which is shown in so many columns.
-pub(crate) fn row_line(
+/// Adds to a line the texts of the cells of a row, which is shown in so many columns. An `Err` may
+/// leave a part of them.
+pub fn push_cells(
     alloc: Global,
+    line: &mut Seq<Text>,
     count: usize,
     shown: &ShownRow,
-) -> Result<Seq<Text>, OutOfMemory>
-    ensures { IfOk result (λ line. (columns : List columns.Column) (row : Rec)
+) -> Result<(), OutOfMemory>
+    ensures { OnOk result ((columns : List columns.Column) (row : Rec)
         → ShowsRow shown.now columns row → count ≡ length columns
-        → line ≡ row_line columns row) }
+        → line.new ≡ line.old ++ row_line columns row) }
 {
-    let mut line = Seq::new(alloc);
     for place in 0..count {
         line.push(cell_text(alloc, place, shown)?)?;
     }
-    Ok(line)
+    Ok(())
 }
 
 /// The text of the cell in a column.
