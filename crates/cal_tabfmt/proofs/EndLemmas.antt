@@ -1,7 +1,7 @@
 -- Texts without the spaces at their ends, and a line that grows.
-use Rattle.std.proofs.Common.{◌≡◌, ◌≢◌, ℕ, zero, suc, ◌+◌, ◌-◌, ◌<◌, ◌==◌, Bool, true, false, List, [], ◌∷◌, ◌++◌, length, if◌then◌else◌, refl, sym, ap, ap₂, subst, ◌∙◌, append_assoc, append-nil, length-append, eqb-true, arith}
+use Rattle.std.proofs.Common.{◌≡◌, ◌≢◌, ℕ, zero, suc, ◌+◌, ◌-◌, ◌<◌, ◌==◌, Bool, true, false, List, [], ◌∷◌, ◌++◌, length, if◌then◌else◌, refl, sym, ap, ap₂, subst, ◌∙◌, append_assoc, append-nil, length-append, eqb-true, ne_eqb, ◌≤◌, get_or, take, arith}
 use Rattle.std.proofs.lemmas.Bool.{cond-true, cond-false}
-use Rattle.std.proofs.lemmas.List.{replicate-append-replicate, length-replicate}
+use Rattle.std.proofs.lemmas.List.{replicate-append-replicate, length-replicate, take_more}
 use Rattle.cal_tabfmt.specs.Ends.{HasLine, gap}
 use Rattle.cal_tabfmt.specs.Grid.{before_kept, placed, spaces, width, without_end}
 use Rattle.cal_tabfmt.specs.declared.shape.Shape.{Shape}
@@ -75,16 +75,41 @@ blank text none =
     let all : length text - length (without_end text) ≡ length text = omega (arith, none) in
     kept_and_spaces text ∙ ap₂ (λ (kept : List ℕ) (n : ℕ). kept ++ spaces n) (empty_is (without_end text) none) all
 
+-- a text is looked at from its end: a space
+last_of : (text : List ℕ) (end : ℕ) → 0 < end → end ≤ length text → take end text ≡ take (end - 1) text ++ get_or text (end - 1) 0 ∷ []
+last_of text end some within =
+    let back : end ≡ (end - 1) + 1 = omega (arith, some) in
+    ap (λ (n : ℕ). take n text) back ∙ take_more text (end - 1) 0 (omega (arith, some, within))
+
+pub end-space : (text : List ℕ) (end : ℕ) → 0 < end → end ≤ length text → get_or text (end - 1) 0 ≡ 32 → without_end (take end text) ≡ without_end (take (end - 1) text)
+end-space text end some within is =
+    ap without_end (last_of text end some within)
+    ∙ ap (λ (b : ℕ). without_end (take (end - 1) text ++ b ∷ [])) is
+    ∙ without_end-space (take (end - 1) text)
+
+-- another byte
+pub end-other : (text : List ℕ) (end : ℕ) → 0 < end → end ≤ length text → get_or text (end - 1) 0 ≢ 32 → without_end (take end text) ≡ take end text
+end-other text end some within other =
+    let last = last_of text end some within in
+    ap without_end last
+    ∙ without_end-other (take (end - 1) text) (get_or text (end - 1) 0) (ne_eqb _ _ other)
+    ∙ sym last
+
+-- nothing
+pub end-none : (text : List ℕ) (end : ℕ) → end ≤ 0 → without_end (take end text) ≡ take end text
+end-none text zero none = refl
+end-none text (suc end) none = absurd (omega (arith, none))
+
 -- a line is begun
 pub HasLine-start : (before : List ℕ) → HasLine before before 0 []
-HasLine-start before = record { out = sym (append-nil before); line = refl }
+HasLine-start before = record { kept = sym (append-nil before); all = refl }
 
 module _ (before out line : List ℕ) (pending : ℕ) (has : HasLine before out pending line) where
   -- spaces are added
   pub HasLine-spaces : (n sum : ℕ) → sum ≡ pending + n → HasLine before out sum (line ++ spaces n)
   HasLine-spaces n sum is = record {
-    out = has.out ∙ ap (λ (t : List ℕ). before ++ t) (sym (without_end-more line n));
-    line = ap (λ (t : List ℕ). t ++ spaces n) has.line
+    kept = has.kept ∙ ap (λ (t : List ℕ). before ++ t) (sym (without_end-more line n));
+    all = ap (λ (t : List ℕ). t ++ spaces n) has.all
         ∙ append_assoc (without_end line) (spaces pending) (spaces n)
         ∙ ap (λ (t : List ℕ). without_end line ++ t) (replicate-append-replicate pending n 32)
         ∙ ap₂ (λ (kept : List ℕ) (k : ℕ). kept ++ spaces k) (sym (without_end-more line n)) (sym is);
@@ -99,19 +124,19 @@ module _ (before out line : List ℕ) (pending : ℕ) (has : HasLine before out 
   pub HasLine-text : (text new : List ℕ) (left : ℕ) → 0 < length (without_end text) → new ≡ (out ++ spaces pending) ++ without_end text → left ≡ length text - length (without_end text)
       → HasLine before new left (line ++ text)
   HasLine-text text new left some is count = record {
-    out = is
-        ∙ ap (λ (t : List ℕ). (t ++ spaces pending) ++ without_end text) has.out
+    kept = is
+        ∙ ap (λ (t : List ℕ). (t ++ spaces pending) ++ without_end text) has.kept
         ∙ ap (λ (t : List ℕ). t ++ without_end text) (append_assoc before (without_end line) (spaces pending))
-        ∙ ap (λ (t : List ℕ). (before ++ t) ++ without_end text) (sym has.line)
+        ∙ ap (λ (t : List ℕ). (before ++ t) ++ without_end text) (sym has.all)
         ∙ append_assoc before line (without_end text)
-        ∙ ap (λ (t : List ℕ). before ++ t) (sym all);
-    line = ap (λ (t : List ℕ). line ++ t) (kept_and_spaces text)
+        ∙ ap (λ (t : List ℕ). before ++ t) (sym whole);
+    all = ap (λ (t : List ℕ). line ++ t) (kept_and_spaces text)
         ∙ sym (append_assoc line (without_end text) (spaces (length text - length (without_end text))))
-        ∙ ap₂ (λ (t : List ℕ) (n : ℕ). t ++ spaces n) (sym all) (sym count);
+        ∙ ap₂ (λ (t : List ℕ) (n : ℕ). t ++ spaces n) (sym whole) (sym count);
   }
     where
-      all : without_end (line ++ text) ≡ line ++ without_end text
-      all = without_end-text line text some
+      whole : without_end (line ++ text) ≡ line ++ without_end text
+      whole = without_end-text line text some
 
 -- a text stands at the right end of its column
 pub HasLine-right : (before out line text : List ℕ) (pending : ℕ) (shape : Shape) → shape.right ≡ true

@@ -1,12 +1,22 @@
 -- One line more, one text more, one column more.
-use Rattle.std.proofs.Common.{◌≡◌, ℕ, zero, suc, ◌+◌, ◌<◌, ◌≤◌, Bool, List, [], ◌∷◌, ◌++◌, length, get_or, take, map, max, refl, sym, ap, ap₂, ◌∙◌, append-nil, add-one, arith}
+use Rattle.std.proofs.Common.{◌≡◌, ℕ, zero, suc, ◌+◌, ◌<◌, ◌≤◌, Bool, List, [], ◌∷◌, ◌++◌, length, get_or, take, map, max, cond, nat_cmp, Ordering, refl, sym, ap, ap₂, ◌∙◌, append-nil, add-one, arith}
 use Rattle.std.specs.List.{flat_map, join_with_byte}
+use Rattle.std.specs.Ordering.{ord_max, is_lt}
+use Rattle.std.proofs.lemmas.Cmp.{by_ranked, ranked}
 use Rattle.std.proofs.lemmas.Grind.{flat_map-append}
 use Rattle.std.proofs.lemmas.List.{length-take-le, map-append, take_more}
 use Rattle.cal_rowset.proofs.Showing.{join-push}
 use Rattle.cal_tabfmt.specs.Ends.{front_of_line, gap}
 use Rattle.cal_tabfmt.specs.Grid.{grid_line, nth_text, placed, placed_texts, shape, shapes, widest, width}
 use Rattle.cal_tabfmt.specs.declared.shape.Shape.{Shape}
+
+-- what `a.max(b)` answers
+pub max_is : (a b : ℕ) → ord_max nat_cmp a b ≡ max a b
+max_is a b =
+    by_ranked (b < a) (b ≡ a) (a < b) (nat_cmp b a) (ranked b a _ refl)
+    (λ less lt. let is : a ≡ max a b = omega (arith, lt) in ap (λ (o : Ordering). cond (is_lt o) a b) less ∙ is)
+    (λ equal eq. let is : b ≡ max a b = omega (arith, eq) in ap (λ (o : Ordering). cond (is_lt o) a b) equal ∙ is)
+    (λ greater gt. let is : b ≡ max a b = omega (arith, gt) in ap (λ (o : Ordering). cond (is_lt o) a b) greater ∙ is)
 
 -- one text more
 widest-push : (texts : List (List ℕ)) (text : List ℕ) → widest (texts ++ text ∷ []) ≡ max (widest texts) (width text)
@@ -36,6 +46,14 @@ pub shapes-more : (lines : List (List (List ℕ))) (rights : List Bool) (i : ℕ
 shapes-more lines rights i within d =
     let counted : i ≡ 0 + length (take i rights) = omega (arith, length-take-le i rights (omega (arith, within))) in
     ap (shapes lines 0) (take_more rights i d within) ∙ shapes-push lines 0 (take i rights) (get_or rights i d) i counted
+
+pub shapes-next : (lines : List (List (List ℕ))) (rights : List Bool) (i : ℕ) (made : List Shape) (wide : ℕ) (right d : Bool) → i < length rights
+    → made ≡ shapes lines 0 (take i rights) → wide ≡ widest (map (λ l. nth_text l i) lines) → right ≡ get_or rights i d
+    → made ++ record { width = wide; right = right } ∷ [] ≡ shapes lines 0 (take (i + 1) rights)
+shapes-next lines rights i made wide right d within so_far is same =
+    ap₂ (λ (front : List Shape) (last : Shape). front ++ last ∷ []) so_far
+      (ap₂ (λ (w : ℕ) (r : Bool). record { width = w; right = r }) is same)
+    ∙ sym (shapes-more lines rights i within d)
 
 -- one line more
 pub lines-more : (columns : List Shape) (lines : List (List (List ℕ))) (i : ℕ) (line : List (List ℕ)) → i < length lines → line ≡ get_or lines i line

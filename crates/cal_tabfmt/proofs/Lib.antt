@@ -5,3 +5,4 @@ pub mod LinesMore
 pub mod EndLemmas
 pub mod GridLemmas
 pub mod TableLemmas
+pub mod NewlineSteps

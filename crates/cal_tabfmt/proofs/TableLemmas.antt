@@ -4,8 +4,10 @@ use Rattle.std.specs.List.{list_any}
 use Rattle.std.proofs.lemmas.List.{map-append, take_all, take_more}
 use Rattle.std.proofs.lemmas.List.Folds.{list_any-append}
 use Rattle.cal_value.specs.declared.record.Rec.{Rec}
-use Rattle.cal_rowset.specs.Cells.{content}
-use Rattle.cal_rowset.specs.Filling.{is_nothing}
+use Rattle.cal_rowset.specs.Cells.{content, shown_values}
+use Rattle.cal_rowset.specs.Filling.{Shows, is_nothing}
+use Rattle.cal_rowset.specs.declared.cell.Cell.{Cell}
+use Rattle.cal_rowset.specs.declared.cell.Content.{Content}
 use Rattle.cal_rowset.specs.declared.rowset.Column.{Column}
 use Rattle.cal_rowset.specs.Showing.{nth_column}
 use Rattle.cal_tabfmt.specs.Grid.{grid, on_line}
@@ -44,6 +46,19 @@ pub held_before-at : (rows : List Rec) (row : Rec) (columns : List Column) (k : 
 held_before-at rows row [] k d within = absurd (omega (arith, within))
 held_before-at rows row (c ∷ columns) zero d within = refl
 held_before-at rows row (c ∷ columns) (suc k) d within = held_before-at rows row columns k d (omega (arith, within))
+
+-- the cell at that place is added
+pub hold_more : (rows : List Rec) (row : Rec) (columns : List Column) (k : ℕ) (all : List Held) (old new : Held) (cell : Cell) → k < length columns → all ≡ held_before rows row columns k
+    → old ≡ get_or all k old → Shows cell (shown_values row (nth_column columns k).name)
+    → new.some ≡ (old.some || not (is_nothing cell.content)) → new.words ≡ (old.words || is_words cell.content)
+    → set all k new ≡ held_before rows row columns (k + 1)
+hold_more rows row columns k all old new cell within is read shows some words =
+    let before : old ≡ held rows (nth_column columns k) =
+        read ∙ ap (λ (hs : List Held). get_or hs k old) is ∙ held_before-at rows row columns k old within in
+    let added = held-push rows row (nth_column columns k) new
+        (some ∙ ap₂ (λ (h : Held) (in_cell : Content). h.some || not (is_nothing in_cell)) before shows.content)
+        (words ∙ ap₂ (λ (h : Held) (in_cell : Content). h.words || is_words in_cell) before shows.content) in
+    ap (λ (hs : List Held). set hs k new) is ∙ held_before-set rows row columns k new within added
 
 -- after the last column each has the row
 pub held_before-all : (rows : List Rec) (row : Rec) (columns : List Column) (k : ℕ) → length columns ≤ k → held_before rows row columns k ≡ map (held (rows ++ row ∷ [])) columns

@@ -6,8 +6,8 @@ use Rattle.cal_tabfmt.specs.declared.shape.Shape.{Shape}
 
 -- Behind what stood before, an output has a line but for the spaces at its end: these are pending.
 pub record HasLine (before out : List ℕ) (pending : ℕ) (line : List ℕ) : Type 0 where
-  pub out : out ≡ before ++ without_end line
-  pub line : line ≡ without_end line ++ spaces pending
+  pub kept : out ≡ before ++ without_end line
+  pub all : line ≡ without_end line ++ spaces pending
 
 -- what stands before the k-th text of a line
 abbrev pub gap : ℕ → List ℕ

@@ -4,12 +4,12 @@ use Rattle.cal_tabfmt.specs.Grid.{spaces, width}
 use Rattle.cal_tabfmt.proofs.EndLemmas.{HasLine-left, HasLine-right, HasLine-spaces}
 use Rattle.cal_tabfmt.proofs.grid.append_placed.Goals as goal
 
-pub returns-then-shape-right : goal.returns-then-shape-right
-returns-then-shape-right c =
+pub returns-then-shape : goal.returns-then-shape
+returns-then-shape c =
     let shape = c.args.shape in
     IfOk-weaker c.append_text.result _ _
     (λ left appended before line has.
-    HasLine-right before _ line c.args.text.now left shape c.if-shape-right.true
+    HasLine-right before _ line c.args.text.now left shape c.if-shape.true
     (appended before _ (rw c.width.ensures at (HasLine-spaces before c.args.out.now line c.args.pending has _ _ c.in_ok-behind.ensures))))
     c.append_text.ensures
 
@@ -18,6 +18,6 @@ returns c =
     let shape = c.args.shape in
     IfOk-weaker c.added-2.result _ _
     (λ sum is before line has.
-    HasLine-left before _ line c.args.text.now sum shape c.if-shape-right.false
+    HasLine-left before _ line c.args.text.now sum shape c.if-shape.false
     (rw c.width.ensures at (HasLine-spaces before _ _ _ (c.in_ok-left.ensures before line has) _ sum is)))
     c.added-2.ensures
