@@ -53,6 +53,12 @@ kept_and_spaces text =
     let left : s.0 ≡ length text - length (without_end text) = omega (arith, counted) in
     s.1 ∙ ap (λ (n : ℕ). without_end text ++ spaces n) left
 
+pub without_end-le : (text : List ℕ) → length (without_end text) ≤ length text
+without_end-le text =
+    let s = splits text in
+    let counted = ap length s.1 ∙ length-append (without_end text) (spaces s.0) in
+    omega (arith, counted)
+
 -- one byte more at a text's end
 pub without_end-space : (text : List ℕ) → without_end (text ++ 32 ∷ []) ≡ without_end text
 without_end-space text = without_end-more text 1

@@ -3,7 +3,7 @@ use Rattle.std.proofs.lemmas.Bool.{eqb-false, eqb-true}
 use Rattle.std.proofs.lemmas.Grind.{common_steps}
 use Rattle.std.proofs.lemmas.Result.{IfOk-weaker}
 use Rattle.cal_tabfmt.specs.Grid.{spaces, without_end}
-use Rattle.cal_tabfmt.proofs.EndLemmas.{HasLine-blank, HasLine-text}
+use Rattle.cal_tabfmt.proofs.EndLemmas.{HasLine-blank, HasLine-text, without_end-le}
 use Rattle.cal_tabfmt.proofs.ends.append_text.Goals as goal
 
 pub returns-then-is_empty : goal.returns-then-is_empty
@@ -25,3 +25,8 @@ returns c =
     λ before line has.
     HasLine-text before c.args.out.now line c.args.pending has text _ _ many new
     (grind (arith, common_steps, ap length kept))
+
+pub overflow_sub-result : goal.overflow_sub-result
+overflow_sub-result c =
+    let kept = c.without_end-kept.ensures ∙ ap without_end c.as_str.ensures in
+    omega (arith, c.len-2.ensures, ap length kept, without_end-le c.args.text.now)

@@ -10,7 +10,7 @@ returns-in-Some c =
     let read = c.in-Some.ensures.lookup in
     IfOk-weaker c.append_behind_gap.result _ _
     (λ left appended before texts within is has.
-    rw (front-more shapes texts c.args.place c.in-Some.shape.now c.args.text.now read.0 within read.1 is)
+    rw (front-more shapes texts c.args.place c.in-Some.shape.now c.args.text.now read.3.0 within read.1 is)
     (appended before (front_of_line shapes texts c.args.place) has))
     c.append_behind_gap.ensures
 
@@ -18,4 +18,4 @@ pub returns-in-None : goal.returns-in-None
 returns-in-None c =
     let shapes = c.args.shapes.now in
     λ before texts within is has.
-    rw (front-past shapes texts c.args.place c.in-None.ensures.lookup) has
+    rw (front-past shapes texts c.args.place c.in-None.ensures.lookup.3) has

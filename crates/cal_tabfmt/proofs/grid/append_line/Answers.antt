@@ -18,5 +18,5 @@ returns c =
     let texts = c.args.texts.now in
     let has = rw (take_all c.loop-place.place texts c.loop-place-test.false) at c.loop-place.invariant in
     on_ok_weaker c.push_str.result
-    (λ pushed. pushed ∙ ap (λ (t : List ℕ). t ++ 10 ∷ []) has.out ∙ append_assoc c.args.out.now _ (10 ∷ []))
+    (λ pushed. pushed ∙ ap (λ (t : List ℕ). t ++ 10 ∷ []) has.kept ∙ append_assoc c.args.out.now _ (10 ∷ []))
     c.push_str.ensures.ok
