@@ -48,8 +48,8 @@ pub kept_and_spaces : (text : List ℕ) → text ≡ without_end text ++ spaces 
 kept_and_spaces text =
     let s = splits text in
     let counted : length text ≡ length (without_end text) + s.0 =
-        ap length s.1 ∙ length-append (without_end text) (spaces s.0)
-        ∙ ap (λ (n : ℕ). length (without_end text) + n) (length-replicate s.0 32) in
+    ap length s.1 ∙ length-append (without_end text) (spaces s.0)
+    ∙ ap (λ (n : ℕ). length (without_end text) + n) (length-replicate s.0 32) in
     let left : s.0 ≡ length text - length (without_end text) = omega (arith, counted) in
     s.1 ∙ ap (λ (n : ℕ). without_end text ++ spaces n) left
 

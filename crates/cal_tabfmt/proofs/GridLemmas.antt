@@ -52,7 +52,7 @@ pub shapes-next : (lines : List (List (List ℕ))) (rights : List Bool) (i : ℕ
     → made ++ record { width = wide; right = right } ∷ [] ≡ shapes lines 0 (take (i + 1) rights)
 shapes-next lines rights i made wide right d within so_far is same =
     ap₂ (λ (front : List Shape) (last : Shape). front ++ last ∷ []) so_far
-      (ap₂ (λ (w : ℕ) (r : Bool). record { width = w; right = r }) is same)
+    (ap₂ (λ (w : ℕ) (r : Bool). record { width = w; right = r }) is same)
     ∙ sym (shapes-more lines rights i within d)
 
 -- one line more

@@ -1,5 +1,5 @@
 -- One row more of a table, and one column more.
-use Rattle.std.proofs.Common.{◌≡◌, ◌≢◌, ℕ, zero, suc, ◌+◌, ◌<◌, Bool, true, false, ◌||◌, List, [], ◌∷◌, ◌++◌, length, get_or, take, drop, set, map, not, refl, sym, ap, ap₂, ◌∙◌, append_assoc, append-nil, add-one, drop_of_length-le, ◌≤◌, arith}
+use Rattle.std.proofs.Common.{◌≡◌, ◌≢◌, ℕ, zero, suc, ◌+◌, ◌<◌, Bool, true, false, ◌||◌, List, [], ◌∷◌, ◌++◌, length, get_or, take, set, map, not, refl, sym, ap, ap₂, ◌∙◌, append_assoc, append-nil, add-one, drop_of_length-le, ◌≤◌, arith}
 use Rattle.std.specs.List.{list_any}
 use Rattle.std.proofs.lemmas.List.{map-append, take_all, take_more}
 use Rattle.std.proofs.lemmas.List.Folds.{list_any-append}
@@ -54,10 +54,10 @@ pub hold_more : (rows : List Rec) (row : Rec) (columns : List Column) (k : ℕ) 
     → set all k new ≡ held_before rows row columns (k + 1)
 hold_more rows row columns k all old new cell within is read shows some words =
     let before : old ≡ held rows (nth_column columns k) =
-        read ∙ ap (λ (hs : List Held). get_or hs k old) is ∙ held_before-at rows row columns k old within in
+    read ∙ ap (λ (hs : List Held). get_or hs k old) is ∙ held_before-at rows row columns k old within in
     let added = held-push rows row (nth_column columns k) new
-        (some ∙ ap₂ (λ (h : Held) (in_cell : Content). h.some || not (is_nothing in_cell)) before shows.content)
-        (words ∙ ap₂ (λ (h : Held) (in_cell : Content). h.words || is_words in_cell) before shows.content) in
+    (some ∙ ap₂ (λ (h : Held) (in_cell : Content). h.some || not (is_nothing in_cell)) before shows.content)
+    (words ∙ ap₂ (λ (h : Held) (in_cell : Content). h.words || is_words in_cell) before shows.content) in
     ap (λ (hs : List Held). set hs k new) is ∙ held_before-set rows row columns k new within added
 
 -- after the last column each has the row
@@ -74,9 +74,9 @@ headers-more columns k column before line text within is so_far same =
     ap₂ (λ (l : List (List ℕ)) (t : List ℕ). l ++ t ∷ []) so_far same
     ∙ append_assoc before (map shown (take k columns)) (shown column ∷ [])
     ∙ ap (λ (rest : List (List ℕ)). before ++ rest)
-      (sym (map-append shown (take k columns) (column ∷ []))
-      ∙ ap (λ (c : Column). map shown (take k columns ++ c ∷ [])) is
-      ∙ ap (map shown) (sym (take_more columns k column within)))
+    (sym (map-append shown (take k columns) (column ∷ []))
+    ∙ ap (λ (c : Column). map shown (take k columns ++ c ∷ [])) is
+    ∙ ap (map shown) (sym (take_more columns k column within)))
 
 -- a line with one cell more
 pub cells-more : (row : Rec) (columns : List Column) (k : ℕ) (before line : List (List ℕ)) (text : List ℕ) → k < length columns
@@ -85,8 +85,8 @@ cells-more row columns k before line text within so_far same =
     ap₂ (λ (l : List (List ℕ)) (t : List ℕ). l ++ t ∷ []) so_far same
     ∙ append_assoc before (row_line (take k columns) row) (cell_text row (nth_column columns k) ∷ [])
     ∙ ap (λ (rest : List (List ℕ)). before ++ rest)
-      (sym (map-append (cell_text row) (take k columns) (nth_column columns k ∷ []))
-      ∙ ap (map (cell_text row)) (sym (take_more columns k (record { header = []; name = [] }) within)))
+    (sym (map-append (cell_text row) (take k columns) (nth_column columns k ∷ []))
+    ∙ ap (map (cell_text row)) (sym (take_more columns k (record { header = []; name = [] }) within)))
 
 -- a table with one row more
 pub lines-push : (columns : List Column) (rows : List Rec) (row : Rec) (lines : List (List (List ℕ))) (line : List (List ℕ)) → lines ≡ header_line columns ∷ map (row_line columns) rows → line ≡ row_line columns row

@@ -1,5 +1,5 @@
 -- Lines of texts in columns, which the table and the tree share (Giltmoth's layouts).
-use Rattle.std.specs.Prelude.{ℕ, zero, suc, ◌-◌, ◌==◌, Bool, List, [], ◌∷◌, ◌++◌, map, max, replicate}
+use Rattle.std.specs.Prelude.{ℕ, suc, ◌-◌, ◌==◌, Bool, List, [], ◌∷◌, ◌++◌, map, max, replicate}
 use Rattle.std.specs.Prelude.{slice_index_or, if◌then◌else◌}
 use Rattle.std.specs.List.{count_by, flat_map, join_with_byte}
 use Rattle.std.specs.Fmt.{is_char_start}

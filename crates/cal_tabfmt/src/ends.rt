@@ -6,11 +6,7 @@ use cal_value::{OutOfMemory, Text};
 
 /// Appends a text to a line. Spaces at its end stay pending, and are written before what follows,
 /// so that those at the line's end cost nothing.
-pub(crate) fn append_text(
-    out: &mut Text,
-    pending: usize,
-    text: &Text,
-) -> Result<usize, OutOfMemory>
+pub(crate) fn append_text(out: &mut Text, pending: usize, text: &Text) -> Result<usize, OutOfMemory>
     ensures { IfOk result (λ left. (before line : List ℕ) → HasLine before out.old pending line
         → HasLine before out.new left (line ++ text.now)) }
 {

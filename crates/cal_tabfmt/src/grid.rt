@@ -10,11 +10,7 @@ use std::alloc::Global;
 
 /// Lines of texts in columns, of which each is right-aligned or left-aligned and as wide as its
 /// widest text. The texts hold no newline. It takes time in the texts and in what is written.
-pub fn grid_text(
-    alloc: Global,
-    rights: &[bool],
-    lines: &[Seq<Text>],
-) -> Result<Text, OutOfMemory>
+pub fn grid_text(alloc: Global, rights: &[bool], lines: &[Seq<Text>]) -> Result<Text, OutOfMemory>
     ensures { IfOk result (λ text. text ≡ grid rights.now lines.now) }
 {
     let shapes = shapes(alloc, rights, lines)?;

@@ -37,10 +37,7 @@ impl Held {
 }
 
 /// What the columns hold without a row.
-pub(crate) fn nothing_held(
-    alloc: Global,
-    columns: &[Column],
-) -> Result<Vec<Held>, OutOfMemory>
+pub(crate) fn nothing_held(alloc: Global, columns: &[Column]) -> Result<Vec<Held>, OutOfMemory>
     ensures { IfOk result (λ none. none.items ≡ map (held []) columns.now) }
 {
     let mut none = Vec::new(alloc);

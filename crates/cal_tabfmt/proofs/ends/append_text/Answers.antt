@@ -1,8 +1,8 @@
-use Rattle.std.proofs.Common.{ℕ, List, ◌++◌, ◌+◌, ◌-◌, ◌<◌, ◌≡◌, length, ap, ap₂, sym, ◌∙◌, arith}
+use Rattle.std.proofs.Common.{ℕ, List, ◌++◌, ◌+◌, ◌<◌, ◌≡◌, length, ap, ap₂, sym, ◌∙◌, arith}
 use Rattle.std.proofs.lemmas.Bool.{eqb-false, eqb-true}
 use Rattle.std.proofs.lemmas.Grind.{common_steps}
 use Rattle.std.proofs.lemmas.Result.{IfOk-weaker}
-use Rattle.cal_tabfmt.specs.Grid.{spaces, without_end}
+use Rattle.cal_tabfmt.specs.Grid.{without_end}
 use Rattle.cal_tabfmt.proofs.EndLemmas.{HasLine-blank, HasLine-text, without_end-le}
 use Rattle.cal_tabfmt.proofs.ends.append_text.Goals as goal
 

@@ -1,4 +1,3 @@
-use Rattle.std.proofs.Common.{arith}
 use Rattle.std.proofs.lemmas.Result.{IfOk-weaker}
 use Rattle.cal_tabfmt.specs.Ends.{front_of_line}
 use Rattle.cal_tabfmt.proofs.GridLemmas.{front-more, front-past}

@@ -1,8 +1,6 @@
 use Rattle.std.proofs.Common.{ℕ, List, [], ◌∷◌, ◌++◌, ap, ◌∙◌, append_assoc}
 use Rattle.std.proofs.lemmas.List.{take_all}
 use Rattle.std.proofs.lemmas.Result.{on_ok_weaker}
-use Rattle.cal_tabfmt.specs.Ends.{front_of_line}
-use Rattle.cal_tabfmt.specs.Grid.{without_end}
 use Rattle.cal_tabfmt.proofs.EndLemmas.{HasLine-start}
 use Rattle.cal_tabfmt.proofs.grid.append_line.Goals as goal
 

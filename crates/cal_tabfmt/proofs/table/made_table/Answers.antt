@@ -12,8 +12,8 @@ loop-row-preserved c =
     let row = c.row-item.result in
     let shows = c.in_ok-fill.ensures c.args.columns.now kept.shown in
     let more =
-        ap (λ (r : Rec). take place rows ++ r ∷ []) c.row-item.is
-        ∙ sym (take_more rows place row c.loop-row-test.true) in
+    ap (λ (r : Rec). take place rows ++ r ∷ []) c.row-item.is
+    ∙ sym (take_more rows place row c.loop-row-test.true) in
     record {
       made = subst (λ (rs : List Rec). IsTable c.add.new.self c.args.columns.now rs) more
           (c.in_ok-add.ensures c.args.columns.now row (take place rows) shows refl kept.made);

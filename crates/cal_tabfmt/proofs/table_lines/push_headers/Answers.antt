@@ -1,4 +1,4 @@
-use Rattle.std.proofs.Common.{◌∙◌, sym}
+use Rattle.std.proofs.Common.{◌∙◌}
 use Rattle.cal_tabfmt.proofs.TableLemmas.{headers-more}
 use Rattle.cal_tabfmt.proofs.table_lines.push_headers.Goals as goal
 

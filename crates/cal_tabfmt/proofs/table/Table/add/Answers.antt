@@ -1,4 +1,4 @@
-use Rattle.std.proofs.Common.{◌∙◌, sym}
+use Rattle.std.proofs.Common.{◌∙◌}
 use Rattle.cal_tabfmt.proofs.TableLemmas.{lines-push}
 use Rattle.cal_tabfmt.proofs.table.Table.add.Goals as goal
 

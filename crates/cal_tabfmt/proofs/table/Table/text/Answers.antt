@@ -1,4 +1,4 @@
-use Rattle.std.proofs.Common.{Bool, List, map, ap, ap₂, ◌∙◌}
+use Rattle.std.proofs.Common.{List, map, ap, ap₂, ◌∙◌}
 use Rattle.std.proofs.lemmas.Result.{IfOk-weaker}
 use Rattle.cal_tabfmt.specs.Grid.{grid}
 use Rattle.cal_tabfmt.specs.Tables.{are_numbers}
@@ -11,9 +11,9 @@ returns c =
     IfOk-weaker c.grid_text.result _ _
     (λ text is columns rows table.
     let rights =
-        c.deref-2.ensures.value
-        ∙ c.in_ok-rights.ensures
-        ∙ ap (λ (all : List Held). map are_numbers all) (c.deref.ensures.value ∙ table.known)
-        ∙ rights_are columns rows in
+    c.deref-2.ensures.value
+    ∙ c.in_ok-rights.ensures
+    ∙ ap (λ (all : List Held). map are_numbers all) (c.deref.ensures.value ∙ table.known)
+    ∙ rights_are columns rows in
     is ∙ ap₂ grid rights (c.as_slice.ensures ∙ table.lines))
     c.grid_text.ensures
