@@ -5,3 +5,4 @@ pub mod Walks
 pub mod Orders
 pub mod Plans
 pub mod Columns
+pub mod Tree

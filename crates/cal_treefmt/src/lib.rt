@@ -11,3 +11,7 @@ mod lines;
 mod nodes;
 mod order;
 mod plan;
+mod texts;
+mod tree;
+
+pub use tree::tree_text;
