@@ -1,5 +1,5 @@
 -- The texts of all lines, and the whole.
-use Rattle.std.proofs.Common.{◌≡◌, ℕ, ◌+◌, ◌<◌, Bool, List, [], ◌∷◌, ◌++◌, length, get_or, map, take, refl, sym, ap, ◌∙◌}
+use Rattle.std.proofs.Common.{◌≡◌, ℕ, ◌+◌, ◌<◌, Bool, List, [], ◌∷◌, ◌++◌, length, get_or, map, take, refl, sym, ap, ap₂, ◌∙◌}
 use Rattle.std.proofs.lemmas.List.{map-append, take_more}
 use Rattle.cal_value.specs.declared.record.Rec.{Rec}
 use Rattle.cal_rowset.specs.declared.rowset.Column.{Column}
@@ -22,13 +22,18 @@ map-shown : (rows : List Rec) (columns : List Column) (all : List Line) → map 
 map-shown rows columns [] = refl
 map-shown rows columns (line ∷ all) = ap (λ rest. line_texts columns (shown rows line) ∷ rest) (map-shown rows columns all)
 
-pub tree-written : (rows : List Rec) (columns beside : List Column) (all : List Line) (aligned : List Bool) (texts : List (List (List ℕ))) (text : List ℕ) → beside ≡ columns_beside rows columns
-    → map (shown rows) all ≡ tree_lines rows → texts ≡ header_texts beside ∷ map (λ line. line_texts beside (shown rows line)) all → aligned ≡ rights beside → text ≡ grid aligned texts
-    → text ≡ tree_of (columns_beside rows columns) rows
-tree-written rows columns beside all aligned texts text beside_is lines_are texts_are aligned_is is =
-    is ∙ (λ j. grid (aligned_is j) (texts_are j))
-    ∙ ap (λ rest. grid (rights beside) (header_texts beside ∷ rest)) (map-shown rows beside all ∙ ap (map (line_texts beside)) lines_are)
-    ∙ ap (λ (shown_columns : List Column). tree_of shown_columns rows) beside_is
+module _ (rows : List Rec) (columns beside : List Column) (all : List Line) (aligned : List Bool) (texts : List (List (List ℕ))) where
+  -- the whole, over what is lent of each list
+  pub tree-written : (lent again : List Column) (lent_lines : List Line) (lent_aligned : List Bool) (lent_texts : List (List (List ℕ))) (text : List ℕ)
+      → lent ≡ beside → lent_lines ≡ all → again ≡ beside → lent_aligned ≡ aligned → lent_texts ≡ texts
+      → beside ≡ columns_beside rows columns → map (shown rows) all ≡ tree_lines rows → texts ≡ header_texts lent ∷ map (λ line. line_texts lent (shown rows line)) lent_lines
+      → aligned ≡ rights again → text ≡ grid lent_aligned lent_texts → text ≡ tree_of (columns_beside rows columns) rows
+  tree-written lent again lent_lines lent_aligned lent_texts text e1 e2 e3 e4 e5 beside_is lines_are texts_are aligned_is is =
+      is
+      ∙ ap₂ grid (e4 ∙ aligned_is ∙ ap rights e3)
+      (e5 ∙ texts_are ∙ (λ j. header_texts (e1 j) ∷ map (λ line. line_texts (e1 j) (shown rows line)) (e2 j)))
+      ∙ ap (λ rest. grid (rights beside) (header_texts beside ∷ rest)) (map-shown rows beside all ∙ ap (map (line_texts beside)) lines_are)
+      ∙ ap (λ (shown_columns : List Column). tree_of shown_columns rows) beside_is
 
 -- a label, and what stands beside it
 pub line-written : (empty one all beside : List (List ℕ)) (shown text label : List ℕ) → empty ≡ [] → one ≡ empty ++ shown ∷ [] → shown ≡ on_line text → text ≡ label → all ≡ one ++ beside → all ≡ on_line label ∷ beside
