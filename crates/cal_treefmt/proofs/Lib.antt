@@ -5,4 +5,4 @@ pub mod Keyed
 pub mod Ordering
 pub mod Naming
 pub mod Lining
-pub mod Texts
+pub mod Writing

@@ -1,4 +1,4 @@
-use Rattle.cal_treefmt.proofs.Texts.{line-written}
+use Rattle.cal_treefmt.proofs.Writing.{line-written}
 use Rattle.cal_treefmt.proofs.texts.line_texts.Goals as goal
 
 pub returns-clause-texts : goal.returns-clause-texts

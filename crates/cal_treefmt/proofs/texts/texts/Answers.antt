@@ -1,7 +1,7 @@
 use Rattle.std.proofs.Common.{◌∷◌, ◌++◌, [], ap, ◌∙◌}
 use Rattle.cal_treefmt.specs.Plans.{shown}
 use Rattle.cal_treefmt.specs.Tree.{header_texts, line_texts}
-use Rattle.cal_treefmt.proofs.Texts.{mapped-more}
+use Rattle.cal_treefmt.proofs.Writing.{mapped-more}
 use Rattle.cal_treefmt.proofs.texts.texts.Goals as goal
 
 pub loop-line-preserved : goal.loop-line-preserved

@@ -1,4 +1,4 @@
-use Rattle.cal_treefmt.proofs.Texts.{tree-written}
+use Rattle.cal_treefmt.proofs.Writing.{tree-written}
 use Rattle.cal_treefmt.proofs.tree.laid_out.Goals as goal
 
 pub returns : goal.returns
