@@ -5,4 +5,5 @@ pub mod Keyed
 pub mod Ordering
 pub mod Naming
 pub mod Lining
+pub mod Blanks
 pub mod Writing

@@ -3,4 +3,4 @@ use Rattle.cal_treefmt.specs.Tree.{rights}
 use Rattle.cal_treefmt.proofs.tree.rights.Given as goal
 
 abbrev pub invariant-loop-column : goal.invariant-loop-column
-invariant-loop-column l = l.rights.items ≡ rights (take l.column-index l.columns)
+invariant-loop-column l = l.rights.items ≡ rights (take l._column-index l.columns)
