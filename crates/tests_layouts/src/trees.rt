@@ -5,6 +5,30 @@ use std::test::Fail;
 /// Rows, columns as headers and names, and the tree.
 type Case<'a> = (&'a [Row<'a>], &'a [(&'a str, &'a str)], &'a str);
 
+// the times of a profile: one without a hierarchy, and one at each node
+const PROFILE: [Row<'_>; 4] = [
+    (&[], &[("t", 65, Value::Int(0)), ("i", 65, Value::Int(288))]),
+    (
+        &[&[("function", 276, Value::Text("main"))]],
+        &[("t", 65, Value::Int(48)), ("i", 65, Value::Int(288))],
+    ),
+    (
+        &[&[
+            ("function", 276, Value::Text("main")),
+            ("loop", 276, Value::Text("steps")),
+        ]],
+        &[("t", 65, Value::Int(40)), ("i", 65, Value::Int(240))],
+    ),
+    (
+        &[&[
+            ("function", 276, Value::Text("main")),
+            ("loop", 276, Value::Text("steps")),
+            ("function", 276, Value::Text("solve")),
+        ]],
+        &[("t", 65, Value::Int(200)), ("i", 65, Value::Int(200))],
+    ),
+];
+
 // a row without a hierarchy, one at an inner node that comes twice, children without a row of their
 // own node, and equal texts of two attributes
 const NODES: [Row<'_>; 6] = [
@@ -40,7 +64,13 @@ const NODES: [Row<'_>; 6] = [
     ),
 ];
 
-const CASES: [Case<'_>; 3] = [
+const CASES: [Case<'_>; 4] = [
+    (
+        &PROFILE,
+        &[("path", "path"), ("t", "t"), ("i", "i")],
+        "Path        t   i\n            0 288\nmain       48 288\n  steps    40 240\n    \
+         solve 200 200\n",
+    ),
     (&[], &[("path", "path"), ("t\n", "t"), ("u", "u")], "Path t\\n u\n"),
     (
         &NODES,
