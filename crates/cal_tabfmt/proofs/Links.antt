@@ -1,12 +1,12 @@
 -- What is known of a context's attributes, with one more.
-use Rattle.std.proofs.Common.{◌≡◌, ℕ, ◌<◌, ◌≤◌, List, [], ◌∷◌, ◌++◌, ◌⊎◌, inl, inr, length, get_or, Some, slice_get, refl, sym, ap, ◌∙◌, subst, arith}
+use Rattle.std.proofs.Common.{◌≡◌, ℕ, ◌<◌, ◌≤◌, List, [], ◌∷◌, ◌++◌, ◌⊎◌, inl, inr, length, get_or, Some, slice_get, sym, ap, ◌∙◌, arith}
 use Rattle.std.proofs.lemmas.Bool.{cases_lt}
 use Rattle.std.proofs.lemmas.List.{get_or_append_left, get_or_push, length_push}
 use Rattle.cal_context.specs.Lists.{Interns}
 use Rattle.cal_context.specs.Tree.{Tree, attribute_at}
 use Rattle.cal_context.specs.declared.numbers.AttributeNumber.{AttributeNumber}
 use Rattle.cal_context.proofs.ListLemmas.{IsFront-Adds, slice_get-IsFront}
-use Rattle.cal_tabfmt.specs.Snapshots.{KnowsAll, KnowsPlaces}
+use Rattle.cal_tabfmt.specs.Snapshots.{KnowsPlaces}
 
 pub KnowsPlaces-push : (t : Tree) (names new : List (List ℕ)) (places : List ℕ) (place : ℕ) (number : AttributeNumber) → KnowsPlaces t names places → length places ≡ number.0 → number.0 < length t.attributes
     → Interns names (attribute_at t number).name new place → KnowsPlaces t new (places ++ place ∷ [])

@@ -3,12 +3,11 @@ use Rattle.std.proofs.Common.{◌≡◌, ℕ, Bool, true, false, List, [], ◌�
 use Rattle.std.specs.Prelude.{option_map, option_to_list}
 use Rattle.std.specs.List.{join_with_byte}
 use Rattle.std.proofs.lemmas.List.{append-nil}
-use Rattle.cal_line.specs.Escapes.{escaped}
 use Rattle.cal_value.specs.declared.variant.Variant.{Variant}
 use Rattle.cal_rowset.specs.Cells.{cell_of, joined_texts}
 use Rattle.cal_rowset.specs.Filling.{Shows, is_nothing}
 use Rattle.cal_rowset.specs.declared.cell.Cell.{Cell}
-use Rattle.cal_rowset.proofs.Showing.{Shows-nothing, some_is_something, join-push}
+use Rattle.cal_rowset.proofs.Showing.{some_is_something, join-push}
 use Rattle.cal_tabfmt.specs.Expand.{part}
 use Rattle.cal_tabfmt.specs.Parts.{HasParts, no_part}
 

@@ -1,5 +1,9 @@
+pub mod Ends
 pub mod Expand
+pub mod Grid
 pub mod Parts
 pub mod Snapshots
+pub mod Table
+pub mod Tables
 pub mod Writer
 pub mod WriterGrows

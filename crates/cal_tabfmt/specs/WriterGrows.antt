@@ -1,11 +1,11 @@
-use Rattle.std.specs.Prelude.{ℕ, ◌<◌, List, length}
+use Rattle.std.specs.Prelude.{ℕ, List}
 use Rattle.std.proofs.Common.{◌∙◌, ap, sym, arith, Some}
 use Rattle.cal_context.specs.Tree.{Tree, Grows}
-use Rattle.cal_context.proofs.CallerLemmas.{attribute_at-Grows, within_attributes}
+use Rattle.cal_context.proofs.CallerLemmas.{attribute_at-Grows}
 use Rattle.cal_context.proofs.ListLemmas.{length-IsFront}
 use Rattle.cal_value.specs.declared.attribute.Attribute.{Attribute}
 use Rattle.cal_value.specs.declared.record.Rec.{Rec}
-use Rattle.cal_tabfmt.specs.Snapshots.{AreReady, KnowsPlaces}
+use Rattle.cal_tabfmt.specs.Snapshots.{KnowsPlaces}
 use Rattle.cal_tabfmt.specs.Writer.{HasTaken}
 use Rattle.cal_tabfmt.specs.declared.writer.ExpandWriter.{ExpandWriter}
 

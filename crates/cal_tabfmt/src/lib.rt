@@ -1,17 +1,29 @@
-//! The plain lines of an answer (`expand`).
+//! The plain lines and the table of an answer, and lines of texts in columns.
 //!
-//! `expand_text` gives exactly the layout of `specs/`. `ExpandWriter` takes snapshots over a context,
-//! and its text is the plain lines of the records that they mean; it keeps no record, and a record
-//! costs its entries. Nothing is promised of time, nor of a writer that ran out of memory.
+//! `expand_text` and `table_text` give exactly the layouts of `specs/`, and `grid_text` lines in
+//! columns, which trees have too. `ExpandWriter` takes snapshots over a context, and its text is the
+//! plain lines of the records that they mean; it keeps no record, and a record costs its entries.
+//! Nothing is promised of time, nor of a writer that ran out of memory.
 #![tactic(auto)]
 
 mod column_lines;
+mod ends;
+mod grid;
+mod held;
 mod hierarchy_cell;
 mod lines;
 mod part;
 mod path;
+mod shape;
+mod shown_text;
 mod snapshot_cells;
+mod table;
+mod table_lines;
 mod writer;
 
+pub use grid::grid_text;
 pub use lines::expand_text;
+pub use shown_text::on_line;
+pub use table::table_text;
+pub use table_lines::{push_cells, push_headers};
 pub use writer::ExpandWriter;

@@ -1,4 +1,4 @@
-use Rattle.std.proofs.Common.{sym, ap, ◌∙◌}
+use Rattle.std.proofs.Common.{sym, ◌∙◌}
 use Rattle.cal_line.specs.Escapes.{escaped}
 use Rattle.cal_tabfmt.proofs.PartLemmas.{HasParts-absent, HasParts-part, part_appended}
 use Rattle.cal_tabfmt.proofs.part.append_part.Goals as goal

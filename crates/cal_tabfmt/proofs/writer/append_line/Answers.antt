@@ -1,10 +1,9 @@
-use Rattle.std.proofs.Common.{sym, ◌∙◌, get_or, subst}
+use Rattle.std.proofs.Common.{get_or}
 use Rattle.std.proofs.lemmas.List.{take_all, take_more}
 use Rattle.std.proofs.lemmas.Result.{on_ok_weaker}
 use Rattle.cal_context.specs.Snapshots.{meaning}
 use Rattle.cal_rowset.specs.Filling.{names, used}
-use Rattle.cal_tabfmt.specs.Parts.{HasParts}
-use Rattle.cal_tabfmt.proofs.PlaceLemmas.{line_written, parts_at, parts_at-push}
+use Rattle.cal_tabfmt.proofs.PlaceLemmas.{line_written, parts_at-push}
 use Rattle.cal_tabfmt.proofs.writer.append_line.Goals as goal
 
 pub loop-place-preserved : goal.loop-place-preserved

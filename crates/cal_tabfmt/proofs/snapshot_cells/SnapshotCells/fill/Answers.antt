@@ -1,4 +1,4 @@
-use Rattle.std.proofs.Common.{◌∙◌, sym, ap, []}
+use Rattle.std.proofs.Common.{[]}
 use Rattle.std.proofs.lemmas.Result.{on_ok_weaker}
 use Rattle.cal_tabfmt.proofs.snapshot_cells.SnapshotCells.fill.Goals as goal
 

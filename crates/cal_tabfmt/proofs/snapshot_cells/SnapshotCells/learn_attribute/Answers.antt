@@ -1,4 +1,4 @@
-use Rattle.std.proofs.Common.{◌∙◌, sym, ap, arith}
+use Rattle.std.proofs.Common.{arith}
 use Rattle.cal_tabfmt.proofs.Links.{KnowsPlaces-push}
 use Rattle.cal_tabfmt.proofs.snapshot_cells.SnapshotCells.learn_attribute.Goals as goal
 

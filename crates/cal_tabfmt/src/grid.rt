@@ -1,0 +1,89 @@
+ghost use Rattle.std.specs.Prelude.{◌≡◌, ◌+◌, ◌<◌, ◌++◌, List, ℕ, length, slice_index_or};
+ghost use Rattle.std.specs.Prelude.{IfOk, OnOk};
+ghost use Rattle.cal_tabfmt.specs.Ends.{HasLine, front_of_line, gap};
+ghost use Rattle.cal_tabfmt.specs.Grid.{grid, grid_line, placed};
+
+use crate::ends::{added, append_text};
+use crate::shape::{Shape, shapes, width};
+use cal_value::{OutOfMemory, Seq, Text};
+use std::alloc::Global;
+
+/// Lines of texts in columns, of which each is right-aligned or left-aligned and as wide as its
+/// widest text. The texts hold no newline. It takes time in the texts and in what is written.
+pub fn grid_text(alloc: Global, rights: &[bool], lines: &[Seq<Text>]) -> Result<Text, OutOfMemory>
+    ensures { IfOk result (λ text. text ≡ grid rights.now lines.now) }
+{
+    let shapes = shapes(alloc, rights, lines)?;
+    let mut out = Text::new(alloc);
+    for line in lines {
+        append_line(&mut out, &shapes, line.as_slice())?;
+    }
+    Ok(out)
+}
+
+/// Appends a line.
+fn append_line(out: &mut Text, shapes: &[Shape], texts: &[Text]) -> Result<(), OutOfMemory>
+    ensures { OnOk result (out.new ≡ out.old ++ grid_line shapes.now texts.now) }
+{
+    let mut pending = 0;
+    for (place, text) in texts.iter().enumerate() {
+        pending = append_column(out, pending, place, shapes, text)?;
+    }
+    out.push_str("\n")
+}
+
+/// Appends the text at a place of a line, if there is such a column.
+fn append_column(
+    out: &mut Text,
+    pending: usize,
+    place: usize,
+    shapes: &[Shape],
+    text: &Text,
+) -> Result<usize, OutOfMemory>
+    ensures { IfOk result (λ left. (before : List ℕ) (texts : List (List ℕ))
+        → place < length texts → text.now ≡ slice_index_or texts place text.now
+        → HasLine before out.old pending (front_of_line shapes.now texts place)
+        → HasLine before out.new left (front_of_line shapes.now texts (place + 1))) }
+{
+    match shapes.get(place) {
+        Some(shape) => append_behind_gap(out, pending, place, *shape, text),
+        None => Ok(pending),
+    }
+}
+
+/// Appends a text in its column, and before it a space where it isn't the first.
+fn append_behind_gap(
+    out: &mut Text,
+    pending: usize,
+    place: usize,
+    shape: Shape,
+    text: &Text,
+) -> Result<usize, OutOfMemory>
+    ensures { IfOk result (λ left. (before line : List ℕ) → HasLine before out.old pending line
+        → HasLine before out.new left (line ++ (gap place ++ placed shape text.now))) }
+{
+    if place == 0 {
+        return append_placed(out, pending, shape, text);
+    }
+    let behind = added(pending, 1)?;
+    append_placed(out, behind, shape, text)
+}
+
+/// Appends a text where it stands in its column.
+fn append_placed(
+    out: &mut Text,
+    pending: usize,
+    shape: Shape,
+    text: &Text,
+) -> Result<usize, OutOfMemory>
+    ensures { IfOk result (λ left. (before line : List ℕ) → HasLine before out.old pending line
+        → HasLine before out.new left (line ++ placed shape text.now)) }
+{
+    let room = shape.width.saturating_sub(width(text));
+    if shape.right {
+        let behind = added(pending, room)?;
+        return append_text(out, behind, text);
+    }
+    let left = append_text(out, pending, text)?;
+    added(left, room)
+}

@@ -1,0 +1,66 @@
+ghost use Rattle.std.specs.Prelude.{◌≡◌, ◌<◌, ◌≤◌, map, IfOk};
+ghost use Rattle.std.specs.Fmt.{is_char_start};
+ghost use Rattle.cal_tabfmt.specs.Grid.{nth_text, shapes, widest, width};
+
+use cal_value::{OutOfMemory, Seq, Text};
+use std::alloc::Global;
+
+/// A column of lines: its width in characters, and whether its texts stand at its right end.
+#[derive(Clone, Copy, Debug)]
+pub(crate) struct Shape {
+    pub(crate) width: usize,
+    pub(crate) right: bool,
+}
+
+/// The columns of these lines, by whether each is right-aligned.
+pub(crate) fn shapes(
+    alloc: Global,
+    rights: &[bool],
+    lines: &[Seq<Text>],
+) -> Result<Vec<Shape>, OutOfMemory>
+    ensures { IfOk result (λ made. made.items ≡ shapes lines.now 0 rights.now) }
+{
+    let mut made = Vec::new(alloc);
+    for (place, right) in rights.iter().enumerate() {
+        made.push(Shape {
+            width: widest_at(lines, place),
+            right: *right,
+        })?;
+    }
+    Ok(made)
+}
+
+/// The width of the widest text of a column.
+fn widest_at(lines: &[Seq<Text>], place: usize) -> usize
+    ensures { result ≡ widest (map (λ line. nth_text line place) lines.now) }
+{
+    let mut most = 0;
+    for line in lines {
+        most = most.max(width_at(line, place));
+    }
+    most
+}
+
+/// The width of a line's text in a column, 0 where there is none.
+fn width_at(line: &Seq<Text>, place: usize) -> usize
+    ensures { result ≡ width (nth_text line.now place) }
+{
+    match line.get(place) {
+        Some(text) => width(text),
+        None => 0,
+    }
+}
+
+/// How many characters a text has.
+pub(crate) fn width(text: &Text) -> usize
+    ensures { result ≡ width text.now }
+{
+    let bytes = text.as_str().as_bytes();
+    bytes.iter().filter(|b| is_char_start(**b)).count()
+}
+
+fn is_char_start(byte: u8) -> bool
+    ensures { result ≡ is_char_start byte }
+{
+    byte < 0x80 || byte >= 0xC0
+}
