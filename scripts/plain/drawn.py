@@ -20,8 +20,7 @@ QUERIES = (
     'select inclusive_sum(x) as i,sum(x) group by path', 'select x,y,x as again', 'order by x desc,y', 'select *', 'group by nosuch',
     'select count( where x', 'format xml', 'where x>', 'let a=mean(x)', 'select a b', 'where x,,y', 'group path', 'select "a\\"b', ';',
 )
-BUILT = ('', ' format expand', ' format table', ' format json')
-FORMATS = BUILT + (' format tree',)
+FORMATS = ('', ' format expand', ' format table', ' format tree', ' format json')
 
 
 class Drawing:
@@ -84,8 +83,8 @@ class Drawing:
         return '\n'.join(self.lines).encode() + self.draw.choice((b'\n', b'', b'\n\n'))
 
 
-def drawn_cases(formats):
-    """Words and bytes of 600 cases, with queries that print by these formats."""
+def drawn_cases():
+    """Words and bytes of 600 cases, with queries of each format."""
     for number in range(600):
         draw = random.Random(number)
         if draw.random() < 0.7:
@@ -98,7 +97,7 @@ def drawn_cases(formats):
             data = data[:draw.randrange(len(data) + 1)]
         words = [] if draw.random() < 0.8 else ['--globals=' + draw.choice(('off', 'join', 'join', 'on'))]
         if draw.random() < 0.85:
-            words.insert(draw.randrange(len(words) + 1), '--q=' + draw.choice(QUERIES) + draw.choice(formats))
+            words.insert(draw.randrange(len(words) + 1), '--q=' + draw.choice(QUERIES) + draw.choice(FORMATS))
         yield words, data
 
 

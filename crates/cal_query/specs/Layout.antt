@@ -1,5 +1,5 @@
 -- What is laid out of an input, or why it isn't (ours).
-use Rattle.std.specs.Prelude.{◌≡◌, ℕ, Bool, true, false, List, []}
+use Rattle.std.specs.Prelude.{◌≡◌, ℕ, Bool, List}
 use Rattle.cal_base.specs.Change.{Change}
 use Rattle.cal_base.specs.ReadEnds.{ReadsAll, StopsAt}
 use Rattle.cal_base.specs.declared.reading.ReadEnd.TheVariants as read_end
@@ -13,23 +13,19 @@ use Rattle.cal_read.specs.declared.kind.StreamKind.{StreamKind}
 use Rattle.cal_rowset.specs.declared.rowset.Rowset.{Rowset}
 use Rattle.cal_tabfmt.specs.Expand.{expand}
 use Rattle.cal_tabfmt.specs.Table.{table}
+use Rattle.cal_treefmt.specs.Tree.{tree}
 use Rattle.cal_value.specs.declared.record.Rec.{Rec}
 use Rattle.cal_value.specs.declared.record.Records.{Records}
 use Rattle.cal_query.specs.Joining.{rows_seen}
 use Rattle.cal_query.specs.declared.end.RowsEnd as ends
 use Rattle.cal_query.specs.declared.end.RowsEnd.TheVariants as end
 
--- the layout of an answer in a format; one that isn't built yet has no text
+-- the layout of an answer in a format
 abbrev pub layout : formats.Format → Rowset → List ℕ
 layout format.Table answer = table answer
 layout format.Json answer = json answer
 layout format.Expand answer = expand answer
-layout format.Tree answer = []
-
--- whether a format is built
-abbrev pub has_layout : formats.Format → Bool
-has_layout format.Tree = false
-has_layout _ = true
+layout format.Tree answer = tree answer
 
 -- what a query prints of the rows that it sees: the layout of its answer, in its format
 abbrev pub answer_text : Query → List Rec → List ℕ

@@ -1,14 +1,15 @@
 ghost use Rattle.std.specs.Prelude.{◌≡◌, IfOk};
-ghost use Rattle.cal_query.specs.Layout.{has_layout, layout};
+ghost use Rattle.cal_query.specs.Layout.{layout};
 
 use cal_jsonfmt::json_text;
 use cal_ql::Format;
 use cal_rowset::Rowset;
 use cal_tabfmt::{expand_text, table_text};
+use cal_treefmt::tree_text;
 use cal_value::{OutOfMemory, Text};
 use std::alloc::Global;
 
-/// The layout of an answer in a format. One that isn't built yet has no text.
+/// The layout of an answer in a format.
 pub(crate) fn lay_out(alloc: Global, format: Format, answer: &Rowset) -> Result<Text, OutOfMemory>
     ensures { IfOk result (λ text. text ≡ layout format answer.now) }
 {
@@ -16,13 +17,6 @@ pub(crate) fn lay_out(alloc: Global, format: Format, answer: &Rowset) -> Result<
         Format::Table => table_text(alloc, answer),
         Format::Json => json_text(alloc, answer),
         Format::Expand => expand_text(alloc, answer),
-        Format::Tree => Ok(Text::new(alloc)),
+        Format::Tree => tree_text(alloc, answer),
     }
-}
-
-/// Whether a format is built.
-pub fn has_layout(format: Format) -> bool
-    ensures { result ≡ has_layout format }
-{
-    format != Format::Tree
 }

@@ -18,4 +18,3 @@ mod streaming;
 
 pub use answering::query_text;
 pub use end::RowsEnd;
-pub use layout::has_layout;

@@ -1,5 +1,5 @@
 -- What is answered where the text of a query is refused, or memory runs out while it is read.
-use Rattle.std.proofs.Common.{◌≡◌, ◌⊎◌, ℕ, Bool, true, false, cond, List, [], Option, Some, None, Result, Ok, Err, refl, sym, subst, arith, inl, inr}
+use Rattle.std.proofs.Common.{◌≡◌, ◌⊎◌, ℕ, Bool, List, [], Option, Some, None, Result, Ok, Err, refl, sym, subst, arith, inl, inr}
 use Rattle.std.specs.Prelude.{String, IsErr}
 use Rattle.std.specs.Global.{Global}
 use Rattle.cal_base.specs.Change.{Change}
@@ -7,9 +7,8 @@ use Rattle.cal_base.specs.Told.{Takes, TakesUpTo}
 use Rattle.cal_ql.specs.Clauses.{reading}
 use Rattle.cal_ql.specs.Tokens.{Fault}
 use Rattle.cal_ql.specs.declared.query.Query.{Query}
-use Rattle.cal_query.specs.Layout.{has_layout}
 use Rattle.caliper.specs.Causes.{Answers, input_limit}
-use Rattle.caliper.specs.Tasks.{LeavesInput, QueryTask, Refusal, Task, by_text, query_task, task_of}
+use Rattle.caliper.specs.Tasks.{LeavesInput, Refusal, Task, by_text, query_task, task_of}
 use Rattle.caliper.specs.Words.{text_at}
 use Rattle.caliper.specs.declared.fault.Fault as faults
 use Rattle.caliper.specs.declared.fault.Fault.TheVariants as fault
@@ -24,17 +23,12 @@ pub nothing_read : (limit : ℕ) (told : Option (List ℕ)) → TakesUpTo limit 
 nothing_read limit told = ([], omega arith, takes_nothing told)
 
 module _ (input output : Change) (same : input.new ≡ input.old) where
-  ran_out_if : (q : Option ℕ) (join built : Bool) (query : Query) → has_layout query.format ≡ built
-      → Answers (query_task q join (Ok query)) input output (Some fault.OutOfMemory)
-  ran_out_if q join true query is =
-      rw is (subst (λ (new : Option (List ℕ)). TakesUpTo input_limit input.old new) (sym same)
-      (nothing_read input_limit input.old))
-  ran_out_if q join false query is = rw is (inr refl)
-
-  ran_out : (q : Option ℕ) (join : Bool) (read : Result Query Fault)
-      → Answers (query_task q join read) input output (Some fault.OutOfMemory)
-  ran_out q join (Err found) = inr refl
-  ran_out q join (Ok query) = ran_out_if q join (has_layout query.format) query refl
+  ran_out : (join : Bool) (read : Result Query Fault)
+      → Answers (query_task join read) input output (Some fault.OutOfMemory)
+  ran_out join (Err found) = inr refl
+  ran_out join (Ok query) =
+      subst (λ (new : Option (List ℕ)). TakesUpTo input_limit input.old new) (sym same)
+      (nothing_read input_limit input.old)
 
   told : (tasked : Result Task Refusal) (f : faults.Fault) → tasked ≡ Err (by_text f)
       → Answers tasked input output (Some f)
@@ -46,23 +40,17 @@ module _ (input output : Change) (same : input.new ≡ input.old) where
       ⊎ ((j : Bool) → task_of words (command.Query q j) ≡ Err (by_text f))
       → Answers (task_of words (command.Query q join)) input output (Some f)
   text_refused words q join f (inl memory) =
-      rw memory (ran_out q join (reading (text_at words q)))
+      rw memory (ran_out join (reading (text_at words q)))
   text_refused words q join f (inr refused) =
       told (task_of words (command.Query q join)) f (refused join)
 
-leaves_built : (built : Bool) (query : Query) (join : Bool) (refusal : Refusal)
-    → LeavesInput (cond built (Ok (QueryTask query join)) (Err refusal))
-    → IsErr (cond built (Ok (QueryTask query join)) (Err refusal))
-leaves_built true query join refusal leaves = absurd leaves
-leaves_built false query join refusal leaves = tt
-
-leaves_read : (q : Option ℕ) (join : Bool) (read : Result Query Fault)
-    → LeavesInput (query_task q join read) → IsErr (query_task q join read)
-leaves_read q join (Err found) leaves = tt
-leaves_read q join (Ok query) leaves = leaves_built (has_layout query.format) query join _ leaves
+leaves_read : (join : Bool) (read : Result Query Fault)
+    → LeavesInput (query_task join read) → IsErr (query_task join read)
+leaves_read join (Err found) leaves = tt
+leaves_read join (Ok query) leaves = absurd leaves
 
 -- a query reads its input, unless its text is refused
 pub leaves_query : (words : List (String Global)) (q : Option ℕ) (join : Bool)
     → LeavesInput (task_of words (command.Query q join))
     → IsErr (task_of words (command.Query q join))
-leaves_query words q join leaves = leaves_read q join (reading (text_at words q)) leaves
+leaves_query words q join leaves = leaves_read join (reading (text_at words q)) leaves

@@ -1,11 +1,9 @@
 -- What the words ask for, once the text of a query is read.
-use Rattle.std.specs.Prelude.{ℕ, Bool, List, Option, Result, Ok, Err, String}
-use Rattle.std.specs.Prelude.{unwrap_or, if◌then◌else◌}
+use Rattle.std.specs.Prelude.{ℕ, Bool, List, Result, Ok, Err, String}
 use Rattle.std.specs.Global.{Global}
 use Rattle.cal_ql.specs.Clauses.{reading}
 use Rattle.cal_ql.specs.Tokens.{Fault}
 use Rattle.cal_ql.specs.declared.query.Query.{Query}
-use Rattle.cal_query.specs.Layout.{has_layout}
 use Rattle.caliper.specs.Words.{asked, text_at}
 use Rattle.caliper.specs.declared.fault.Fault as faults
 use Rattle.caliper.specs.declared.fault.Fault.TheVariants as fault
@@ -24,17 +22,15 @@ pub data Refusal : Type 0 where
   by_word : ℕ → Refusal
   by_text : faults.Fault → Refusal
 
--- A text that is no query is refused for its first fault, and a query whose format isn't built yet
--- at its word.
-abbrev pub query_task : Option ℕ → Bool → Result Query Fault → Result Task Refusal
-query_task q join (Err found) = Err (by_text (fault.BadQuery found.place found.kind))
-query_task q join (Ok query) =
-    if has_layout query.format then Ok (QueryTask query join) else Err (by_text (fault.Usage (unwrap_or q 0)))
+-- a text that is no query is refused for its first fault
+abbrev pub query_task : Bool → Result Query Fault → Result Task Refusal
+query_task join (Err found) = Err (by_text (fault.BadQuery found.place found.kind))
+query_task join (Ok query) = Ok (QueryTask query join)
 
 abbrev pub task_of : List (String Global) → commands.Command → Result Task Refusal
 task_of words (command.Gen seed threads lines) = Ok (GenTask seed threads lines)
 task_of words command.Serial = Ok SerialTask
-task_of words (command.Query q join) = query_task q join (reading (text_at words q))
+task_of words (command.Query q join) = query_task join (reading (text_at words q))
 
 abbrev pub task_asked : List (String Global) → Result commands.Command ℕ → Result Task Refusal
 task_asked words (Err place) = Err (by_word place)

@@ -5,7 +5,6 @@ ghost use Rattle.caliper.specs.Tasks.{QueryTask, by_text, task_of};
 use crate::words::text_at;
 use crate::{Command, Fault};
 use cal_ql::{Query, QueryEnd, parse_query};
-use cal_query::has_layout;
 use std::alloc::Global;
 
 /// The query that the words ask for, or why its text is refused.
@@ -17,10 +16,7 @@ pub fn asked_query(alloc: Global, words: &[String], q: Option<u32>) -> Result<Qu
         → (task_of words.now (Command.Query q join) ≡ Err (by_text fault)))) }
 {
     match parse_query(alloc, text_at(words, q)) {
-        Ok(query) if has_layout(query.format) => Ok(query),
-        Ok(_) => Err(Fault::Usage {
-            word: q.unwrap_or(0),
-        }),
+        Ok(query) => Ok(query),
         Err(QueryEnd::BadQuery { place, kind }) => Err(Fault::BadQuery { place, kind }),
         Err(QueryEnd::OutOfMemory) => Err(Fault::OutOfMemory),
     }

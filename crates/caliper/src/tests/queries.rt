@@ -111,16 +111,32 @@ fn texts_of_queries_are_read(rt: HostRuntime) -> Result<(), Fail> {
             4,
         ),
         refused(
-            &["query", "--globals=off", "--q=format tree"],
-            "x",
-            "caliper: usage: word 3\n",
-            2,
-        ),
-        refused(
             &["query", "--q=", "--q="],
             "x",
             "caliper: usage: word 3\n",
             2,
+        ),
+    ];
+    assert_rows(&rt, &rows)
+}
+
+#[test]
+fn answers_are_laid_out(rt: HostRuntime) -> Result<(), Fail> {
+    let rows = [
+        written_by(
+            &["query", "--q=format table"],
+            TIMES,
+            "path time.duration\nmain          0.25\n",
+        ),
+        written_by(
+            &["query", "--q=format tree"],
+            TIMES,
+            "Path time.duration\nmain          0.25\n",
+        ),
+        written_by(
+            &["query", "--q=format json", "--globals=off"],
+            TIMES,
+            "[{\"path\":\"main\",\"time.duration\":\"0.25\"}]\n",
         ),
     ];
     assert_rows(&rt, &rows)

@@ -1,7 +1,6 @@
-use Rattle.std.proofs.Common.{◌≡◌, true, false, Ok, refl, sym, ap, ◌∙◌, inr}
+use Rattle.std.proofs.Common.{◌≡◌, Ok, refl, sym, ap, ◌∙◌}
 use Rattle.cal_ql.proofs.Meanings.{means_or_reads}
 use Rattle.cal_ql.specs.Clauses.{reading}
-use Rattle.cal_query.specs.Layout.{has_layout}
 use Rattle.caliper.specs.Words.{text_at}
 use Rattle.caliper.proofs.asking.asked_query.Goals as goal
 
@@ -10,13 +9,4 @@ returns-in-Ok-clause-asked c = λ join.
     let query = c.in-Ok.query in
     let read : reading (text_at c.args.words.now c.args.q) ≡ Ok query =
     ap reading (sym c.text_at.ensures) ∙ (means_or_reads c.text_at.result.now query).0 c.in-Ok.ensures.meant in
-    let built : has_layout query.format ≡ true = cc in
-    rw (read, built) refl
-
-pub returns-in-Ok-2-clause-refused : goal.returns-in-Ok-2-clause-refused
-returns-in-Ok-2-clause-refused c = inr (λ join.
-    let query = c.in-Ok-2.field-0 in
-    let read : reading (text_at c.args.words.now c.args.q) ≡ Ok query =
-    ap reading (sym c.text_at.ensures) ∙ (means_or_reads c.text_at.result.now query).0 c.in-Ok-2.ensures.meant in
-    let built : has_layout query.format ≡ false = cc in
-    rw (read, built, c.unwrap_or.ensures) refl)
+    rw read refl
