@@ -1,11 +1,9 @@
-// The probing of `bench rows` and `bench tree` over plain atomics; the scripts `bench/rows` and
-// `bench/tree` build it and run it beside them, the latter with the word `tree`.
+// The probing of `bench rows` over plain atomics; `bench/rows` builds and runs it beside that.
 use std::sync::atomic::{AtomicU64, Ordering::SeqCst};
 use std::time::Instant;
 
 const RECORDS: u32 = 1_000_000;
 const SLOTS: u64 = 1 << 21;
-const DEEPEST: u64 = 128;
 
 enum Value {
     Int(i128),
@@ -65,8 +63,6 @@ impl Rec<'_> {
 
 struct Rows {
     words: Vec<AtomicU64>,
-    slots: u64,
-    homes: u64,
     arena: u64,
 }
 
@@ -76,9 +72,8 @@ struct Seat {
 }
 
 impl Rows {
-    fn new(slots: u64, homes: u64, arena: u64, arenas: u64) -> Rows {
-        let words = (0..1 + slots + arena * arenas).map(|_| AtomicU64::new(0)).collect();
-        Rows { words, slots, homes, arena }
+    fn new(arena: u64, arenas: u64) -> Rows {
+        Rows { words: (0..1 + SLOTS + arena * arenas).map(|_| AtomicU64::new(0)).collect(), arena }
     }
 
     fn same(&self, rec: &Rec, slot: u64) -> bool {
@@ -87,11 +82,11 @@ impl Rows {
     }
 
     fn put(&self, seat: &mut Seat, rec: &Rec) -> Option<u64> {
-        let home = rec.home(self.homes);
-        let start = 1 + self.slots + seat.number * self.arena + seat.used;
+        let home = rec.home(SLOTS);
+        let start = 1 + SLOTS + seat.number * self.arena + seat.used;
         let mut drafted = false;
-        for distance in 0..self.slots {
-            let place = (home + distance) % self.slots;
+        for distance in 0..SLOTS {
+            let place = (home + distance) % SLOTS;
             let mut slot = self.words[place as usize + 1].load(SeqCst);
             if slot == 0 {
                 if seat.used + rec.len() > self.arena {
@@ -117,21 +112,6 @@ impl Rows {
         }
         None
     }
-
-    fn child(&self, seat: &mut Seat, parent: u32, attr: u32, value: &Value) -> Option<u32> {
-        let depth = match parent {
-            0 => 0,
-            _ => {
-                let slot = self.words[parent as usize].load(SeqCst);
-                self.words[(slot & 0xffff_ffff) as usize + 1].load(SeqCst)
-            }
-        };
-        if depth >= DEEPEST {
-            return None;
-        }
-        let rec = Rec { parent, depth: depth as u32 + 1, attr, value };
-        self.put(seat, &rec).map(|place| place as u32 + 1)
-    }
 }
 
 fn fill(rows: &Rows, seat: &mut Seat, from: u32, count: u32, value: &Value) {
@@ -141,48 +121,14 @@ fn fill(rows: &Rows, seat: &mut Seat, from: u32, count: u32, value: &Value) {
     }
 }
 
-fn grow(rows: &Rows, seat: &mut Seat, values: &[Value]) -> u32 {
-    let (mut parent, mut count) = (0, 0);
-    for value in values {
-        let Some(node) = rows.child(seat, parent, 7, value) else { return count };
-        count += 1;
-        parent = if count % 4 == 0 { 0 } else { node };
-    }
-    count
-}
-
-fn time_tree(name: &str, slots: u64, homes: u64, values: &[Value]) {
-    let rows = Rows::new(slots, homes, 10_000_000, 2);
-    let begun = Instant::now();
-    let made = grow(&rows, &mut Seat { number: 0, used: 0 }, values);
-    let new = begun.elapsed();
-    let begun = Instant::now();
-    let found = grow(&rows, &mut Seat { number: 1, used: 0 }, values);
-    let known = begun.elapsed();
-    println!("{name}: {} ms for {made} new nodes, {} ms for {found} of another seat's", new.as_millis(), known.as_millis());
-}
-
-fn trees() {
-    let values = |front: &str| (0..RECORDS).map(|n| Value::Text(format!("{front}{n}"))).collect::<Vec<_>>();
-    let names = values("main");
-    let texts = values("solver/src/of/a/long/path/main.cpp, line ");
-    time_tree("names, an odd number of homes", 1 << 21, (1 << 21) - 1, &names);
-    time_tree("names, the shape of a run", 5_000_001, 5_000_001, &names);
-    time_tree("texts, an odd number of homes", 1 << 21, (1 << 21) - 1, &texts);
-    time_tree("texts, the shape of a run", 5_000_001, 5_000_001, &texts);
-}
-
 fn main() {
-    if std::env::args().nth(1).as_deref() == Some("tree") {
-        return trees();
-    }
     let value = match std::env::args().count() {
         1 => Value::Bool(true),
         2 => Value::Uint(1),
         3 => Value::Int(1),
         _ => Value::Text(String::new()),
     };
-    let rows = Rows::new(SLOTS, SLOTS, 5_000_000, 1);
+    let rows = Rows::new(5_000_000, 1);
     let mut seat = Seat { number: 0, used: 0 };
     let begun = Instant::now();
     fill(&rows, &mut seat, 0, RECORDS, &value);
@@ -190,7 +136,7 @@ fn main() {
     let begun = Instant::now();
     fill(&rows, &mut seat, 0, RECORDS, &value);
     println!("one seat: {} ms for new records, {} ms for known ones", new.as_millis(), begun.elapsed().as_millis());
-    let rows = Rows::new(SLOTS, SLOTS, 2_500_000, 3);
+    let rows = Rows::new(2_500_000, 3);
     let begun = Instant::now();
     std::thread::scope(|scope| {
         for number in 1..3 {
