@@ -1,6 +1,8 @@
 -- The lines of nodes and of rows.
-use Rattle.std.proofs.Common.{◌≡◌, ℕ, suc, ◌-◌, ◌<◌, false, List, [], ◌∷◌, ◌++◌, length, get_or, map, drop, Option, None, Some, refl, sym, ap, ◌∙◌, arith, append_assoc, drop-cons, if◌then◌else◌}
-use Rattle.std.proofs.lemmas.List.{append-nil, map-append}
+use Rattle.std.proofs.Common.{◌≡◌, ℕ, suc, ◌+◌, ◌-◌, ◌<◌, ◌≤◌, Bool, true, false, List, [], ◌∷◌, ◌++◌, ◌⊎◌, inl, inr, length, get_or, map, take, drop, filter, Option, None, Some, refl, sym, ap, ◌∙◌, subst, arith, append_assoc, drop-cons, if◌then◌else◌, slice_get}
+use Rattle.std.specs.List.{flat_map}
+use Rattle.std.proofs.lemmas.Grind.{flat_map-append}
+use Rattle.std.proofs.lemmas.List.{append-nil, map-append, take_all, take_more}
 use Rattle.std.proofs.lemmas.Option.{slice_get-get_or}
 use Rattle.cal_value.specs.ExactOrder.{exact_decides}
 use Rattle.cal_value.specs.OrderLaws.{path_exact}
@@ -15,9 +17,10 @@ use Rattle.cal_rowset.specs.Hierarchy.{hierarchy}
 use Rattle.cal_treefmt.specs.Chains.{IsChained, IsNext, key_at}
 use Rattle.cal_treefmt.specs.Lines as lines
 use Rattle.cal_treefmt.specs.Lines.{indent, label, lines_of, node_lines, row_lines, rows_at, tree_lines}
-use Rattle.cal_treefmt.specs.Nodes.{is_node}
+use Rattle.cal_treefmt.specs.Nodes.{is_node, ordered_nodes}
 use Rattle.cal_treefmt.specs.Orders.{AreRows, nodes_in}
 use Rattle.cal_treefmt.specs.Plans.{IsPlaceOf, IsPlan, IsPlanOf, left_rows, shown}
+use Rattle.cal_treefmt.specs.Walks.{AreAt}
 use Rattle.cal_treefmt.specs.declared.chains.Chains.{Chains}
 use Rattle.cal_treefmt.specs.declared.lines.Line.{Line}
 use Rattle.cal_treefmt.specs.declared.plan.Plan.{Plan}

@@ -1,27 +1,27 @@
 -- What a context has after one more node, after one more row.
-use Rattle.std.proofs.Common.{◌≡◌, ℕ, zero, suc, ◌+◌, ◌<◌, Bool, List, [], ◌∷◌, ◌++◌, inl, inr, length, get_or, map, take, refl, sym, ap, ◌∙◌, subst, arith, append_assoc, true, false, filter, if◌then◌else◌}
-use Rattle.std.specs.List.{flat_map}
+use Rattle.std.proofs.Common.{◌≡◌, ℕ, zero, suc, ◌+◌, ◌<◌, Bool, List, [], ◌∷◌, ◌++◌, ◌⊎◌, inl, inr, length, get_or, map, take, refl, sym, ap, ◌∙◌, subst, arith, append_assoc, true, false, filter, if◌then◌else◌}
+use Rattle.std.specs.List.{All, Contains, flat_map}
 use Rattle.std.specs.Ordering.{eq_by_cmp}
 use Rattle.std.proofs.lemmas.Grind.{flat_map-append}
 use Rattle.std.proofs.lemmas.List.{append-nil, map-append, map-id, take_more}
 use Rattle.std.proofs.lemmas.List.Elements.{All-push, filter-append}
 use Rattle.std.proofs.lemmas.Option.{get_or_from_slice_get, slice_get_within}
 use Rattle.cal_value.specs.ExactOrder.{exact_equiv, exact_tells}
-use Rattle.cal_value.specs.Order.{attribute_cmp}
+use Rattle.cal_value.specs.Order.{attribute_cmp, path_cmp}
 use Rattle.cal_value.specs.OrderLaws.{attribute_exact, path_exact}
 use Rattle.cal_value.specs.declared.attribute.Attribute.{Attribute}
 use Rattle.cal_value.specs.declared.attribute.Entry.{Entry}
 use Rattle.cal_value.specs.declared.record.Rec.{Rec}
 use Rattle.cal_context.specs.Children.{AddsAttribute, AddsChild}
 use Rattle.cal_context.specs.Lists.{Adds}
-use Rattle.cal_context.specs.Tree.{Tree, Grows, attribute_at, path_at, no_attribute}
+use Rattle.cal_context.specs.Tree.{Tree, Grows, IsContext, attribute_at, path_at, no_attribute}
 use Rattle.cal_context.specs.declared.numbers.AttributeNumber.{AttributeNumber}
 use Rattle.cal_context.specs.declared.numbers.NodeNumber.{NodeNumber}
 use Rattle.cal_context.proofs.CallerLemmas.{Grows-refl, Grows-trans, path_at-Grows, attribute_at-Grows, within_paths}
 use Rattle.cal_context.proofs.ListLemmas.{map-alike}
 use Rattle.cal_value.specs.Flat.{joined}
 use Rattle.cal_rowset.specs.Hierarchy.{hierarchy, is_of_hierarchy}
-use Rattle.cal_treefmt.specs.Nodes.{firsts, is_node, nodes_on}
+use Rattle.cal_treefmt.specs.Nodes.{firsts, is_node, nodes_of, nodes_on}
 use Rattle.cal_treefmt.specs.Walks.{AreAt, HasNodes, Walks, attributes_of}
 use Rattle.cal_treefmt.proofs.Firsts.{firsts-Adds}
 

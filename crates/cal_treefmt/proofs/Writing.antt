@@ -5,6 +5,7 @@ use Rattle.cal_value.specs.declared.record.Rec.{Rec}
 use Rattle.cal_rowset.specs.declared.rowset.Column.{Column}
 use Rattle.cal_tabfmt.specs.Grid.{grid, on_line}
 use Rattle.cal_treefmt.specs.Columns.{columns_beside}
+use Rattle.cal_treefmt.specs.Lines as lines
 use Rattle.cal_treefmt.specs.Lines.{tree_lines}
 use Rattle.cal_treefmt.specs.Plans.{shown}
 use Rattle.cal_treefmt.specs.Tree.{header_texts, line_texts, rights, tree_of}

@@ -1,6 +1,6 @@
 -- What is laid out, and the lines that are made of it.
 use Rattle.std.specs.Prelude.{◌≡◌, ℕ, ◌<◌, List, [], Option, None, Some, ⊤}
-use Rattle.std.specs.Prelude.{drop, length, map, slice_get, slice_index_or, MatchOption}
+use Rattle.std.specs.Prelude.{drop, filter, length, map, slice_get, slice_index_or, MatchOption}
 use Rattle.std.specs.Option.{option_and_then}
 use Rattle.std.specs.List.{All}
 use Rattle.cal_value.specs.declared.record.Rec.{Rec}

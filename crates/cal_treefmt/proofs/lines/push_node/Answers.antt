@@ -1,4 +1,4 @@
-use Rattle.std.proofs.Common.{ℕ, ◌++◌, Option, map, subst, sym, ap, arith, ◌∙◌}
+use Rattle.std.proofs.Common.{ℕ, ◌++◌, List, Option, map, subst, sym, ap, arith, ◌∙◌}
 use Rattle.std.proofs.lemmas.Result.{on_ok_weaker}
 use Rattle.cal_treefmt.specs.Plans.{IsPlaceOf, shown}
 use Rattle.cal_treefmt.proofs.Lining.{first_lines, node_lines-first, place-first}
