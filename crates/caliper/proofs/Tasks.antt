@@ -46,7 +46,7 @@ module _ (input output : Change) (same : input.new ≡ input.old) where
 
 leaves_read : (join : Bool) (read : Result Query Fault)
     → LeavesInput (query_task join read) → IsErr (query_task join read)
-leaves_read join (Err found) leaves = tt
+leaves_read join (Err found) leaves = refl
 leaves_read join (Ok query) leaves = absurd leaves
 
 -- a query reads its input, unless its text is refused
