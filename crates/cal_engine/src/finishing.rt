@@ -13,7 +13,8 @@ ghost use Rattle.cal_engine.specs.Kernels.{contributed, result_of};
 ghost use Rattle.cal_engine.specs.Parts.{part_over, parts_over};
 ghost use Rattle.cal_engine.specs.Rows.{row_of as row_by};
 
-use crate::groups::Groups;
+use crate::below::parts_below;
+use crate::groups::total;
 use crate::part::Part;
 use crate::reading::push_some;
 use cal_agg::Num;
@@ -119,21 +120,24 @@ fn row(
 pub(crate) fn group_rows(
     alloc: Global,
     query: &Query,
-    groups: &Groups,
+    keys: &[Rec],
+    parts: &[Seq<Part>],
 ) -> Result<Seq<Rec>, OutOfMemory>
-    ensures { IfOk result (λ rows. (rs : List ARecord) → groups.now ≡ groups_over query.now rs
+    requires { length parts.now ≡ length keys.now }
+    ensures { IfOk result (λ rows. (rs : List ARecord)
+        → record { keys = keys.now; parts = parts.now } ≡ groups_over query.now rs
         → rows ≡ map (row_by query.now rs) (groups_of query.now.group rs)) }
 {
     let aggs = query.aggs.as_slice();
     let none = no_parts(alloc, aggs)?;
-    let all = groups.all(alloc, &none)?;
-    let below = groups.below(alloc, &none)?;
-    let rows = groups.rows(alloc, aggs, &all, &below)?;
+    let all = total(alloc, parts, &none)?;
+    let below = parts_below(alloc, keys, parts, &none)?;
+    let rows = rows(alloc, aggs, keys, parts, &all, &below)?;
     Ok(rows)
 }
 
 /// The rows of groups, each of its own parts, of those of all groups, and of those below it.
-pub(crate) fn rows(
+fn rows(
     alloc: Global,
     aggs: &[Agg],
     keys: &[Rec],

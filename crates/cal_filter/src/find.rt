@@ -15,7 +15,7 @@ use cal_value::Variant;
 impl Seeker {
     /// The value of the last entry of a record that is sought. It takes time for its nodes and
     /// immediates.
-    pub(crate) fn find<'a>(
+    pub fn find<'a>(
         &self,
         context: &'a Context,
         snapshot: &'a Snapshot,

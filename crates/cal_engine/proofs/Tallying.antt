@@ -1,0 +1,107 @@
+-- One more record in the groups by numbers.
+use Rattle.std.proofs.Common.{◌≡◌, ℕ, Bool, true, false, true≢false, List, [], ◌∷◌, ◌++◌, Option, None, Some, length, map, refl, sym, ◌∙◌, ap, subst, arith, if◌then◌else◌}
+use Rattle.std.specs.Prelude.{is_some}
+use Rattle.std.specs.List.{All}
+use Rattle.cal_context.specs.Tree.{Tree, Grows, IsContext}
+use Rattle.cal_context.proofs.CallerLemmas.{Grows-refl}
+use Rattle.cal_ql.specs.declared.query.Query.{Query}
+use Rattle.cal_rowset.specs.declared.rowset.Rowset.{Rowset}
+use Rattle.cal_value.specs.declared.record.Rec.{Rec}
+use Rattle.cal_engine.specs.Answers.{answer_over, answer_with}
+use Rattle.cal_engine.specs.Counters.{AreReadyCounters}
+use Rattle.cal_engine.specs.Folding.{Gathers, groups_over}
+use Rattle.cal_engine.specs.Groups.{group_of, groups_of}
+use Rattle.cal_engine.specs.Keys.{IsKeyIn, key_in, room_of}
+use Rattle.cal_engine.specs.Numbered.{GathersKey, Numbered, grouped_in}
+use Rattle.cal_engine.specs.Parts.{Gathered, parts_over}
+use Rattle.cal_engine.specs.Readings.{parts_of, reading_of}
+use Rattle.cal_engine.specs.Rows.{is_aggregated, row_of}
+use Rattle.cal_engine.specs.Tallies.{FindsKey, Holds, IsTally}
+use Rattle.cal_engine.specs.declared.key.GroupKey.{GroupKey}
+use Rattle.cal_engine.specs.declared.tally.Tally.{Tally}
+use Rattle.cal_engine.proofs.Counting.{counters-Grows, ready_counters}
+use Rattle.cal_engine.proofs.Folds.{parts_of_one}
+use Rattle.cal_engine.proofs.Gathering.{groups_over-Gathers}
+use Rattle.cal_engine.proofs.KeyLemmas.{gathered_within, gathers_in, grouped_in-Grows, keys-Grows, room_context, room_grows}
+use Rattle.cal_engine.proofs.Sifting.{sieves-Grows}
+
+pub tallied : (t : Tree) (q : Query) (rs : List Rec) (r : Rec) (old new : Tally) (parts : List Gathered) (key : GroupKey)
+    → IsContext t → IsContext new.own → Grows old.own new.own → AreReadyCounters t q.aggs new.counters.items
+    → parts ≡ parts_of (map reading_of q.aggs) r → FindsKey t new.own q r new.sieves.items key
+    → GathersKey old.groups key parts new.groups → IsTally t q rs old → IsTally t q (rs ++ r ∷ []) new
+tallied t q rs r old new parts key context own_context grows counters read found gathers h = record {
+  counters = ready_counters t (map reading_of q.aggs) new.counters.items counters;
+  sieves = found.sieves;
+  keys = gathered_within room old.groups new.groups key parts before found.key.within gathers;
+  groups = groups_over-Gathers q rs r (grouped_in room old.groups) (grouped_in room new.groups) was to_group;
+}
+  where
+    room : Tree
+    room = room_of q.group t new.own
+
+    room_has_grown : Grows (room_of q.group t old.own) (room_of q.group t new.own)
+    room_has_grown = room_grows q.group (Grows-refl t) grows
+
+    before : All (IsKeyIn (room_of q.group t new.own)) old.groups.keys
+    before = keys-Grows room_has_grown old.groups.keys h.keys
+
+    was : grouped_in (room_of q.group t new.own) old.groups ≡ groups_over q rs
+    was = grouped_in-Grows room_has_grown old.groups h.keys ∙ h.groups
+
+    to_key : Gathers (grouped_in (room_of q.group t new.own) old.groups) (key_in (room_of q.group t new.own) key) parts
+        (grouped_in (room_of q.group t new.own) new.groups)
+    to_key = gathers_in (room_of q.group t new.own) (room_context q.group t new.own context own_context) old.groups new.groups key parts before
+        found.key.within gathers
+
+    to_group : Gathers (grouped_in (room_of q.group t new.own) old.groups) (group_of q.group r) (parts_over q.aggs (r ∷ []))
+        (grouped_in (room_of q.group t new.own) new.groups)
+    to_group =
+        subst (λ k. Gathers (grouped_in (room_of q.group t new.own) old.groups) k (parts_over q.aggs (r ∷ [])) (grouped_in (room_of q.group t new.own) new.groups))
+        found.key.is
+        (subst (λ ps. Gathers (grouped_in (room_of q.group t new.own) old.groups) (key_in (room_of q.group t new.own) key) ps (grouped_in (room_of q.group t new.own) new.groups))
+        (read ∙ parts_of_one q.aggs r) to_key)
+
+-- the tree of the keys
+pub room_by_name : (names : Option (List (List ℕ))) (t own : Tree) → is_some names ≡ true → room_of names t own ≡ own
+room_by_name None t own e = absurd (true≢false (sym e))
+room_by_name (Some names) t own e = refl
+
+pub room_by_nodes : (names : Option (List (List ℕ))) (t own : Tree) → is_some names ≡ false → room_of names t own ≡ t
+room_by_nodes None t own e = refl
+room_by_nodes (Some names) t own e = absurd (true≢false e)
+
+-- a tally stays right while the context grows
+pub tally-Grows : {t u : Tree} → Grows t u → (q : Query) (rs : List Rec) (y : Tally) → IsTally t q rs y → IsTally u q rs y
+tally-Grows {t} {u} grows q rs y h =
+    let rooms : Grows (room_of q.group t y.own) (room_of q.group u y.own) = room_grows q.group grows (Grows-refl y.own) in record {
+      counters = counters-Grows grows (map reading_of q.aggs) y.counters.items h.counters;
+      sieves = sieves-Grows grows y.own _ y.sieves.items h.sieves;
+      keys = keys-Grows rooms y.groups.keys h.keys;
+      groups = grouped_in-Grows rooms y.groups h.keys ∙ h.groups;
+    }
+
+-- the answer over what was kept
+pub answer_grouped : (q : Query) (ks rows : List Rec) (answer : Rowset) → is_aggregated q ≡ true → rows ≡ map (row_of q ks) (groups_of q.group ks)
+    → answer ≡ answer_with q rows → answer ≡ answer_over q ks
+answer_grouped q ks rows answer agg made is =
+    is ∙ ap (answer_with q) (made ∙ sym (ap (λ b. if b then map (row_of q ks) (groups_of q.group ks) else ks) agg))
+
+pub answer_kept : (q : Query) (ks rows : List Rec) (answer : Rowset) → is_aggregated q ≡ false → rows ≡ ks
+    → answer ≡ answer_with q rows → answer ≡ answer_over q ks
+answer_kept q ks rows answer agg made is =
+    is ∙ ap (answer_with q) (made ∙ sym (ap (λ b. if b then map (row_of q ks) (groups_of q.group ks) else ks) agg))
+
+-- one more record that is held
+pub holds_group : (t : Tree) (q : Query) (ks : List Rec) (r : Rec) (y z : Tally) (rows now : List Rec) → is_aggregated q ≡ true
+    → (IsTally t q ks y → IsTally t q (ks ++ r ∷ []) z) → Holds t q ks y rows → Holds t q (ks ++ r ∷ []) z now
+holds_group t q ks r y z rows now agg takes h = record {
+  groups = λ is. takes (h.groups is);
+  rows = λ isnt. absurd (true≢false (sym agg ∙ isnt));
+}
+
+pub holds_row : (t : Tree) (q : Query) (ks : List Rec) (r row : Rec) (y z : Tally) (rows now : List Rec) → is_aggregated q ≡ false
+    → now ≡ rows ++ row ∷ [] → row ≡ r → Holds t q ks y rows → Holds t q (ks ++ r ∷ []) z now
+holds_row t q ks r row y z rows now agg more is h = record {
+  groups = λ so. absurd (true≢false (sym so ∙ agg));
+  rows = λ isnt. more ∙ (λ i. h.rows isnt i ++ is i ∷ []);
+}

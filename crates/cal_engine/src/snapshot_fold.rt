@@ -1,0 +1,133 @@
+ghost use Rattle.std.specs.Prelude.{◌≡◌, [], ◌∷◌, ◌++◌, List, IfOk, OnOk};
+ghost use Rattle.cal_context.specs.Snapshots.{IsIn, meaning};
+ghost use Rattle.cal_context.specs.Tree.{Grows};
+ghost use Rattle.cal_ql.specs.Valid.{IsValidQuery};
+ghost use Rattle.cal_value.specs.declared.record.Rec.{Rec as ARecord};
+ghost use Rattle.cal_engine.specs.Answers.{answer_of};
+ghost use Rattle.cal_engine.specs.Standing.{HasFolded};
+ghost use Rattle.cal_engine.specs.Tallies.{Holds};
+
+use crate::filtering::is_plain;
+use crate::fold::{finished, is_aggregated};
+use crate::gate::{Gate, copy_of};
+use crate::tally::Tally;
+use cal_context::{Context, Snapshot, Taker, expand};
+use cal_ql::Query;
+use cal_rowset::Rowset;
+use cal_value::{OutOfMemory, Rec, Seq, TryCopy};
+use std::alloc::Global;
+
+/// A query on records that come one by one as snapshots of one context. A record takes time for its
+/// nodes and immediates, however deep their paths are; each new node takes time once. It keeps the
+/// groups of an aggregated query, and the kept records of another one with entries of their own.
+#[derive(Drop)]
+pub struct SnapshotFold {
+    alloc: Global,
+    query: Query,
+    gate: Gate,
+    tally: Tally,
+    rows: Seq<Rec>,
+}
+
+impl SnapshotFold {
+    /// The fold of no record. The query is copied. The attributes that LET's entries may have are
+    /// added to the context.
+    pub fn new(
+        alloc: Global,
+        query: &Query,
+        context: &mut Context,
+    ) -> Result<SnapshotFold, OutOfMemory>
+        requires { IsValidQuery query.now }
+        ensures query { IfOk result (λ fold. fold.query ≡ query.now) }
+        ensures none { IfOk result (λ fold. HasFolded fold context.new []) }
+        ensures grows { Grows context.old context.new }
+    {
+        let gate = Gate::new(alloc, query, context)?;
+        let tally = Tally::new(alloc, query)?;
+        Ok(SnapshotFold {
+            alloc,
+            query: query.copy(alloc)?,
+            gate,
+            tally,
+            rows: Seq::new(alloc),
+        })
+    }
+
+    /// The answer over the records that were taken from a context as it stands. It takes memory and
+    /// time in what the fold holds, and n log n comparisons where rows are ordered.
+    pub fn finish(self, context: &Context) -> Result<Rowset, OutOfMemory>
+        ensures { IfOk result (λ answer. (rs : List ARecord) → HasFolded self context.now rs
+            → answer ≡ answer_of self.query rs) }
+    {
+        let SnapshotFold {
+            alloc,
+            query,
+            gate: _,
+            tally,
+            rows,
+        } = self;
+        let rows = if is_aggregated(&query) {
+            tally.rows(alloc, &query, context)?
+        } else {
+            rows
+        };
+        let answer = finished(alloc, &query, rows)?;
+        Ok(answer)
+    }
+}
+
+impl Taker for SnapshotFold {
+    ghost use Rattle.cal_engine.specs.Standing.{HasFolded};
+    ghost use Rattle.cal_engine.proofs.Staying.{HasFolded-stays};
+
+    ghost has_taken = { HasFolded };
+
+    ghost stays = { HasFolded-stays };
+
+    fn take(&mut self, context: &Context, snapshot: &Snapshot) -> Result<(), OutOfMemory> {
+        if is_plain(&self.query) {
+            return take_kept(
+                self.alloc,
+                &self.query,
+                context,
+                snapshot,
+                &mut self.tally,
+                &mut self.rows,
+            );
+        }
+        let mut full = copy_of(self.alloc, snapshot)?;
+        if !self.gate.apply(context, &mut full)? {
+            return Ok(());
+        }
+        take_kept(
+            self.alloc,
+            &self.query,
+            context,
+            &full,
+            &mut self.tally,
+            &mut self.rows,
+        )
+    }
+}
+
+/// Adds a record that LET and WHERE made.
+fn take_kept(
+    alloc: Global,
+    query: &Query,
+    context: &Context,
+    snapshot: &Snapshot,
+    tally: &mut Tally,
+    rows: &mut Seq<Rec>,
+) -> Result<(), OutOfMemory>
+    requires { IsIn context.now snapshot.now }
+    ensures { OnOk result ((ks : List ARecord) → Holds context.now query.now ks tally.old rows.old
+        → Holds context.now query.now (ks ++ meaning context.now snapshot.now ∷ [])
+        tally.new rows.new) }
+{
+    if is_aggregated(query) {
+        tally.take(alloc, query.group.is_some(), context, snapshot)?;
+    } else {
+        rows.push(expand(alloc, context, snapshot)?)?;
+    }
+    Ok(())
+}
