@@ -1,5 +1,5 @@
 -- What the names of GROUP BY take one after another is what each takes behind those before it.
-use Rattle.std.proofs.Common.{◌≡◌, ℕ, Bool, true, false, ◌&&◌, ◌||◌, List, [], ◌∷◌, ◌++◌, map, filter, refl, sym, ◌∙◌, ap}
+use Rattle.std.proofs.Common.{◌≡◌, ℕ, Bool, true, false, ◌&&◌, ◌||◌, List, [], ◌∷◌, ◌++◌, map, filter, refl, sym, ◌∙◌, ap, if◌then◌else◌}
 use Rattle.std.specs.Prelude.{not}
 use Rattle.std.specs.List.{list_any}
 use Rattle.std.proofs.lemmas.List.Elements.{filter_agree}
@@ -17,7 +17,7 @@ filter_twice p q (e ∷ es) = by (p e) refl
     by : (b : Bool) → p e ≡ b → filter q (filter p (e ∷ es)) ≡ filter (λ e. p e && q e) (e ∷ es)
     by true is = rw is (then (q e) refl)
       where
-        then : (b : Bool) → q e ≡ b → filter q (e ∷ filter p es) ≡ (elim q e as (λ _. List Entry) [ true ↦ e ∷ filter (λ e. p e && q e) es | false ↦ filter (λ e. p e && q e) es ])
+        then : (b : Bool) → q e ≡ b → filter q (e ∷ filter p es) ≡ (if q e then e ∷ filter (λ e. p e && q e) es else filter (λ e. p e && q e) es)
         then true so = rw so (ap (λ xs. e ∷ xs) (filter_twice p q es))
         then false so = rw so (filter_twice p q es)
     by false is = rw is (filter_twice p q es)

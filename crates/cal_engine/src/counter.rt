@@ -62,7 +62,10 @@ impl Counter {
             KernelName::Count => {
                 Part::of(self.kernel, &[weight(&self.seekers, context, snapshot)])
             }
-            _ => Part::of(self.kernel, &numbers(alloc, &self.seekers, context, snapshot)?),
+            _ => Part::of(
+                self.kernel,
+                &numbers(alloc, &self.seekers, context, snapshot)?,
+            ),
         }
     }
 }
@@ -136,12 +139,7 @@ fn numbers(
     Ok(numbers)
 }
 
-fn number_found(
-    whole: bool,
-    seeker: &Seeker,
-    context: &Context,
-    snapshot: &Snapshot,
-) -> Option<Num>
+fn number_found(whole: bool, seeker: &Seeker, context: &Context, snapshot: &Snapshot) -> Option<Num>
     requires { IsIn context.now snapshot.now }
     ensures { KnowsAll context.now seeker.now → result ≡ option_and_then (sought_in whole)
         (value_sought (sought seeker.now) (flat (meaning context.now snapshot.now))) }

@@ -24,7 +24,7 @@ pub(crate) fn made(alloc: Global, query: &Query, rec: Rec) -> Result<Option<Rec>
 }
 
 /// A query without LET and WHERE.
-pub(crate) fn is_plain(query: &Query) -> bool
+fn is_plain(query: &Query) -> bool
     ensures { result ≡ (length query.now.lets == 0 && length query.now.conds == 0) }
 {
     query.lets.is_empty() && query.conds.is_empty()

@@ -1,4 +1,5 @@
 ghost use Rattle.std.specs.Prelude.{◌≡◌, [], ◌++◌, List, length, map, IfOk, OnOk, Some};
+ghost use Rattle.std.specs.List.{list_any};
 ghost use Rattle.std.specs.Option.{option_copied};
 ghost use Rattle.cal_agg.specs.declared.num.Num.{Num as Number};
 ghost use Rattle.cal_filter.specs.Kept.{result_entry as result_entry_of};
@@ -6,7 +7,7 @@ ghost use Rattle.cal_filter.specs.Numbers.{value_of_number as value_of};
 ghost use Rattle.cal_value.specs.declared.record.Rec.{Rec as ARecord};
 ghost use Rattle.cal_engine.specs.Finishing.{entries_of_results, entry_of_result, row_with};
 ghost use Rattle.cal_engine.specs.Finishing.{rows_by, AreGroupParts, AreKept, GroupLists, Lists};
-ghost use Rattle.cal_engine.specs.Finishing.{TakesWhole};
+ghost use Rattle.cal_engine.specs.Finishing.{TakesWhole, is_inclusive};
 ghost use Rattle.cal_engine.specs.Folding.{groups_over};
 ghost use Rattle.cal_engine.specs.Groups.{groups_of};
 ghost use Rattle.cal_engine.specs.Kernels.{contributed, result_of};
@@ -131,9 +132,21 @@ pub(crate) fn group_rows(
     let aggs = query.aggs.as_slice();
     let none = no_parts(alloc, aggs)?;
     let all = total(alloc, parts, &none)?;
-    let below = parts_below(alloc, keys, parts, &none)?;
-    let rows = rows(alloc, aggs, keys, parts, &all, &below)?;
-    Ok(rows)
+    if some_inclusive(aggs) {
+        let below = parts_below(alloc, keys, parts, &none)?;
+        let made = rows(alloc, aggs, keys, parts, &all, &below)?;
+        return Ok(made);
+    }
+    let made = rows(alloc, aggs, keys, parts, &all, parts)?;
+    Ok(made)
+}
+
+/// Whether some kernel looks at the groups below a group.
+fn some_inclusive(aggs: &[Agg]) -> bool
+    ensures { result ≡ list_any (λ agg. is_inclusive agg.kernel) aggs.now }
+{
+    aggs.iter()
+        .any(|agg| matches!(agg.kernel, KernelName::Inclusive))
 }
 
 /// The rows of groups, each of its own parts, of those of all groups, and of those below it.

@@ -2,6 +2,7 @@ ghost use Rattle.std.specs.Prelude.{◌≡◌, ◌<◌, ◌++◌, IsTrue, length
 ghost use Rattle.std.specs.List.{All};
 ghost use Rattle.cal_context.specs.Snapshots.{IsIn, meaning};
 ghost use Rattle.cal_context.specs.Tree.{Grows};
+ghost use Rattle.cal_filter.specs.Conditions.{where_holds};
 ghost use Rattle.cal_filter.specs.Filtered.{IsFiltered};
 ghost use Rattle.cal_ql.specs.Valid.{IsValidQuery};
 ghost use Rattle.cal_ql.specs.declared.query.Query.{Query as AQuery};
@@ -35,6 +36,22 @@ impl Gate {
     {
         let filter = Filter::new(alloc, query, context)?;
         Ok(Gate { filter, small: 0 })
+    }
+
+    /// Answers whether WHERE keeps a snapshot as it is, without LET.
+    pub(crate) fn keeps(
+        &mut self,
+        context: &Context,
+        snapshot: &Snapshot,
+    ) -> Result<bool, OutOfMemory>
+        requires { IsIn context.now snapshot.now }
+        ensures stays { OnOk result ((q : AQuery) → IsGate context.now q self.old
+            → IsGate context.now q self.new) }
+        ensures kept { IfOk result (λ keeps. (q : AQuery) → IsGate context.now q self.old
+            → keeps ≡ where_holds q.conds (meaning context.now snapshot.now)) }
+    {
+        let _ = self.small;
+        self.filter.keeps(context, snapshot)
     }
 
     /// Appends the immediates of LET to a snapshot, and answers whether WHERE keeps it. A number

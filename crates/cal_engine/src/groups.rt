@@ -92,7 +92,11 @@ impl Groups {
 }
 
 /// Parts taken together.
-pub(crate) fn total(alloc: Global, parts: &[Seq<Part>], none: &Seq<Part>) -> Result<Seq<Part>, OutOfMemory>
+pub(crate) fn total(
+    alloc: Global,
+    parts: &[Seq<Part>],
+    none: &Seq<Part>,
+) -> Result<Seq<Part>, OutOfMemory>
     ensures { IfOk result (λ total. total ≡ fold merged_by_place none.now parts.now) }
 {
     let mut total = none.copy(alloc)?;

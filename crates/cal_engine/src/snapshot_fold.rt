@@ -1,5 +1,6 @@
-ghost use Rattle.std.specs.Prelude.{◌≡◌, [], ◌∷◌, ◌++◌, List, IfOk, OnOk};
+ghost use Rattle.std.specs.Prelude.{◌≡◌, [], ◌∷◌, ◌++◌, List, length, IfOk, OnOk};
 ghost use Rattle.cal_context.specs.Snapshots.{IsIn, meaning};
+ghost use Rattle.cal_context.specs.Taking.{TakesMore};
 ghost use Rattle.cal_context.specs.Tree.{Grows};
 ghost use Rattle.cal_ql.specs.Valid.{IsValidQuery};
 ghost use Rattle.cal_value.specs.declared.record.Rec.{Rec as ARecord};
@@ -7,7 +8,6 @@ ghost use Rattle.cal_engine.specs.Answers.{answer_of};
 ghost use Rattle.cal_engine.specs.Standing.{HasFolded};
 ghost use Rattle.cal_engine.specs.Tallies.{Holds};
 
-use crate::filtering::is_plain;
 use crate::fold::{finished, is_aggregated};
 use crate::gate::{Gate, copy_of};
 use crate::tally::Tally;
@@ -53,6 +53,15 @@ impl SnapshotFold {
         })
     }
 
+    /// The query that it was made for.
+    pub fn query(&self) -> &Query
+        ensures { result.now ≡ self.now.query }
+    {
+        let _ = &self.gate;
+        let _ = &self.tally;
+        &self.query
+    }
+
     /// The answer over the records that were taken from a context as it stands. It takes memory and
     /// time in what the fold holds, and n log n comparisons where rows are ordered.
     pub fn finish(self, context: &Context) -> Result<Rowset, OutOfMemory>
@@ -76,25 +85,37 @@ impl SnapshotFold {
     }
 }
 
-impl Taker for SnapshotFold {
-    ghost use Rattle.cal_engine.specs.Standing.{HasFolded};
-    ghost use Rattle.cal_engine.proofs.Staying.{HasFolded-stays};
-
-    ghost has_taken = { HasFolded };
-
-    ghost stays = { HasFolded-stays };
-
-    fn take(&mut self, context: &Context, snapshot: &Snapshot) -> Result<(), OutOfMemory> {
-        if is_plain(&self.query) {
-            return take_kept(
-                self.alloc,
-                &self.query,
-                context,
-                snapshot,
-                &mut self.tally,
-                &mut self.rows,
-            );
+impl SnapshotFold {
+    /// Takes a record of a query without LET.
+    fn take_plain(&mut self, context: &Context, snapshot: &Snapshot) -> Result<(), OutOfMemory>
+        requires within { IsIn context.now snapshot.now }
+        requires plain { length self.old.query.lets ≡ 0 }
+        ensures { OnOk result (TakesMore
+            (HasFolded self.old context.now)
+            (HasFolded self.new context.now)
+            (meaning context.now snapshot.now ∷ [])) }
+    {
+        if !self.gate.keeps(context, snapshot)? {
+            return Ok(());
         }
+        take_kept(
+            self.alloc,
+            &self.query,
+            context,
+            snapshot,
+            &mut self.tally,
+            &mut self.rows,
+        )
+    }
+
+    /// Takes a record with the immediates of LET.
+    fn take_with_lets(&mut self, context: &Context, snapshot: &Snapshot) -> Result<(), OutOfMemory>
+        requires { IsIn context.now snapshot.now }
+        ensures { OnOk result (TakesMore
+            (HasFolded self.old context.now)
+            (HasFolded self.new context.now)
+            (meaning context.now snapshot.now ∷ [])) }
+    {
         let mut full = copy_of(self.alloc, snapshot)?;
         if !self.gate.apply(context, &mut full)? {
             return Ok(());
@@ -107,6 +128,23 @@ impl Taker for SnapshotFold {
             &mut self.tally,
             &mut self.rows,
         )
+    }
+}
+
+impl Taker for SnapshotFold {
+    ghost use Rattle.cal_engine.specs.Standing.{HasFolded};
+    ghost use Rattle.cal_engine.proofs.Staying.{HasFolded-stays};
+
+    ghost has_taken = { HasFolded };
+
+    ghost stays = { HasFolded-stays };
+
+    fn take(&mut self, context: &Context, snapshot: &Snapshot) -> Result<(), OutOfMemory> {
+        if self.query.lets.is_empty() {
+            self.take_plain(context, snapshot)
+        } else {
+            self.take_with_lets(context, snapshot)
+        }
     }
 }
 

@@ -81,11 +81,7 @@ pub(crate) fn path_of(
     path_below(alloc, context, node)
 }
 
-fn path_below(
-    alloc: Global,
-    context: &Context,
-    node: NodeNumber,
-) -> Result<Seq<Entry>, OutOfMemory>
+fn path_below(alloc: Global, context: &Context, node: NodeNumber) -> Result<Seq<Entry>, OutOfMemory>
     requires { IsBelowRoot context.now node }
     ensures { IfOk result (λ path. path ≡ path_at context.now node) }
 {

@@ -99,8 +99,5 @@ impl Compared {
 fn is_whole(value: &Variant) -> bool
     ensures { result ≡ is_some (whole_in value.now) }
 {
-    match number_in(value) {
-        Some(Num::Whole(_)) => true,
-        _ => false,
-    }
+    matches!(number_in(value), Some(Num::Whole(_)))
 }
