@@ -15,11 +15,11 @@ filter_twice p q [] = refl
 filter_twice p q (e ∷ es) = by (p e) refl
   where
     by : (b : Bool) → p e ≡ b → filter q (filter p (e ∷ es)) ≡ filter (λ e. p e && q e) (e ∷ es)
-    by true is = rw is (then (q e) refl)
+    by true is = rw is (inner (q e) refl)
       where
-        then : (b : Bool) → q e ≡ b → filter q (e ∷ filter p es) ≡ (if q e then e ∷ filter (λ e. p e && q e) es else filter (λ e. p e && q e) es)
-        then true so = rw so (ap (λ xs. e ∷ xs) (filter_twice p q es))
-        then false so = rw so (filter_twice p q es)
+        inner : (b : Bool) → q e ≡ b → filter q (e ∷ filter p es) ≡ (if q e then e ∷ filter (λ e. p e && q e) es else filter (λ e. p e && q e) es)
+        inner true so = rw so (ap (λ xs. e ∷ xs) (filter_twice p q es))
+        inner false so = rw so (filter_twice p q es)
     by false is = rw is (filter_twice p q es)
 
 filter_none : (es : List Entry) → filter (λ e. true) es ≡ es

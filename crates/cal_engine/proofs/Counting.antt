@@ -130,13 +130,6 @@ ready_counters t rs cs h =
       knows = All-weaker (KnowsAll t) (Knows t) (λ s x. x.knows) c.seekers.items k.knows;
     }) rs cs h
 
-pub counters-Grows : {old new : Tree} → Grows old new → (rs : List Reading) (cs : List Counter) → AllZip (IsCounter old) rs cs → AllZip (IsCounter new) rs cs
-counters-Grows {old} {new} grows rs cs h =
-    zip_weaker (IsCounter old) (IsCounter new) (λ r c k. record {
-      counts = k.counts;
-      knows = All-weaker (Knows old) (Knows new) (λ s x. knows-Grows grows s x) c.seekers.items k.knows;
-    }) rs cs h
-
 -- one name more has its seeker
 pub seekers_next : (names : List (List ℕ)) (i : ℕ) (name : List ℕ) (seekers now : List Seeker) (s : Seeker) → i < length names → name ≡ get_or names i name
     → now ≡ seekers ++ s ∷ [] → sought s ≡ number_of name → map sought seekers ≡ map number_of (take i names)

@@ -58,12 +58,3 @@ small_record t s is_in small imms =
     All-append has_small (joined (map (path_at t) s.nodes.items)) (map (entry_of t) s.imms.items)
     (small_paths t s.nodes.items small is_in.nodes)
     (All-map has_small (entry_of t) s.imms.items imms)
-
-pub gate-Grows : {old new : Tree} → Grows old new → (q : Query) (g : Gate) → IsGate old q g → IsGate new q g
-gate-Grows {old} {new} grows q g h = record {
-  filter = filter-Grows grows q g.filter h.filter;
-  small = λ n l. let before = h.small n l in record {
-    within = within_paths grows n.0 before.within;
-    small = subst (All has_small) (sym (path_at-Grows grows n before.within)) before.small;
-  };
-}

@@ -8,9 +8,10 @@ use Rattle.std.proofs.lemmas.Grind.{flat_map-append}
 use Rattle.std.proofs.lemmas.List.{map-append, take_more}
 use Rattle.std.proofs.lemmas.List.Elements.{All-get_or, All-head, All-push, All-tail, All-weaker, filter-append}
 use Rattle.cal_context.specs.Lists.{AreApart, Adds, Interns}
-use Rattle.cal_context.specs.Snapshots.{IsBelowRoot, IsIn, meaning}
+use Rattle.cal_context.specs.Snapshots.{IsBelowRoot, IsIn, entry_of, meaning}
 use Rattle.cal_context.specs.Tree.{Tree, Grows, IsContext, path_at}
 use Rattle.cal_context.specs.declared.numbers.NodeNumber.{NodeNumber}
+use Rattle.cal_context.specs.declared.snapshot.Immediate.{Immediate}
 use Rattle.cal_context.specs.declared.snapshot.Snapshot.{Snapshot}
 use Rattle.cal_context.proofs.CallerLemmas.{All-Adds, Grows-refl, one_node, path_at-Grows, root_path, root_within, within_paths}
 use Rattle.cal_context.proofs.ListLemmas.{map-alike}
@@ -38,8 +39,8 @@ ArePaths-Grows {old} {new} grows nodes paths h = record {
   are = map-alike (path_at new) (path_at old) nodes (λ k d l. path_at-Grows grows (get_or nodes k d) (h.within k d l).within) ∙ h.are;
 }
 
-pub no_paths : (t : Tree) → ArePaths t [] []
-no_paths t = record { within = λ k d l. absurd (omega (arith, l)); are = refl }
+pub no_paths : (t : Tree) (nodes : List NodeNumber) → nodes ≡ [] → ArePaths t nodes []
+no_paths t nodes none = subst (λ ns. ArePaths t ns []) (sym none) (record { within = λ k d l. absurd (omega (arith, l)); are = refl })
 
 -- one name more
 pub paths_next : (mid new : Tree) (nodes : List NodeNumber) (paths : List (List Entry)) (es : List Entry) (part : NodeNumber)
@@ -113,6 +114,16 @@ key_of_names mid own r names sieves nodes key grows choices paths imms same =
       within = record { paths = subst (All (IsBelowRoot own)) (sym same) now.within; imms = imms.within };
       is = λ i. record { paths = (ap (map (path_at own)) same ∙ are) i; imms = last i };
     }
+
+pub key_of_snapshot : (t mid own : Tree) (s : Snapshot) (names : List (List ℕ)) (sieves : List Sieve) (ns : List NodeNumber) (is : List Immediate)
+    (nodes : List NodeNumber) (key : GroupKey) → ns ≡ s.nodes.items → is ≡ s.imms.items → Grows mid own → map choice_of sieves ≡ choices_of [] names
+    → ArePaths mid nodes (filter has_entries (map (λ x. in_paths x (joined (map (path_at t) ns))) sieves))
+    → Leads own (joined (map (λ x. beside_paths x (map (entry_of t) is)) sieves)) key.imms → key.paths ≡ nodes
+    → IsKeyOf own (group_of (Some names) (meaning t s)) key
+key_of_snapshot t mid own s names sieves ns is nodes key e f grows choices paths imms same =
+    key_of_names mid own (meaning t s) names sieves nodes key grows choices
+    (subst (λ ms. ArePaths mid nodes (filter has_entries (map (λ x. in_paths x (joined (map (path_at t) ms))) sieves))) e paths)
+    (subst (λ js. Leads own (joined (map (λ x. beside_paths x (map (entry_of t) js)) sieves)) key.imms) f imms) same
 
 pub key_of_nodes : (t : Tree) (s : Snapshot) (key : GroupKey) → IsContext t → IsIn t s → key.paths ≡ s.nodes.items → key.imms ≡ record { 0 = 0 }
     → IsKeyOf t (group_of None (meaning t s)) key
@@ -199,34 +210,6 @@ gathers_in t context old new key fresh all within h = record {
 pub gathered_within : (t : Tree) (old new : Numbered) (key : GroupKey) (fresh : List Gathered) → All (IsKeyIn t) old.keys → IsKeyIn t key
     → GathersKey old key fresh new → All (IsKeyIn t) new.keys
 gathered_within t old new key fresh all within h = All-Adds (IsKeyIn t) old.keys key new.keys all within h.keys.adds
-
--- ---- keys stay while their tree grows
-
-module _ {old new : Tree} (grows : Grows old new) where
-  pub IsKeyIn-Grows : (k : GroupKey) → IsKeyIn old k → IsKeyIn new k
-  IsKeyIn-Grows k h = record {
-    paths = All-weaker (IsBelowRoot old) (IsBelowRoot new) (λ n b. record { below = b.below; within = within_paths grows n.0 b.within }) k.paths h.paths;
-    imms = within_paths grows k.imms.0 h.imms;
-  }
-
-  key_in-Grows : (k : GroupKey) → IsKeyIn old k → key_in new k ≡ key_in old k
-  key_in-Grows k h = λ i. record {
-    paths = map-alike (path_at new) (path_at old) k.paths (λ n d l. path_at-Grows grows (get_or k.paths n d) (h.paths n d l).within) i;
-    imms = path_at-Grows grows k.imms h.imms i;
-  }
-
-  pub keys-Grows : (ks : List GroupKey) → All (IsKeyIn old) ks → All (IsKeyIn new) ks
-  keys-Grows ks h = All-weaker (IsKeyIn old) (IsKeyIn new) IsKeyIn-Grows ks h
-
-  pub grouped_in-Grows : (g : Numbered) → All (IsKeyIn old) g.keys → grouped_in new g ≡ grouped_in old g
-  grouped_in-Grows g h = λ i. record {
-    keys = map-alike (key_in new) (key_in old) g.keys (λ n d l. key_in-Grows (get_or g.keys n d) (h n d l)) i;
-    parts = g.parts;
-  }
-
-pub room_grows : (names : Option (List (List ℕ))) {t u own new : Tree} → Grows t u → Grows own new → Grows (room_of names t own) (room_of names u new)
-room_grows None h g = h
-room_grows (Some names) h g = g
 
 pub room_context : (names : Option (List (List ℕ))) (t own : Tree) → IsContext t → IsContext own → IsContext (room_of names t own)
 room_context None t own h g = h

@@ -215,21 +215,6 @@ ready_stays t {own} {new} grows names sieves h = record {
   sift = All-weaker (SiftsAll t own) (Sifts t new) (λ s k. Sifts-Grows t grows s k.knows) sieves h.sift;
 }
 
--- and while the context grows
-pub sieves-Grows : {t u : Tree} → Grows t u → (own : Tree) (names : List (List ℕ)) (sieves : List Sieve) → AreSieves t own names sieves → AreSieves u own names sieves
-sieves-Grows {t} {u} grows own names sieves h = record {
-  choices = h.choices;
-  sift = All-weaker (Sifts t own) (Sifts u own) by sieves h.sift;
-}
-  where
-    by : (s : Sieve) → Sifts t own s → Sifts u own s
-    by s k = record {
-      nodes = λ n l. let old = k.nodes n l in record {
-        within = within_paths grows n.0 old.within;
-        leads = subst (λ p. Leads own (in_paths s p) (part_at s n)) (sym (path_at-Grows grows n old.within)) old.leads;
-      };
-    }
-
 -- no names have no sieves
 pub no_sieves : (t own : Tree) → AreSieves t own [] []
 no_sieves t own = record { choices = refl; sift = All-nil (Sifts t own) }

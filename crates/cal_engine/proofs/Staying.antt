@@ -13,8 +13,6 @@ use Rattle.cal_engine.specs.Tallies.{Holds}
 use Rattle.cal_engine.specs.declared.tally.Tally.{Tally}
 use Rattle.cal_engine.specs.declared.snapshot_fold.SnapshotFold.{SnapshotFold}
 use Rattle.cal_engine.proofs.Folds.{kept_more}
-use Rattle.cal_engine.proofs.Gating.{gate-Grows}
-use Rattle.cal_engine.proofs.Tallying.{tally-Grows}
 
 -- a record that LET and WHERE make
 pub kept_filtered : (q : Query) (r full : Rec) (keeps : Bool) → IsFiltered q r full keeps → keeps ≡ true → Some full ≡ kept q r
@@ -43,13 +41,3 @@ pub stands_dropped : (t : Tree) (q : Query) (rs : List Rec) (r : Rec) (y : Tally
     → Holds t q (filter_map (kept q) rs) y rows → Holds t q (filter_map (kept q) (rs ++ r ∷ [])) y rows
 stands_dropped t q rs r y rows is h =
     subst (λ ks. Holds t q ks y rows) (sym (kept_more q rs r None is ∙ append-nil (filter_map (kept q) rs))) h
-
-pub HasFolded-stays : (fold : SnapshotFold) (old new : Tree) (rs : List Rec) → HasFolded fold old rs → Grows old new → HasFolded fold new rs
-HasFolded-stays fold old new rs h grows = record {
-  valid = h.valid;
-  gate = gate-Grows grows fold.query fold.gate h.gate;
-  holds = record {
-    groups = λ is. tally-Grows grows fold.query (filter_map (kept fold.query) rs) fold.tally (h.holds.groups is);
-    rows = h.holds.rows;
-  };
-}

@@ -11,19 +11,22 @@ use Rattle.cal_engine.specs.Answers.{answer_over, answer_with}
 use Rattle.cal_engine.specs.Counters.{AreReadyCounters}
 use Rattle.cal_engine.specs.Folding.{Gathers, groups_over}
 use Rattle.cal_engine.specs.Groups.{group_of, groups_of}
-use Rattle.cal_engine.specs.Keys.{IsKeyIn, key_in, room_of}
+use Rattle.cal_engine.specs.Keys.{IsKeyIn, IsKeyOf, key_in, names_in, room_of}
 use Rattle.cal_engine.specs.Numbered.{GathersKey, Numbered, grouped_in}
 use Rattle.cal_engine.specs.Parts.{Gathered, parts_over}
 use Rattle.cal_engine.specs.Readings.{parts_of, reading_of}
 use Rattle.cal_engine.specs.Rows.{is_aggregated, row_of}
+use Rattle.cal_engine.specs.Sieves.{AreReadySieves, AreSieves}
 use Rattle.cal_engine.specs.Tallies.{FindsKey, Holds, IsTally}
 use Rattle.cal_engine.specs.declared.key.GroupKey.{GroupKey}
+use Rattle.cal_engine.specs.declared.sieve.Sieve.{Sieve}
 use Rattle.cal_engine.specs.declared.tally.Tally.{Tally}
-use Rattle.cal_engine.proofs.Counting.{counters-Grows, ready_counters}
+use Rattle.cal_engine.specs.FoldGrows.{grouped_in-Grows, keys-Grows, room_grows}
+use Rattle.cal_engine.proofs.Counting.{ready_counters}
 use Rattle.cal_engine.proofs.Folds.{parts_of_one}
 use Rattle.cal_engine.proofs.Gathering.{groups_over-Gathers}
-use Rattle.cal_engine.proofs.KeyLemmas.{gathered_within, gathers_in, grouped_in-Grows, keys-Grows, room_context, room_grows}
-use Rattle.cal_engine.proofs.Sifting.{sieves-Grows}
+use Rattle.cal_engine.proofs.KeyLemmas.{gathered_within, gathers_in, room_context}
+use Rattle.cal_engine.proofs.Sifting.{ready_stays}
 
 pub tallied : (t : Tree) (q : Query) (rs : List Rec) (r : Rec) (old new : Tally) (parts : List Gathered) (key : GroupKey)
     → IsContext t → IsContext new.own → Grows old.own new.own → AreReadyCounters t q.aggs new.counters.items
@@ -32,13 +35,10 @@ pub tallied : (t : Tree) (q : Query) (rs : List Rec) (r : Rec) (old new : Tally)
 tallied t q rs r old new parts key context own_context grows counters read found gathers h = record {
   counters = ready_counters t (map reading_of q.aggs) new.counters.items counters;
   sieves = found.sieves;
-  keys = gathered_within room old.groups new.groups key parts before found.key.within gathers;
-  groups = groups_over-Gathers q rs r (grouped_in room old.groups) (grouped_in room new.groups) was to_group;
+  keys = gathered_within (room_of q.group t new.own) old.groups new.groups key parts before found.key.within gathers;
+  groups = groups_over-Gathers q rs r (grouped_in (room_of q.group t new.own) old.groups) (grouped_in (room_of q.group t new.own) new.groups) was to_group;
 }
   where
-    room : Tree
-    room = room_of q.group t new.own
-
     room_has_grown : Grows (room_of q.group t old.own) (room_of q.group t new.own)
     room_has_grown = room_grows q.group (Grows-refl t) grows
 
@@ -70,15 +70,27 @@ pub room_by_nodes : (names : Option (List (List ℕ))) (t own : Tree) → is_som
 room_by_nodes None t own e = refl
 room_by_nodes (Some names) t own e = absurd (true≢false e)
 
--- a tally stays right while the context grows
-pub tally-Grows : {t u : Tree} → Grows t u → (q : Query) (rs : List Rec) (y : Tally) → IsTally t q rs y → IsTally u q rs y
-tally-Grows {t} {u} grows q rs y h =
-    let rooms : Grows (room_of q.group t y.own) (room_of q.group u y.own) = room_grows q.group grows (Grows-refl y.own) in record {
-      counters = counters-Grows grows (map reading_of q.aggs) y.counters.items h.counters;
-      sieves = sieves-Grows grows y.own _ y.sieves.items h.sieves;
-      keys = keys-Grows rooms y.groups.keys h.keys;
-      groups = grouped_in-Grows rooms y.groups h.keys ∙ h.groups;
-    }
+-- the key of a record, without GROUP BY and with it
+pub finds_by_nodes : (t own : Tree) (q : Query) (r : Rec) (sieves : List Sieve) (key : GroupKey) → is_some q.group ≡ false
+    → AreSieves t own (names_in q.group) sieves → IsKeyOf t (group_of None r) key → FindsKey t own q r sieves key
+finds_by_nodes t own q r sieves key none are h = record { sieves = are; key = by q.group none }
+  where
+    by : (names : Option (List (List ℕ))) → is_some names ≡ false → IsKeyOf (room_of names t own) (group_of names r) key
+    by None e = h
+    by (Some ns) e = absurd (true≢false e)
+
+pub finds_by_names : (t mid own : Tree) (q : Query) (r : Rec) (sieves : List Sieve) (key : GroupKey) → is_some q.group ≡ true → Grows mid own
+    → AreReadySieves t mid (names_in q.group) sieves
+    → ((ns : List (List ℕ)) → AreReadySieves t mid ns sieves → IsKeyOf own (group_of (Some ns) r) key) → FindsKey t own q r sieves key
+finds_by_names t mid own q r sieves key some grows ready finds = record {
+  sieves = ready_stays t grows (names_in q.group) sieves ready;
+  key = by q.group some ready;
+}
+  where
+    by : (names : Option (List (List ℕ))) → is_some names ≡ true → AreReadySieves t mid (names_in names) sieves
+        → IsKeyOf (room_of names t own) (group_of names r) key
+    by None e k = absurd (true≢false (sym e))
+    by (Some ns) e k = finds ns k
 
 -- the answer over what was kept
 pub answer_grouped : (q : Query) (ks rows : List Rec) (answer : Rowset) → is_aggregated q ≡ true → rows ≡ map (row_of q ks) (groups_of q.group ks)

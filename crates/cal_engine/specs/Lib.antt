@@ -20,3 +20,4 @@ pub mod Counters
 pub mod Tallies
 pub mod Gates
 pub mod Standing
+pub mod FoldGrows

@@ -25,12 +25,12 @@ pub record IsTally (t : Tree) (q : Query) (rs : List Rec) (y : Tally) : Type 0 w
   pub groups : grouped_in (room_of q.group t y.own) y.groups ≡ groups_over q rs
 
 -- the key of a record was found
-pub record FindsKey (t own : Tree) (q : Query) (r : Rec) (sieves : List Sieve) (key : GroupKey)
+pub record FindsKey (t own : Tree) (q : Query) (r : Rec) (known : List Sieve) (found : GroupKey)
     : Type 0 where
-  pub sieves : AreSieves t own (names_in q.group) sieves
-  pub key : IsKeyOf (room_of q.group t own) (group_of q.group r) key
+  pub sieves : AreSieves t own (names_in q.group) known
+  pub key : IsKeyOf (room_of q.group t own) (group_of q.group r) found
 
 -- A query's rows or groups are those of the kept records.
-pub record Holds (t : Tree) (q : Query) (ks : List Rec) (y : Tally) (rows : List Rec) : Type 0 where
+pub record Holds (t : Tree) (q : Query) (ks : List Rec) (y : Tally) (made : List Rec) : Type 0 where
   pub groups : is_aggregated q ≡ true → IsTally t q ks y
-  pub rows : is_aggregated q ≡ false → rows ≡ ks
+  pub rows : is_aggregated q ≡ false → made ≡ ks

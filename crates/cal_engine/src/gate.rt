@@ -51,7 +51,8 @@ impl Gate {
             → keeps ≡ where_holds q.conds (meaning context.now snapshot.now)) }
     {
         let _ = self.small;
-        self.filter.keeps(context, snapshot)
+        let keeps = self.filter.keeps(context, snapshot)?;
+        Ok(keeps)
     }
 
     /// Appends the immediates of LET to a snapshot, and answers whether WHERE keeps it. A number
@@ -73,7 +74,8 @@ impl Gate {
         if !are_small(&snapshot.imms) {
             return Err(OutOfMemory);
         }
-        self.filter.apply(context, snapshot)
+        let keeps = self.filter.apply(context, snapshot)?;
+        Ok(keeps)
     }
 
     /// Looks at the numbers of the nodes that are new in a context.

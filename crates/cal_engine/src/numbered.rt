@@ -76,6 +76,7 @@ impl NumberedGroups {
             → rows ≡ map (row_by query.now rs) (groups_of query.now.group rs)) }
     {
         let keys = expanded_keys(alloc, tree, self.keys.as_slice())?;
-        group_rows(alloc, query, &keys, &self.parts)
+        let rows = group_rows(alloc, query, &keys, &self.parts)?;
+        Ok(rows)
     }
 }

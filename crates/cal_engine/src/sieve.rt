@@ -1,10 +1,11 @@
 ghost use Rattle.std.specs.Prelude.{◌≡◌, ◌<◌, ◌++◌, ◌∷◌, [], List, length, map, IfOk, OnOk};
-ghost use Rattle.std.specs.List.{All};
+ghost use Rattle.std.specs.List.{All, list_any};
 ghost use Rattle.cal_context.specs.Snapshots.{IsBelowRoot, entry_of};
 ghost use Rattle.cal_context.specs.Tree.{Grows, Tree, path_at};
 ghost use Rattle.cal_value.specs.Flat.{joined as joined_paths};
 ghost use Rattle.cal_value.specs.declared.attribute.Entry.{Entry as AnEntry};
 ghost use Rattle.cal_engine.specs.Choices.{chooses_attribute};
+ghost use Rattle.cal_engine.specs.Groups.{takes_attribute};
 ghost use Rattle.cal_engine.specs.Sieves.{IsSifted, Sifts, SiftsAll, beside_paths, choice_of};
 ghost use Rattle.cal_engine.specs.Sieves.{in_paths, part_at};
 ghost use Rattle.cal_engine.specs.Totals.{Leads};
@@ -82,19 +83,16 @@ impl Sieve {
         if !self.chooses(true, attribute) {
             return Ok(above);
         }
-        step(own, above, attribute, context.value_at(link.value))
+        let part = step(own, above, attribute, context.value_at(link.value))?;
+        Ok(part)
     }
 
     /// Whether it takes the entries of an attribute.
     fn chooses(&self, in_path: bool, attribute: &Attribute) -> bool
         ensures { result ≡ chooses_attribute in_path (choice_of self.now) attribute.now }
     {
-        let earlier = self
-            .earlier
-            .as_slice()
-            .iter()
-            .any(|name| takes(in_path, name, attribute));
-        !earlier && takes(in_path, &self.name, attribute)
+        !takes_some(in_path, self.earlier.as_slice(), attribute)
+            && takes(in_path, &self.name, attribute)
     }
 
     /// What is kept for a node.
@@ -164,6 +162,14 @@ impl Sieve {
         if !self.chooses(false, attribute) {
             return Ok(from);
         }
-        step(own, from, attribute, &imm.value)
+        let node = step(own, from, attribute, &imm.value)?;
+        Ok(node)
     }
+}
+
+/// Whether some name takes the entries of an attribute.
+fn takes_some(in_path: bool, names: &[Text], attribute: &Attribute) -> bool
+    ensures { result ≡ list_any (λ name. takes_attribute in_path name attribute.now) names.now }
+{
+    names.iter().any(|name| takes(in_path, name, attribute))
 }

@@ -105,7 +105,8 @@ impl SnapshotFold {
             snapshot,
             &mut self.tally,
             &mut self.rows,
-        )
+        )?;
+        Ok(())
     }
 
     /// Takes a record with the immediates of LET.
@@ -127,13 +128,14 @@ impl SnapshotFold {
             &full,
             &mut self.tally,
             &mut self.rows,
-        )
+        )?;
+        Ok(())
     }
 }
 
 impl Taker for SnapshotFold {
+    ghost use Rattle.cal_engine.specs.FoldGrows.{HasFolded-stays};
     ghost use Rattle.cal_engine.specs.Standing.{HasFolded};
-    ghost use Rattle.cal_engine.proofs.Staying.{HasFolded-stays};
 
     ghost has_taken = { HasFolded };
 
@@ -141,10 +143,11 @@ impl Taker for SnapshotFold {
 
     fn take(&mut self, context: &Context, snapshot: &Snapshot) -> Result<(), OutOfMemory> {
         if self.query.lets.is_empty() {
-            self.take_plain(context, snapshot)
+            self.take_plain(context, snapshot)?;
         } else {
-            self.take_with_lets(context, snapshot)
+            self.take_with_lets(context, snapshot)?;
         }
+        Ok(())
     }
 }
 

@@ -60,7 +60,8 @@ pub(crate) fn joined(
         return Ok(other);
     }
     let path = path_of(alloc, context, other)?;
-    reach_from(context, node, path.as_slice())
+    let both = reach_from(context, node, path.as_slice())?;
+    Ok(both)
 }
 
 /// The path of a node. A node that isn't there is answered as want of memory is.

@@ -72,7 +72,8 @@ impl Tally {
             &mut self.own,
         )?;
         self.own.has_each_once();
-        self.groups.gather(alloc, key, parts)
+        self.groups.gather(alloc, key, parts)?;
+        Ok(())
     }
 
     /// The rows of the groups of a query.
@@ -87,10 +88,11 @@ impl Tally {
             → rows ≡ map (row_by query.now rs) (groups_of query.now.group rs)) }
     {
         if query.group.is_some() {
-            self.groups.rows(alloc, query, &self.own)
-        } else {
-            self.groups.rows(alloc, query, context)
+            let rows = self.groups.rows(alloc, query, &self.own)?;
+            return Ok(rows);
         }
+        let rows = self.groups.rows(alloc, query, context)?;
+        Ok(rows)
     }
 }
 
@@ -113,5 +115,6 @@ fn key_of(
         return key_by_nodes(alloc, context, snapshot);
     }
     know_nodes(sieves.as_mut_slice(), context, own)?;
-    key_by_names(alloc, context, sieves, own, snapshot)
+    let key = key_by_names(alloc, context, sieves, own, snapshot)?;
+    Ok(key)
 }

@@ -19,5 +19,5 @@ loop-counter-preserved c = λ rs zip.
 pub returns : goal.returns
 returns c = λ rs zip.
     let counted = zip_length (IsReadyCounter c.args.context.now) rs c.args.counters.now zip in
-    c.loop-counter.invariant rs zip
+    c.from_vec.ensures ∙ c.loop-counter.invariant rs zip
     ∙ ap (λ xs. parts_of xs (meaning c.args.context.now c.args.snapshot.now)) (take_all c.loop-counter.counter-index rs (omega arith))

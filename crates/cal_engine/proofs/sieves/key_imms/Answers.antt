@@ -15,11 +15,11 @@ loop-sieve-init c = record { grows = Grows-refl c.args.own.now; leads = leads-no
 
 pub loop-sieve-preserved : goal.loop-sieve-preserved
 loop-sieve-preserved c = record {
-  grows = Grows-trans c.args.own.now c.loop-sieve.own c.add.new.own c.loop-sieve.invariant.grows c.in_ok-add.ensures.grows;
+  grows = Grows-trans c.args.own.now c.loop-sieve.own c.add.new.own c.loop-sieve.invariant.grows c.in_ok-node.ensures.grows;
   leads =
       imms_more c.loop-sieve.own c.add.new.own (λ s. beside_paths s (map (entry_of c.args.context.now) c.args.imms.now)) c.args.sieves.now
-      c.loop-sieve.sieve-index c.sieve-item.result c.loop-sieve.node c.in_ok-add.field-0 (omega arith) c.sieve-item.is
-      c.in_ok-add.ensures.leads c.loop-sieve.invariant.leads;
+      c.loop-sieve.sieve-index c.sieve-item.result c.loop-sieve.node c.in_ok-node.node (omega arith) c.sieve-item.is
+      c.in_ok-node.ensures.leads c.loop-sieve.invariant.leads;
 }
 
 pub returns-clause-leads : goal.returns-clause-leads

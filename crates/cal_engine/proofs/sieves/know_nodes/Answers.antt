@@ -1,4 +1,4 @@
-use Rattle.std.proofs.Common.{arith, refl, slice_set, subst, sym}
+use Rattle.std.proofs.Common.{arith, get_or, refl, slice_set, subst, sym}
 use Rattle.cal_context.proofs.CallerLemmas.{Grows-refl, Grows-trans}
 use Rattle.cal_filter.proofs.Zips.{replace_all, replace_next, replace_none}
 use Rattle.cal_engine.proofs.Sifting.{CatchesUp, Sifts-Grows, replacing_grows, zip_ready}
@@ -13,9 +13,10 @@ loop-sieve-init c = record {
 pub loop-sieve-preserved : goal.loop-sieve-preserved
 loop-sieve-preserved c =
     let t = c.args.context.now in
-    let up : CatchesUp t c.args.own.now c.catch_up.new.own c.sieve-item.result c.catch_up.new.self = record {
+    let x = get_or c.loop-sieve.sieves c.loop-sieve.sieve-index c.sieve-item.result in
+    let up : CatchesUp t c.args.own.now c.catch_up.new.own x c.catch_up.new.self = record {
       same = c.in_ok-catch_up.ensures.same;
-      sifts = λ h. c.in_ok-catch_up.ensures.sifts (Sifts-Grows t c.loop-sieve.invariant.grows c.sieve-item.result h);
+      sifts = λ h. c.in_ok-catch_up.ensures.sifts (Sifts-Grows t c.loop-sieve.invariant.grows x h);
     } in
     record {
       grows = Grows-trans c.args.own.now c.loop-sieve.own c.catch_up.new.own c.loop-sieve.invariant.grows c.in_ok-catch_up.ensures.grows;
@@ -25,7 +26,8 @@ loop-sieve-preserved c =
           c.loop-sieve.sieve-index c.sieve-item.result c.catch_up.new.self
           (replacing_grows t c.args.own.now c.loop-sieve.own c.catch_up.new.own c.args.sieves.now c.loop-sieve.sieves c.loop-sieve.sieve-index
           c.in_ok-catch_up.ensures.grows c.loop-sieve.invariant.replaced)
-          (omega arith) c.sieve-item.is refl up;
+          (omega arith) c.sieve-item.is refl
+          (subst (λ y. CatchesUp t c.args.own.now c.catch_up.new.own y c.catch_up.new.self) (sym c.sieve-item.is) up);
     }
 
 pub returns-clause-ready : goal.returns-clause-ready

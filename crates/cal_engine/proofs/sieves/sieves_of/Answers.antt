@@ -6,8 +6,8 @@ use Rattle.cal_engine.proofs.sieves.sieves_of.Goals as goal
 
 pub loop-place-preserved : goal.loop-place-preserved
 loop-place-preserved c = record {
-  choices = choices_next c.args.names.now c.loop-place.place c.name-item.result c.loop-place.sieves.items c.push.new.self.items c.new.result
-      (omega arith) c.name-item.is c.in_ok-push.ensures.items
+  choices = choices_next c.args.names.now c.loop-place.place c.index-names-place.result c.loop-place.sieves.items c.push.new.self.items c.new.result
+      (omega arith) c.index-names-place.is c.in_ok-push.ensures.items
       (c.new.ensures.choice ∙ (λ i. record { earlier = c.in_ok-earlier.ensures i; name = c.in_ok-copy.ensures i }))
       c.loop-place.invariant.choices;
   sift = λ t own.

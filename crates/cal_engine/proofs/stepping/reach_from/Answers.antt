@@ -14,9 +14,9 @@ loop-entry-init c = record {
 
 pub loop-entry-preserved : goal.loop-entry-preserved
 loop-entry-preserved c = record {
-  grows = Grows-trans c.args.context.now c.loop-entry.context c.step.new.context c.loop-entry.invariant.grows c.in_ok-step.ensures.grows;
-  leads = λ before h. leads-more c.loop-entry.context c.step.new.context before c.args.path.now c.loop-entry.entry-index c.entry-item.result c.loop-entry.node c.in_ok-step.field-0
-      c.loop-entry-test.true c.entry-item.is (c.loop-entry.invariant.leads before h) c.in_ok-step.ensures.step;
+  grows = Grows-trans c.args.context.now c.loop-entry.context c.step.new.context c.loop-entry.invariant.grows c.in_ok-node.ensures.grows;
+  leads = λ before h. leads-more c.loop-entry.context c.step.new.context before c.args.path.now c.loop-entry.entry-index c.entry-item.result c.loop-entry.node c.in_ok-node.node
+      c.loop-entry-test.true c.entry-item.is (c.loop-entry.invariant.leads before h) c.in_ok-node.ensures.step;
 }
 
 pub returns-clause-leads : goal.returns-clause-leads

@@ -17,10 +17,10 @@ loop-imm-init c = record {
 
 pub loop-imm-preserved : goal.loop-imm-preserved
 loop-imm-preserved c = record {
-  grows = Grows-trans c.args.own.now c.loop-imm.own c.add_one.new.own c.loop-imm.invariant.grows c.in_ok-add_one.ensures.grows;
+  grows = Grows-trans c.args.own.now c.loop-imm.own c.add_one.new.own c.loop-imm.invariant.grows c.in_ok-node.ensures.grows;
   leads = λ es h.
       added_next c.args.context.now c.loop-imm.own c.add_one.new.own c.args.self.now c.args.imms.now c.loop-imm.imm-index c.imm-item.result es c.loop-imm.node
-      c.in_ok-add_one.field-0 (omega arith) c.imm-item.is c.in_ok-add_one.ensures.leads (c.loop-imm.invariant.leads es h);
+      c.in_ok-node.node (omega arith) c.imm-item.is c.in_ok-node.ensures.leads (c.loop-imm.invariant.leads es h);
 }
 
 pub returns-clause-leads : goal.returns-clause-leads

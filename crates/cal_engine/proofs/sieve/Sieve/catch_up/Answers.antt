@@ -6,7 +6,7 @@ use Rattle.cal_engine.proofs.Sifting.{sifts_next}
 use Rattle.cal_engine.proofs.sieve.Sieve.catch_up.Goals as goal
 
 pub loop-place-init : goal.loop-place-init
-loop-place-init c = record { counted = refl; same = refl; grows = Grows-refl c.args.own.now; sifts = λ h. h }
+loop-place-init c = record { counted = omega arith; same = refl; grows = Grows-refl c.args.own.now; sifts = λ h. h }
 
 pub loop-place-preserved : goal.loop-place-preserved
 loop-place-preserved c = record {

@@ -1,13 +1,14 @@
-use Rattle.std.proofs.Common.{List, map, take, refl, subst, arith}
+use Rattle.std.proofs.Common.{◌<◌, List, length, map, get_or, subst, arith}
 use Rattle.std.proofs.lemmas.List.{take_all}
 use Rattle.cal_context.specs.Tree.{path_at}
 use Rattle.cal_context.specs.declared.numbers.NodeNumber.{NodeNumber}
 use Rattle.cal_context.proofs.CallerLemmas.{Grows-refl, Grows-trans}
+use Rattle.cal_filter.proofs.Zips.{get_or-inside}
 use Rattle.cal_value.specs.Flat.{joined}
 use Rattle.cal_engine.specs.Sieves.{in_paths}
 use Rattle.cal_engine.specs.Totals.{Leads}
 use Rattle.cal_engine.proofs.Reaching.{leads-none}
-use Rattle.cal_engine.proofs.Sifting.{gathered_next}
+use Rattle.cal_engine.proofs.Sifting.{gathered_next, root}
 use Rattle.cal_engine.proofs.sieve.Sieve.gather.Goals as goal
 
 pub loop-node-init : goal.loop-node-init
@@ -18,11 +19,13 @@ loop-node-init c = record {
 
 pub loop-node-preserved : goal.loop-node-preserved
 loop-node-preserved c = record {
-  grows = Grows-trans c.args.own.now c.loop-node.own c.joined.new.context c.loop-node.invariant.grows c.in_ok-joined.ensures.grows;
+  grows = Grows-trans c.args.own.now c.loop-node.own c.joined.new.context c.loop-node.invariant.grows c.in_ok-part.ensures.grows;
   gathered = λ t sifts below.
-      gathered_next t c.args.own.now c.loop-node.own c.joined.new.context c.args.self.now c.args.nodes.now c.loop-node.node-index _ c.loop-node.part c.in_ok-joined.field-0
-      c.part.result c.loop-node.invariant.grows (omega arith) refl sifts below c.part.ensures
-      (c.loop-node.invariant.gathered t sifts below) c.in_ok-joined.ensures.leads;
+      let n = get_or c.args.nodes.now c.loop-node.node-index root in
+      let short : c.loop-node.node-index < length c.args.nodes.now = omega arith in
+      gathered_next t c.args.own.now c.loop-node.own c.joined.new.context c.args.self.now c.args.nodes.now c.loop-node.node-index n c.loop-node.part c.in_ok-part.part
+      c.part.result c.loop-node.invariant.grows short (get_or-inside c.args.nodes.now c.loop-node.node-index root n short) sifts below c.part.ensures
+      (c.loop-node.invariant.gathered t sifts below) c.in_ok-part.ensures.leads;
 }
 
 pub returns-clause-gathered : goal.returns-clause-gathered
