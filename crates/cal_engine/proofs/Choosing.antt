@@ -1,5 +1,5 @@
 -- What the names of GROUP BY take one after another is what each takes behind those before it.
-use Rattle.std.proofs.Common.{◌≡◌, ℕ, Bool, true, false, ◌&&◌, ◌||◌, List, [], ◌∷◌, ◌++◌, map, filter, refl, sym, ◌∙◌, ap, if◌then◌else◌}
+use Rattle.std.proofs.Common.{◌≡◌, ℕ, Bool, true, false, ◌&&◌, ◌||◌, List, [], ◌∷◌, ◌++◌, map, filter, refl, sym, ◌∙◌, ap}
 use Rattle.std.specs.Prelude.{not}
 use Rattle.std.specs.List.{list_any}
 use Rattle.std.proofs.lemmas.List.Elements.{filter_agree}
@@ -10,17 +10,15 @@ use Rattle.cal_engine.specs.Groups.{taken, takes}
 use Rattle.cal_engine.specs.Sieves.{choice_of}
 use Rattle.cal_engine.specs.declared.sieve.Sieve.{Sieve}
 
+twice_next : (p q : Entry → Bool) (e : Entry) (es : List Entry) → filter q (filter p es) ≡ filter (λ e. p e && q e) es
+    → (b : Bool) → p e ≡ b → (d : Bool) → q e ≡ d → filter q (filter p (e ∷ es)) ≡ filter (λ e. p e && q e) (e ∷ es)
+twice_next p q e es rest false is d so = rw is rest
+twice_next p q e es rest true is true so = rw (is, so) (ap (λ xs. e ∷ xs) rest)
+twice_next p q e es rest true is false so = rw (is, so) rest
+
 filter_twice : (p q : Entry → Bool) (es : List Entry) → filter q (filter p es) ≡ filter (λ e. p e && q e) es
 filter_twice p q [] = refl
-filter_twice p q (e ∷ es) = by (p e) refl
-  where
-    by : (b : Bool) → p e ≡ b → filter q (filter p (e ∷ es)) ≡ filter (λ e. p e && q e) (e ∷ es)
-    by true is = rw is (inner (q e) refl)
-      where
-        inner : (b : Bool) → q e ≡ b → filter q (e ∷ filter p es) ≡ (if q e then e ∷ filter (λ e. p e && q e) es else filter (λ e. p e && q e) es)
-        inner true so = rw so (ap (λ xs. e ∷ xs) (filter_twice p q es))
-        inner false so = rw so (filter_twice p q es)
-    by false is = rw is (filter_twice p q es)
+filter_twice p q (e ∷ es) = twice_next p q e es (filter_twice p q es) (p e) refl (q e) refl
 
 filter_none : (es : List Entry) → filter (λ e. true) es ≡ es
 filter_none [] = refl

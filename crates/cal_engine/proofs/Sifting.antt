@@ -145,6 +145,20 @@ added_next t mid new s imms i x es node now short read adds before =
     ∙ ap (λ p. es ++ p) (sym (imms_next t s imms i x short read)))
     (adds (es ++ beside_paths s (map (entry_of t) (take i imms))) before)
 
+-- an immediate that isn't taken, and one that is
+pub added_none : (t own : Tree) (s : Sieve) (x : Immediate) (es : List Entry) (from : NodeNumber) → chooses false (choice_of s) (entry_of t x) ≡ false
+    → Leads own es from → Leads own (es ++ beside_paths s (entry_of t x ∷ [])) from
+added_none t own s x es from isnt h =
+    subst (λ b. Leads own (es ++ (if b then entry_of t x ∷ [] else [])) from) (sym isnt)
+    (subst (λ p. Leads own p from) (sym (append-nil es)) h)
+
+pub added_one : (t own new : Tree) (s : Sieve) (x : Immediate) (e : Entry) (es : List Entry) (from node : NodeNumber)
+    → chooses false (choice_of s) (entry_of t x) ≡ true → e ≡ entry_of t x → IsStep own new from e node
+    → Leads own es from → Leads new (es ++ beside_paths s (entry_of t x ∷ [])) node
+added_one t own new s x e es from node is e_is step h =
+    subst (λ b. Leads new (es ++ (if b then entry_of t x ∷ [] else [])) node) (sym is)
+    (record { within = step.within; is = step.path ∙ (λ i. h.is i ++ e_is i ∷ []) })
+
 -- ---- the sieves of names
 
 pub choices_push : (earlier names : List (List ℕ)) (name : List ℕ)

@@ -2,12 +2,11 @@
 use Rattle.std.proofs.Common.{◌≡◌, ℕ, Bool, true, false, true≢false, List, [], ◌∷◌, ◌++◌, Option, None, Some, length, map, refl, sym, ◌∙◌, ap, subst, arith, if◌then◌else◌}
 use Rattle.std.specs.Prelude.{is_some}
 use Rattle.std.specs.List.{All}
+use Rattle.std.proofs.lemmas.List.Elements.{All-nil}
 use Rattle.cal_context.specs.Tree.{Tree, Grows, IsContext}
 use Rattle.cal_context.proofs.CallerLemmas.{Grows-refl}
 use Rattle.cal_ql.specs.declared.query.Query.{Query}
-use Rattle.cal_rowset.specs.declared.rowset.Rowset.{Rowset}
 use Rattle.cal_value.specs.declared.record.Rec.{Rec}
-use Rattle.cal_engine.specs.Answers.{answer_over, answer_with}
 use Rattle.cal_engine.specs.Counters.{AreReadyCounters}
 use Rattle.cal_engine.specs.Folding.{Gathers, groups_over}
 use Rattle.cal_engine.specs.Groups.{group_of, groups_of}
@@ -15,7 +14,7 @@ use Rattle.cal_engine.specs.Keys.{IsKeyIn, IsKeyOf, key_in, names_in, room_of}
 use Rattle.cal_engine.specs.Numbered.{GathersKey, Numbered, grouped_in}
 use Rattle.cal_engine.specs.Parts.{Gathered, parts_over}
 use Rattle.cal_engine.specs.Readings.{parts_of, reading_of}
-use Rattle.cal_engine.specs.Rows.{is_aggregated, row_of}
+use Rattle.cal_engine.specs.Rows.{is_aggregated, row_of, rows_of}
 use Rattle.cal_engine.specs.Sieves.{AreReadySieves, AreSieves}
 use Rattle.cal_engine.specs.Tallies.{FindsKey, Holds, IsTally}
 use Rattle.cal_engine.specs.declared.key.GroupKey.{GroupKey}
@@ -61,6 +60,13 @@ tallied t q rs r old new parts key context own_context grows counters read found
         (subst (λ ps. Gathers (grouped_in (room_of q.group t new.own) old.groups) (key_in (room_of q.group t new.own) key) ps (grouped_in (room_of q.group t new.own) new.groups))
         (read ∙ parts_of_one q.aggs r) to_key)
 
+-- no groups yet
+pub no_keys : (room : Tree) (g : Numbered) → g ≡ record { keys = []; parts = [] } → All (IsKeyIn room) g.keys
+no_keys room g e = subst (λ (n : Numbered). All (IsKeyIn room) n.keys) (sym e) (All-nil (IsKeyIn room))
+
+pub no_groups_in : (room : Tree) (q : Query) (g : Numbered) → g ≡ record { keys = []; parts = [] } → grouped_in room g ≡ groups_over q []
+no_groups_in room q g e = ap (grouped_in room) e
+
 -- the tree of the keys
 pub room_by_name : (names : Option (List (List ℕ))) (t own : Tree) → is_some names ≡ true → room_of names t own ≡ own
 room_by_name None t own e = absurd (true≢false (sym e))
@@ -92,16 +98,15 @@ finds_by_names t mid own q r sieves key some grows ready finds = record {
     by None e k = absurd (true≢false (sym e))
     by (Some ns) e k = finds ns k
 
--- the answer over what was kept
-pub answer_grouped : (q : Query) (ks rows : List Rec) (answer : Rowset) → is_aggregated q ≡ true → rows ≡ map (row_of q ks) (groups_of q.group ks)
-    → answer ≡ answer_with q rows → answer ≡ answer_over q ks
-answer_grouped q ks rows answer agg made is =
-    is ∙ ap (answer_with q) (made ∙ sym (ap (λ b. if b then map (row_of q ks) (groups_of q.group ks) else ks) agg))
+-- the rows of what is held
+pub rows_held : (t : Tree) (q : Query) (ks made rows : List Rec) (y : Tally) → is_aggregated q ≡ true
+    → (IsTally t q ks y → made ≡ map (row_of q ks) (groups_of q.group ks)) → Holds t q ks y rows → made ≡ rows_of q ks
+rows_held t q ks made rows y agg makes h =
+    makes (h.groups agg) ∙ sym (ap (λ b. if b then map (row_of q ks) (groups_of q.group ks) else ks) agg)
 
-pub answer_kept : (q : Query) (ks rows : List Rec) (answer : Rowset) → is_aggregated q ≡ false → rows ≡ ks
-    → answer ≡ answer_with q rows → answer ≡ answer_over q ks
-answer_kept q ks rows answer agg made is =
-    is ∙ ap (answer_with q) (made ∙ sym (ap (λ b. if b then map (row_of q ks) (groups_of q.group ks) else ks) agg))
+pub rows_plain : (t : Tree) (q : Query) (ks rows : List Rec) (y : Tally) → is_aggregated q ≡ false → Holds t q ks y rows → rows ≡ rows_of q ks
+rows_plain t q ks rows y plain h =
+    h.rows plain ∙ sym (ap (λ b. if b then map (row_of q ks) (groups_of q.group ks) else ks) plain)
 
 -- one more record that is held
 pub holds_group : (t : Tree) (q : Query) (ks : List Rec) (r : Rec) (y z : Tally) (rows now : List Rec) → is_aggregated q ≡ true

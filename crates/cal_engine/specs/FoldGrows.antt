@@ -1,5 +1,5 @@
 -- What a fold over snapshots has taken stays while the context grows.
-use Rattle.std.specs.Prelude.{◌≡◌, ◌<◌, List, Option, None, Some, length, map, filter, slice_index_or as get_or}
+use Rattle.std.specs.Prelude.{◌≡◌, ℕ, ◌<◌, List, Option, None, Some, length, map, filter, slice_index_or as get_or}
 use Rattle.std.specs.List.{All, AllZip, filter_map}
 use Rattle.std.proofs.Common.{refl, sym, ap, subst, ◌∙◌}
 use Rattle.std.proofs.lemmas.List.Elements.{All-weaker}

@@ -5,6 +5,7 @@ ghost use Rattle.cal_context.specs.Tree.{Grows};
 ghost use Rattle.cal_ql.specs.Valid.{IsValidQuery};
 ghost use Rattle.cal_value.specs.declared.record.Rec.{Rec as ARecord};
 ghost use Rattle.cal_engine.specs.Answers.{answer_of};
+ghost use Rattle.cal_engine.specs.Rows.{rows_of};
 ghost use Rattle.cal_engine.specs.Standing.{HasFolded};
 ghost use Rattle.cal_engine.specs.Tallies.{Holds};
 
@@ -75,11 +76,7 @@ impl SnapshotFold {
             tally,
             rows,
         } = self;
-        let rows = if is_aggregated(&query) {
-            tally.rows(alloc, &query, context)?
-        } else {
-            rows
-        };
+        let rows = made_rows(alloc, &query, context, &tally, rows)?;
         let answer = finished(alloc, &query, rows)?;
         Ok(answer)
     }
@@ -95,7 +92,8 @@ impl SnapshotFold {
             (HasFolded self.new context.now)
             (meaning context.now snapshot.now ∷ [])) }
     {
-        if !self.gate.keeps(context, snapshot)? {
+        let keeps = self.gate.keeps(context, snapshot)?;
+        if !keeps {
             return Ok(());
         }
         take_kept(
@@ -118,7 +116,8 @@ impl SnapshotFold {
             (meaning context.now snapshot.now ∷ [])) }
     {
         let mut full = copy_of(self.alloc, snapshot)?;
-        if !self.gate.apply(context, &mut full)? {
+        let keeps = self.gate.apply(context, &mut full)?;
+        if !keeps {
             return Ok(());
         }
         take_kept(
@@ -167,8 +166,26 @@ fn take_kept(
 {
     if is_aggregated(query) {
         tally.take(alloc, query.group.is_some(), context, snapshot)?;
-    } else {
-        rows.push(expand(alloc, context, snapshot)?)?;
+        return Ok(());
     }
+    rows.push(expand(alloc, context, snapshot)?)?;
     Ok(())
+}
+
+/// The rows of an answer before they are ordered.
+fn made_rows(
+    alloc: Global,
+    query: &Query,
+    context: &Context,
+    tally: &Tally,
+    rows: Seq<Rec>,
+) -> Result<Seq<Rec>, OutOfMemory>
+    ensures { IfOk result (λ made. (ks : List ARecord)
+        → Holds context.now query.now ks tally.now rows → made ≡ rows_of query.now ks) }
+{
+    if is_aggregated(query) {
+        let made = tally.rows(alloc, query, context)?;
+        return Ok(made);
+    }
+    Ok(rows)
 }
