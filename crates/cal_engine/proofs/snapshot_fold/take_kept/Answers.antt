@@ -7,7 +7,7 @@ pub returns-then-is_aggregated : goal.returns-then-is_aggregated
 returns-then-is_aggregated c = λ ks h.
     holds_group c.args.context.now c.args.query.now ks (meaning c.args.context.now c.args.snapshot.now) c.args.tally.now c.take.new.self
     c.args.rows.now c.args.rows.now (sym c.is_aggregated.ensures ∙ c.if-is_aggregated.true)
-    (c.in_ok-take.ensures c.args.query.now ks c.is_some.ensures.value) h
+    (c.in_ok-take.ensures c.args.query.now ks c.is_some.ensures) h
 
 pub returns : goal.returns
 returns c = λ ks h.

@@ -1,12 +1,8 @@
 use Rattle.std.proofs.Common.{true, ◌<◌, length, sym, subst, ap, ◌∙◌, arith}
 use Rattle.cal_engine.specs.Choices.{chooses_attribute}
 use Rattle.cal_engine.specs.Sieves.{IsSifted, choice_of}
-use Rattle.cal_engine.proofs.Sifting.{sifted_above, sifted_own, sifted_root}
+use Rattle.cal_engine.proofs.Sifting.{sifted_above, sifted_own}
 use Rattle.cal_engine.proofs.sieve.Sieve.sifted.Goals as goal
-
-pub returns-in-None-clause-sifted : goal.returns-in-None-clause-sifted
-returns-in-None-clause-sifted c = λ h.
-    sifted_root c.args.context.now c.args.own.now c.args.self.now c.has_each_once.ensures c.args.node c.requires.within c.in-None.ensures.root.1
 
 pub returns-then-not-chooses-clause-sifted : goal.returns-then-not-chooses-clause-sifted
 returns-then-not-chooses-clause-sifted c = λ h.

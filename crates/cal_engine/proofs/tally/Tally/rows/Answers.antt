@@ -11,7 +11,7 @@ returns-then-is_some c = λ rs h.
     let y = c.args.self.now in
     c.in_ok-rows.ensures rs
     (subst (λ (room : Tree). grouped_in room y.groups ≡ groups_over q rs)
-    (room_by_name q.group c.args.context.now y.own (sym c.is_some.ensures.value ∙ c.if-is_some.true)) h.groups)
+    (room_by_name q.group c.args.context.now y.own (sym c.is_some.ensures ∙ c.if-is_some.true)) h.groups)
 
 pub returns : goal.returns
 returns c = λ rs h.
@@ -19,4 +19,4 @@ returns c = λ rs h.
     let y = c.args.self.now in
     c.in_ok-rows-2.ensures rs
     (subst (λ (room : Tree). grouped_in room y.groups ≡ groups_over q rs)
-    (room_by_nodes q.group c.args.context.now y.own (sym c.is_some.ensures.value ∙ c.if-is_some.false)) h.groups)
+    (room_by_nodes q.group c.args.context.now y.own (sym c.is_some.ensures ∙ c.if-is_some.false)) h.groups)
