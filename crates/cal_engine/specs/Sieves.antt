@@ -1,5 +1,6 @@
 -- What a name of GROUP BY keeps beside the numbers of nodes, and when that is right.
-use Rattle.std.specs.Prelude.{◌≡◌, ℕ, true, false, ◌<◌, ◌≤◌, List, [], filter, length, map, slice_index_or}
+use Rattle.std.specs.Prelude.{◌≡◌, ℕ, true, false, ◌<◌, ◌≤◌, List, [], filter, length, map}
+use Rattle.std.specs.Prelude.{slice_index_or}
 use Rattle.std.specs.List.{All}
 use Rattle.cal_context.specs.Tree.{Tree, path_at}
 use Rattle.cal_context.specs.declared.numbers.NodeNumber.{NodeNumber}
@@ -42,6 +43,7 @@ pub record AreSieves (t own : Tree) (names : List (List ℕ)) (sieves : List Sie
   pub sift : All (Sifts t own) sieves
 
 -- and know the whole context
-pub record AreReadySieves (t own : Tree) (names : List (List ℕ)) (sieves : List Sieve) : Type 0 where
+pub record AreReadySieves (t own : Tree) (names : List (List ℕ)) (sieves : List Sieve)
+    : Type 0 where
   pub choices : map choice_of sieves ≡ choices_of [] names
   pub sift : All (SiftsAll t own) sieves
