@@ -108,7 +108,7 @@ pub tally-Grows : {t u : Tree} → Grows t u → (q : Query) (rs : List Rec) (y 
     → IsTally t q rs y → IsTally u q rs y
 tally-Grows {t} {u} grows q rs y h =
     let rooms : Grows (room_of q.group t y.own) (room_of q.group u y.own) =
-        room_grows q.group grows (Grows-refl y.own) in
+    room_grows q.group grows (Grows-refl y.own) in
     record {
       counters = counters-Grows grows (map reading_of q.aggs) y.counters.items h.counters;
       sieves = sieves-Grows grows y.own _ y.sieves.items h.sieves;
