@@ -4,7 +4,7 @@ use Rattle.cal_context.specs.Snapshots.{meaning}
 use Rattle.cal_filter.specs.Known.{KnowsAll, sought}
 use Rattle.cal_filter.specs.Sought.{number_sought}
 use Rattle.cal_value.specs.Flat.{flat}
-use Rattle.cal_engine.proofs.counter.numbers.Given as goal
+use Rattle.cal_engine.proofs.counter.fill_numbers.Given as goal
 
 abbrev pub invariant-loop-seeker : goal.invariant-loop-seeker
 invariant-loop-seeker l = All (KnowsAll l.context) l.seekers → l.numbers.items

@@ -4,7 +4,7 @@ use Rattle.cal_context.specs.Snapshots.{meaning}
 use Rattle.cal_filter.proofs.Zips.{partner, zip_length}
 use Rattle.cal_engine.specs.Counters.{IsReadyCounter}
 use Rattle.cal_engine.specs.Readings.{part_of, parts_of}
-use Rattle.cal_engine.proofs.counter.parts_of.Goals as goal
+use Rattle.cal_engine.proofs.counter.fill_parts.Goals as goal
 
 pub loop-counter-preserved : goal.loop-counter-preserved
 loop-counter-preserved c = λ rs zip.
@@ -19,5 +19,5 @@ loop-counter-preserved c = λ rs zip.
 pub returns : goal.returns
 returns c = λ rs zip.
     let counted = zip_length (IsReadyCounter c.args.context.now) rs c.args.counters.now zip in
-    c.from_vec.ensures ∙ c.loop-counter.invariant rs zip
+    c.loop-counter.invariant rs zip
     ∙ ap (λ xs. parts_of xs (meaning c.args.context.now c.args.snapshot.now)) (take_all c.loop-counter.counter-index rs (omega arith))

@@ -6,7 +6,7 @@ use Rattle.cal_filter.specs.Sought.{number_sought, value_sought}
 use Rattle.cal_value.specs.Flat.{flat}
 use Rattle.cal_engine.proofs.Counting.{seeks_numbers}
 use Rattle.cal_engine.proofs.Drops.{filter_map_more}
-use Rattle.cal_engine.proofs.counter.numbers.Goals as goal
+use Rattle.cal_engine.proofs.counter.fill_numbers.Goals as goal
 
 pub loop-seeker-preserved : goal.loop-seeker-preserved
 loop-seeker-preserved c = λ knows.
