@@ -5,4 +5,6 @@ pub mod LinesMore
 pub mod EndLemmas
 pub mod GridLemmas
 pub mod TableLemmas
+pub mod TrailLemmas
+pub mod StandLemmas
 pub mod NewlineSteps

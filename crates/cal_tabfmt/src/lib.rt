@@ -19,7 +19,10 @@ mod shown_text;
 mod snapshot_cells;
 mod table;
 mod table_lines;
+mod trail;
+mod walk;
 mod writer;
+mod written;
 
 pub use grid::grid_text;
 pub use lines::expand_text;
