@@ -7,4 +7,5 @@ pub mod GridLemmas
 pub mod TableLemmas
 pub mod TrailLemmas
 pub mod StandLemmas
+pub mod WalkLemmas
 pub mod NewlineSteps

@@ -1,6 +1,5 @@
 -- Cells that hold the entries of a row, and can give up the last ones.
-use Rattle.std.specs.Prelude.{◌≡◌, ℕ, ◌<◌, true, false, Bool, List, [], ◌∷◌, ◌++◌, length, reverse, take}
-use Rattle.std.specs.Prelude.{slice_set}
+use Rattle.std.specs.Prelude.{◌≡◌, ℕ, ◌<◌, List, [], ◌∷◌, ◌++◌, length, reverse, slice_set, take}
 use Rattle.std.specs.Str.{IsUtf8}
 use Rattle.cal_value.specs.declared.attribute.Entry.{Entry}
 use Rattle.cal_rowset.specs.Filling.{HoldsIn, is_nothing, nth_cell, with_use}
@@ -42,8 +41,8 @@ GoesBack names (step ∷ steps) f = HoldsIn names f.cells f.used f.entries
 -- a trail holds these entries of a row
 abbrev pub IsTrail : Trail → List Entry → Type 0
 IsTrail t entries = GoesBack t.names (reverse t.steps)
-    (record { cells = t.cells.items; used = t.used.items; entries = entries })
+    (record { cells = t.cells.items; used = t.used; entries = entries })
 
 -- its cells hold these entries of a row, as far as a line shows them
 abbrev pub HoldsRow : Trail → List Entry → Type 0
-HoldsRow t entries = HoldsIn t.names t.cells.items t.used.items entries
+HoldsRow t entries = HoldsIn t.names t.cells.items t.used entries

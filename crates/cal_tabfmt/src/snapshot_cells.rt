@@ -93,7 +93,8 @@ impl SnapshotCells {
         }
         context.has_each_once();
         self.leave();
-        learn_attributes(context, &mut self.trail, &mut self.places)
+        learn_attributes(context, &mut self.trail, &mut self.places)?;
+        Ok(())
     }
 
     // adds the paths of nodes
@@ -115,7 +116,10 @@ impl SnapshotCells {
                     &mut self.links,
                 )
             }
-            None => self.go(context, NodeNumber::ROOT),
+            None => {
+                self.go(context, NodeNumber::ROOT)?;
+                Ok(())
+            }
         }
     }
 
@@ -183,8 +187,8 @@ fn add_nodes(
 ) -> Result<(), OutOfMemory>
     requires { All (λ n. n.0 < length context.now.paths) nodes.now }
     ensures names { trail.new.names ≡ trail.old.names }
-    ensures added { OnOk result ((entries : List Entry) → KnowsAll context.now trail.old.names places.now
-        → IsTrail trail.old entries
+    ensures added { OnOk result ((entries : List Entry)
+        → KnowsAll context.now trail.old.names places.now → IsTrail trail.old entries
         → IsTrail trail.new (entries ++ joined (map (path_at context.now) nodes.now))) }
 {
     for node in nodes {
@@ -202,8 +206,8 @@ fn add_links(
 ) -> Result<(), OutOfMemory>
     requires { All (IsEntryOf context.now) links.now }
     ensures names { trail.new.names ≡ trail.old.names }
-    ensures added { OnOk result ((entries : List Entry) → KnowsAll context.now trail.old.names places.now
-        → IsTrail trail.old entries
+    ensures added { OnOk result ((entries : List Entry)
+        → KnowsAll context.now trail.old.names places.now → IsTrail trail.old entries
         → IsTrail trail.new (entries ++ map (link_entry context.now) links.now)) }
 {
     for link in links {
@@ -221,8 +225,8 @@ fn add_immediates(
 ) -> Result<(), OutOfMemory>
     requires { All (λ i. i.attribute.0 < length context.now.attributes) imms.now }
     ensures names { trail.new.names ≡ trail.old.names }
-    ensures added { OnOk result ((entries : List Entry) → KnowsAll context.now trail.old.names places.now
-        → IsTrail trail.old entries
+    ensures added { OnOk result ((entries : List Entry)
+        → KnowsAll context.now trail.old.names places.now → IsTrail trail.old entries
         → IsTrail trail.new (entries ++ map (entry_of context.now) imms.now)) }
 {
     for imm in imms {
@@ -240,9 +244,10 @@ fn add_entry(
 ) -> Result<(), OutOfMemory>
     requires { attribute.0 < length context.now.attributes }
     ensures names { trail.new.names ≡ trail.old.names }
-    ensures added { OnOk result ((entries : List Entry) → KnowsAll context.now trail.old.names places.now
-        → IsTrail trail.old entries → IsTrail trail.new
-        (entries ++ entry_of context.now (record { attribute = attribute; value = value.now }) ∷ [])) }
+    ensures added { OnOk result ((entries : List Entry)
+        → KnowsAll context.now trail.old.names places.now → IsTrail trail.old entries → IsTrail trail.new
+        (entries ++ entry_of context.now
+        (record { attribute = attribute; value = value.now }) ∷ [])) }
 {
     match places.get(attribute.0 as usize) {
         Some(place) => trail.add(*place, value),

@@ -1,9 +1,10 @@
-ghost use Rattle.std.specs.Prelude.{◌≡◌, ℕ, ◌+◌, ◌<◌, ◌≤◌, ◌^◌, List, [], ◌∷◌, ◌++◌, length, min, take};
-ghost use Rattle.std.specs.Prelude.{IfOk, IsUtf8, OnOk, Some, slice_get};
+ghost use Rattle.std.specs.Prelude.{◌≡◌, ℕ, ◌<◌, ◌≤◌, List, [], ◌∷◌, ◌++◌, length, take};
+ghost use Rattle.std.specs.Prelude.{IfOk, OnOk, Some, slice_get, slice_set};
+ghost use Rattle.std.specs.Str.{IsUtf8};
 ghost use Rattle.cal_value.specs.declared.attribute.Entry.{Entry};
 ghost use Rattle.cal_context.specs.Lists.{Interns};
 ghost use Rattle.cal_rowset.specs.Filling.{is_nothing, nth_cell, with_use};
-ghost use Rattle.cal_tabfmt.specs.Trails.{CanUndo, IsTrail, undone, undone_used};
+ghost use Rattle.cal_tabfmt.specs.Trails.{CanUndo, IsTrail, undone};
 
 use cal_rowset::{Cell, Content, Names};
 use cal_value::{OutOfMemory, Seq, Text, Variant};
@@ -25,7 +26,7 @@ pub(crate) struct Trail {
     pub(crate) names: Names,
     pub(crate) cells: Vec<Cell>,
     // the places of the cells that aren't empty
-    pub(crate) used: Vec<usize>,
+    pub(crate) used: Seq<usize>,
     steps: Seq<Step>,
 }
 
@@ -39,7 +40,7 @@ impl Trail {
             alloc,
             names: Names::new(alloc),
             cells: Vec::new(alloc),
-            used: Vec::new(alloc),
+            used: Seq::new(alloc),
             steps: Seq::new(alloc),
         }
     }
@@ -51,7 +52,7 @@ impl Trail {
         self.steps.len()
     }
 
-    /// The place of a name, which gets an empty cell where it is new. It is for a trail of no entry.
+    /// The place of a name, which gets an empty cell where it is new. The trail has no entry then.
     pub(crate) fn learn(&mut self, name: &Text) -> Result<usize, OutOfMemory>
         ensures learned { IfOk result (Interns self.old.names name.now self.new.names) }
         ensures holds { OnOk result (IsTrail self.old [] → IsTrail self.new []) }
@@ -74,11 +75,25 @@ impl Trail {
             return Ok(());
         }
         let step = step_at(place, &self.cells[place]);
+        self.note_use(place)?;
+        self.steps.push(step)?;
+        self.cells[place].push(value)
+    }
+
+    // notes that a place is used, where its cell is empty
+    fn note_use(&mut self, place: usize) -> Result<(), OutOfMemory>
+        requires { place < length self.old.cells.items }
+        ensures cells { self.new.cells.items ≡ self.old.cells.items }
+        ensures names { self.new.names ≡ self.old.names }
+        ensures steps { self.new.steps ≡ self.old.steps }
+        ensures used { OnOk result (self.new.used
+            ≡ with_use (is_nothing (nth_cell self.old.cells.items place).content)
+            self.old.used place) }
+    {
         if self.cells[place].is_empty() {
             self.used.push(place)?;
         }
-        self.steps.push(step)?;
-        self.cells[place].push(value)
+        Ok(())
     }
 
     /// Gives up the last entries but for the first `count`.
@@ -103,12 +118,8 @@ impl Trail {
         let Some(step) = self.steps.pop() else {
             return;
         };
-        if step.place < self.cells.len() {
-            undo(&mut self.cells[step.place], &step);
-        }
-        if matches!(step.content, Content::Nothing) {
-            self.used.pop();
-        }
+        undo_at(&mut self.cells, &step);
+        undo_use(&mut self.used, &step);
     }
 }
 
@@ -133,4 +144,27 @@ fn undo(cell: &mut Cell, step: &Step)
         cell.text.truncate(step.length);
     }
     cell.content = step.content;
+}
+
+// makes the cell of a step as it was before
+fn undo_at(cells: &mut Vec<Cell>, step: &Step)
+    ensures { step.now.place < length cells.old.items
+        → CanUndo step.now (nth_cell cells.old.items step.now.place)
+        → cells.new.items ≡ slice_set cells.old.items step.now.place
+        (undone step.now (nth_cell cells.old.items step.now.place)) }
+{
+    if step.place < cells.len() {
+        undo(&mut cells[step.place], step);
+    }
+}
+
+// takes away the use that a step has noted
+fn undo_use(used: &mut Seq<usize>, step: &Step)
+    ensures { (before : List ℕ)
+        → used.old ≡ with_use (is_nothing step.now.content) before step.now.place
+        → used.new ≡ before }
+{
+    if matches!(step.content, Content::Nothing) {
+        let _ = used.pop();
+    }
 }

@@ -1,6 +1,7 @@
-ghost use Rattle.std.specs.Prelude.{◌≡◌, ◌<◌, [], ◌++◌, length, map, IfOk, OnOk};
+ghost use Rattle.std.specs.Prelude.{◌≡◌, ◌<◌, [], ◌∷◌, ◌++◌, length, map, IfOk, OnOk};
 ghost use Rattle.std.specs.List.{All};
 ghost use Rattle.cal_context.specs.Tree.{path_at};
+ghost use Rattle.cal_context.specs.declared.numbers.Link.{Link};
 ghost use Rattle.cal_tabfmt.specs.Snapshots.{IsEntryOf, link_entry};
 ghost use Rattle.cal_tabfmt.specs.Trails.{IsTrail};
 
@@ -70,8 +71,10 @@ fn note(
     ensures less { IfOk result (λ parent. parent.0 < node.0) }
     ensures entries { OnOk result (All (IsEntryOf context.now) links.old.items
         → All (IsEntryOf context.now) links.new.items) }
-    ensures noted { IfOk result (λ parent. (link : Link) × (links.new.items ≡ links.old.items ++ link ∷ [])
-        × (path_at context.now node ≡ path_at context.now parent ++ link_entry context.now link ∷ [])) }
+    ensures noted { IfOk result (λ parent. (link : Link)
+        × (links.new.items ≡ links.old.items ++ link ∷ [])
+        × (path_at context.now node
+        ≡ path_at context.now parent ++ link_entry context.now link ∷ [])) }
 {
     match context.link(node) {
         Some(link) => {

@@ -20,7 +20,7 @@ use cal_value::{OutOfMemory, Text};
 use std::alloc::Global;
 
 /// Writes the plain line of each record as it comes, by the record's own names. It keeps no record.
-/// A record takes time in its entries.
+/// A record takes time in its text, and in those of its entries that aren't of the path before.
 #[derive(Drop)]
 pub struct ExpandWriter {
     text: Text,
@@ -109,10 +109,11 @@ fn append_place(
 ) -> Result<bool, OutOfMemory>
     requires { IsIn context.now snapshot.now }
     ensures { IfOk result (λ first. (before : List ℕ) (parts : List (List ℕ))
-        → HoldsRow trail.now (flat (meaning context.now snapshot.now)) → place < length (trail.now.names)
+        → HoldsRow trail.now (flat (meaning context.now snapshot.now))
+        → place < length trail.now.names
         → HasParts before out.old is_first parts → HasParts before out.new first
         (parts ++ option_to_list (part_of (meaning context.now snapshot.now)
-        (own_column (nth_name (trail.now.names) place))))) }
+        (own_column (nth_name trail.now.names place))))) }
 {
     let Some(name) = trail.names.as_slice().get(place) else {
         return Ok(is_first);

@@ -1,4 +1,4 @@
-ghost use Rattle.std.specs.Prelude.{◌≡◌, [], ◌∷◌, ◌++◌, IsTrue, OnOk};
+ghost use Rattle.std.specs.Prelude.{◌≡◌, false, [], ◌∷◌, ◌++◌, IsTrue, OnOk};
 ghost use Rattle.cal_line.specs.Escapes.{escaped, escaped_byte};
 
 use cal_line::escape;
@@ -20,15 +20,15 @@ fn is_plain(text: &str) -> bool
 {
     let mut plain = true;
     for byte in text.as_bytes() {
-        if !is_plain_byte(*byte) {
+        if is_special(*byte) {
             plain = false;
         }
     }
     plain
 }
 
-fn is_plain_byte(byte: u8) -> bool
-    ensures { IsTrue result → escaped_byte byte ≡ byte ∷ [] }
+fn is_special(byte: u8) -> bool
+    ensures { result ≡ false → escaped_byte byte ≡ byte ∷ [] }
 {
-    byte != b'\n' && byte != b'\\' && byte != b',' && byte != b'='
+    byte == b'\n' || byte == b'\\' || byte == b',' || byte == b'='
 }

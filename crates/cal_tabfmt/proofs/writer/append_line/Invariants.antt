@@ -8,4 +8,4 @@ use Rattle.cal_tabfmt.proofs.writer.append_line.Given as goal
 
 abbrev pub invariant-loop-place : goal.invariant-loop-place
 invariant-loop-place l = HoldsRow l.trail (flat (meaning l.context l.snapshot))
-    → HasParts l.fn.out l.out l.is_first (parts_at (meaning l.context l.snapshot) l.trail.names (take l.place-index l.trail.used.items))
+    → HasParts l.fn.out l.out l.is_first (parts_at (meaning l.context l.snapshot) l.trail.names (take l.place-index l.trail.used))
