@@ -1,6 +1,6 @@
 use Rattle.std.proofs.Common.{arith}
 use Rattle.cal_tabfmt.proofs.Links.{KnowsPlaces-push}
-use Rattle.cal_tabfmt.proofs.snapshot_cells.SnapshotCells.learn_attribute.Goals as goal
+use Rattle.cal_tabfmt.proofs.snapshot_cells.learn_attribute.Goals as goal
 
 pub returns-clause-knows : goal.returns-clause-knows
 returns-clause-knows c =
