@@ -149,7 +149,7 @@ seen-thread grows script history thread process state previous is sees = record 
 
 -- ---- before the first line
 
-nothing-holds : (t : Tree) (script : Script) → Holds t script nothing_open nothing_open
+pub nothing-holds : (t : Tree) (script : Script) → Holds t script nothing_open nothing_open
 nothing-holds t script = record {
   stands = record { references = tt; as_values = refl };
   known = record {
