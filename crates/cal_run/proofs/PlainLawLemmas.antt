@@ -8,12 +8,12 @@ use Rattle.std.proofs.lemmas.List.Elements.{All-append, All-cons, All-nil, filte
 use Rattle.std.proofs.lemmas.Option.{slice_get_within}
 use Rattle.cal_board.specs.Blackboard.{Blackboard}
 use Rattle.cal_run.proofs.LawLemmas.{lawful-read}
-use Rattle.cal_run.proofs.PlainLemmas.{found, found-noted, numbers-cons, numbers_from}
+use Rattle.cal_run.proofs.PlainLemmas.{found, found-noted, numbers-cons, numbers_from, place}
 use Rattle.cal_run.specs.Lawful.{IsAnswer, IsAnswered, IsFlushReply, IsKnown, IsRead, Lawful, LineIsRead, NotedLine, SeenFixed, SeenOwn, SeenRises, SeenWithin, SeesOwn, StartIsRead, names_process_line, noted_from, noted_of, placed_of, process_lines, takes_start_reading}
 use Rattle.cal_run.specs.Lines.{is_process_line, line_at, takes}
 use Rattle.cal_run.specs.Plain.{met, note_of, notes_from, placed_lines, plain, plain_history, threads_from}
 use Rattle.cal_run.specs.Seeing.{CanBeRead}
-use Rattle.cal_run.specs.Steps.{ThreadState, at_start, found_reply, is_accepted, is_read, looks, reply_to_line, state_after}
+use Rattle.cal_run.specs.Steps.{ThreadState, acted_on, at_start, found_reply, is_accepted, is_read, looks, reply_to_line, state_after}
 use Rattle.cal_script.specs.declared.journal.Journal.{Journal}
 use Rattle.cal_script.specs.declared.journal.LineNote.{LineNote}
 use Rattle.cal_script.specs.declared.journal.Placed.{Placed}
@@ -66,9 +66,6 @@ module _ (script : Script) where
 
 -- ---- the history
 
-  abbrev place : ℕ → ℕ → Placed
-  place thread n = record { thread = thread; line = n }
-
   unless-zero : (b : Bool) (o p : Option lines.Line) → b ≡ false → o ≡ p → (if b then None else o) ≡ p
   unless-zero true o p e is = absurd cc
   unless-zero false o p e is = is
@@ -87,12 +84,11 @@ module _ (script : Script) where
   known-lines : (thread : ℕ) (whole done ls : List lines.Line) → slice_index_or script.threads thread [] ≡ whole → whole ≡ done ++ ls
       → (k : ℕ) → k ≡ length done + 1 → All (IsKnown script) (map (place thread) (numbers_from script k ls))
   known-lines thread whole done [] of_thread is k at = All-nil (IsKnown script)
-  known-lines thread whole done (l ∷ ls) of_thread is k at = by (is_process_line script l) refl
+  known-lines thread whole done (l ∷ ls) of_thread is k at =
+      let more = moved-long done l in
+      by (is_process_line script l) refl
+      (known-lines thread whole (done ++ l ∷ []) ls of_thread (moved whole done l ls is) (k + 1) (omega (arith, at, more)))
     where
-      rest : All (IsKnown script) (map (place thread) (numbers_from script (k + 1) ls))
-      rest = let more = moved-long done l in
-          known-lines thread whole (done ++ l ∷ []) ls of_thread (moved whole done l ls is) (k + 1) (omega (arith, at, more))
-
       found_there : line_at script thread k ≡ Some l
       found_there = ap (line_at script thread) at
           ∙ line_at-is thread (length done) whole l of_thread (ap (λ ls. slice_get ls (length done)) is ∙ slice_get-behind done l ls)
@@ -100,10 +96,11 @@ module _ (script : Script) where
       here : is_process_line script l ≡ true → IsKnown script (place thread k)
       here process = ap (names_process_line script) found_there ∙ process
 
-      by : (p : Bool) → is_process_line script l ≡ p → All (IsKnown script) (map (place thread) (numbers_from script k (l ∷ ls)))
-      by true e = subst (λ ns. All (IsKnown script) (map (place thread) ns)) (sym (numbers-cons script k l ls true e))
+      by : (p : Bool) → is_process_line script l ≡ p → All (IsKnown script) (map (place thread) (numbers_from script (k + 1) ls))
+          → All (IsKnown script) (map (place thread) (numbers_from script k (l ∷ ls)))
+      by true e rest = subst (λ (ns : List ℕ). All (IsKnown script) (map (place thread) ns)) (sym (numbers-cons script k l ls true e))
           (All-cons (IsKnown script) (place thread k) (map (place thread) (numbers_from script (k + 1) ls)) (here e) rest)
-      by false e = subst (λ ns. All (IsKnown script) (map (place thread) ns)) (sym (numbers-cons script k l ls false e)) rest
+      by false e rest = subst (λ (ns : List ℕ). All (IsKnown script) (map (place thread) ns)) (sym (numbers-cons script k l ls false e)) rest
 
   known-threads : (done ts : List (List lines.Line)) → script.threads ≡ done ++ ts → (k : ℕ) → k ≡ length done
       → All (IsKnown script) (flat_map (placed_lines script) (enumerate_from k ts))
@@ -265,7 +262,7 @@ module _ (script : Script) (thread number before seen : ℕ) (state : ThreadStat
       by false true = omega arith
       by false false = less
 
-  sees-own : seen ≤ before → (is_process_line script l ≡ true → slice_get h before ≡ Some (record { thread = thread; line = number }))
+  sees-own : seen ≤ before → (is_process_line script l ≡ true → slice_get h before ≡ Some (place thread number))
       → SeenOwn script (plain script) here
   sees-own less own process =
       let is : note.seen ≡ before + 1 = if-true (is_process_line script l) (before + 1) (if looks_met then before else seen) process in
@@ -282,16 +279,16 @@ module _ (script : Script) (thread number before seen : ℕ) (state : ThreadStat
       ∙ if-false looks_met before seen (sym looks-noted ∙ looks)
 
   pub line-keeps : seen ≤ before → before ≤ length h
-      → (is_process_line script l ≡ true → slice_get h before ≡ Some (record { thread = thread; line = number })) → Keeps script here
+      → (is_process_line script l ≡ true → slice_get h before ≡ Some (place thread number)) → Keeps script here
   line-keeps less within own = record {
     rises = seen-rises less;
-    within = seen-within less within (λ process. slice_get_within h before (record { thread = thread; line = number }) (own process));
+    within = seen-within less within (λ process. slice_get_within h before (place thread number) (own process));
     own = sees-own less own;
     fixed = seen-fixed;
     read = subst (λ due. IsRead script (plain script) due state.clock note.reading) (sym read-noted)
         (read-if script (is_read script h l (met script before state l) state) state.clock);
     answered = subst (IsAnswer script (plain script) here) (sym (found-noted script before seen state l))
-        (answer script here (found script before state l) (only-flush script _ l) refl);
+        (answer script here (found script before state l) (only-flush script (acted_on script h l (met script before state l) state) l) refl);
   }
 
 -- ---- all lines
@@ -300,43 +297,43 @@ module _ (script : Script) where
   -- the history at a line: what is placed before it, and what it and the lines behind it place
   record Step (thread number before : ℕ) (l : lines.Line) (ls : List lines.Line) (back : List Placed) : Type 0 where
     pub front : List Placed
-    pub cut : plain_history script ≡ front ++ (map (place script thread) (numbers_from script (number + 1) ls) ++ back)
+    pub cut : plain_history script ≡ front ++ (map (place thread) (numbers_from script (number + 1) ls) ++ back)
     pub long : length front ≡ (if is_process_line script l then before + 1 else before)
     pub own : is_process_line script l ≡ true
-        → slice_get (plain_history script) before ≡ Some (record { thread = thread; line = number })
+        → slice_get (plain_history script) before ≡ Some (place thread number)
 
   step : (thread number before : ℕ) (l : lines.Line) (ls : List lines.Line) (front back : List Placed)
-      → plain_history script ≡ front ++ (map (place script thread) (numbers_from script number (l ∷ ls)) ++ back) → length front ≡ before
+      → plain_history script ≡ front ++ (map (place thread) (numbers_from script number (l ∷ ls)) ++ back) → length front ≡ before
       → Step thread number before l ls back
   step thread number before l ls front back is long = by (is_process_line script l) refl
     where
       by : (p : Bool) → is_process_line script l ≡ p → Step thread number before l ls back
       by true e =
-          let cut : plain_history script ≡ front ++ place script thread number ∷ (map (place script thread) (numbers_from script (number + 1) ls) ++ back) =
-          is ∙ ap (λ ns. front ++ (map (place script thread) ns ++ back)) (numbers-cons script number l ls true e) in
-          let more = moved-long front (place script thread number) in
+          let cut : plain_history script ≡ front ++ place thread number ∷ (map (place thread) (numbers_from script (number + 1) ls) ++ back) =
+          is ∙ ap (λ ns. front ++ (map (place thread) ns ++ back)) (numbers-cons script number l ls true e) in
+          let more = moved-long front (place thread number) in
           record {
-            front = front ++ place script thread number ∷ [];
-            cut = moved (plain_history script) front (place script thread number) _ cut;
+            front = front ++ place thread number ∷ [];
+            cut = moved (plain_history script) front (place thread number) _ cut;
             long = more ∙ ap (λ n. n + 1) long ∙ sym (if-true (is_process_line script l) (before + 1) before e);
-            own = λ process. (λ j. slice_get (cut j) (sym long j)) ∙ slice_get-behind front (place script thread number) _;
+            own = λ process. (λ j. slice_get (cut j) (sym long j)) ∙ slice_get-behind front (place thread number) _;
           }
       by false e = record {
         front = front;
-        cut = is ∙ ap (λ ns. front ++ (map (place script thread) ns ++ back)) (numbers-cons script number l ls false e);
+        cut = is ∙ ap (λ ns. front ++ (map (place thread) ns ++ back)) (numbers-cons script number l ls false e);
         long = long ∙ sym (if-false (is_process_line script l) (before + 1) before e);
         own = λ process. absurd cc;
       }
 
   lines-keep : (thread number before seen : ℕ) (state : ThreadState) (ls : List lines.Line) (front back : List Placed)
-      → plain_history script ≡ front ++ (map (place script thread) (numbers_from script number ls) ++ back) → length front ≡ before
+      → plain_history script ≡ front ++ (map (place thread) (numbers_from script number ls) ++ back) → length front ≡ before
       → seen ≤ before
       → All (Keeps script) (noted_from script (plain_history script) thread number seen state (zip ls (notes_from script before seen state ls)))
   lines-keep thread number before seen state [] front back is long less = All-nil (Keeps script)
   lines-keep thread number before seen state (l ∷ ls) front back is long less =
       let s = step thread number before l ls front back is long in
       let all = ap length is in
-      let sum = length-append front (map (place script thread) (numbers_from script number (l ∷ ls)) ++ back) in
+      let sum = length-append front (map (place thread) (numbers_from script number (l ∷ ls)) ++ back) in
       let n : LineNote = note_of script before seen state l in
       let next : ℕ = if is_process_line script l then before + 1 else before in
       let after : ThreadState = state_after script (plain_history script) l n state in
@@ -352,7 +349,7 @@ module _ (script : Script) where
   threads-keep k before (t ∷ ts) front is long =
       let next : ℕ = before + length (process_lines script t) in
       let sum = length-append front (placed_lines script (k, t)) in
-      let one = length-map (process_lines script t) (place script k) in
+      let one = length-map (process_lines script t) (place k) in
       let note : ThreadNote = record {
         start = if takes_start_reading script then Some 0 else None;
         lines = notes_from script before 0 at_start t;
@@ -370,7 +367,7 @@ module _ (script : Script) where
       record {
         shape = threads-fit script 0 script.threads;
         known = known-threads script [] script.threads refl 0 refl;
-        order = λ thread ls is. own-thread script 0 thread thread script.threads ls refl is;
+        order = λ thread ls is. own-thread script 0 thread thread script.threads ls (omega arith) is;
         rises = λ k d l. (all k d l).rises;
         within = λ k d l. (all k d l).within;
         own = λ k d l. (all k d l).own;

@@ -33,6 +33,9 @@ drop-first xs i x below is = drop-cons xs i x below ∙ (λ j. sym is j ∷ drop
 
 -- ---- the history
 
+abbrev pub place : ℕ → ℕ → Placed
+place thread n = record { thread = thread; line = n }
+
 module _ (script : Script) where
   -- the numbers of the process lines among lines that are numbered from k on
   abbrev pub numbers_from : ℕ → List Line → List ℕ
@@ -79,17 +82,17 @@ module _ (script : Script) where
   -- one line placed, of those that are left
   pub placed-drop : (thread : ℕ) (ls : List Line) (i : ℕ) (l : Line) (p : Bool) (history : List Placed) → i < length ls
       → l ≡ get_or ls i l → is_process_line script l ≡ p
-      → (if p then history ++ record { thread = thread; line = i + 1 } ∷ [] else history)
-      ++ map (λ n. record { thread = thread; line = n }) (numbers_from (i + 1 + 1) (drop (i + 1) ls))
-      ≡ history ++ map (λ n. record { thread = thread; line = n }) (numbers_from (i + 1) (drop i ls))
+      → (if p then history ++ place thread (i + 1) ∷ [] else history)
+      ++ map (place thread) (numbers_from (i + 1 + 1) (drop (i + 1) ls))
+      ≡ history ++ map (place thread) (numbers_from (i + 1) (drop i ls))
   placed-drop thread ls i l p history below is process =
       by p
-      ∙ ap (λ ns. history ++ map (λ n. record { thread = thread; line = n }) ns)
+      ∙ ap (λ ns. history ++ map (place thread) ns)
       (sym (ap (numbers_from (i + 1)) (drop-first ls i l below is) ∙ numbers-cons (i + 1) l (drop (i + 1) ls) p process))
     where
-      by : (p : Bool) → (if p then history ++ record { thread = thread; line = i + 1 } ∷ [] else history)
-          ++ map (λ n. record { thread = thread; line = n }) (numbers_from (i + 1 + 1) (drop (i + 1) ls))
-          ≡ history ++ map (λ n. record { thread = thread; line = n })
+      by : (p : Bool) → (if p then history ++ place thread (i + 1) ∷ [] else history)
+          ++ map (place thread) (numbers_from (i + 1 + 1) (drop (i + 1) ls))
+          ≡ history ++ map (place thread)
           (if p then (i + 1) ∷ numbers_from (i + 1 + 1) (drop (i + 1) ls) else numbers_from (i + 1 + 1) (drop (i + 1) ls))
       by true = append_assoc history _ _
       by false = refl
@@ -111,9 +114,9 @@ module _ (script : Script) where
   history-long k (t ∷ ts) =
       let rest = history-long (k + 1) ts in
       let more = length-append (placed_lines script (k, t)) (flat_map (placed_lines script) (enumerate_from (k + 1) ts)) in
-      let one = length-map (process_lines script t) (λ n. record { thread = k; line = n }) in
-      let sum = sum_by-cons (λ t. length (process_lines script t)) t ts in
-      omega (arith, rest, more, one, sum)
+      let one = length-map (process_lines script t) (place k) in
+      let add = sum_by-cons (λ t. length (process_lines script t)) t ts in
+      omega (arith, rest, more, one, add)
 
 -- ---- the note of a line
 
@@ -125,7 +128,7 @@ module _ (script : Script) (before : ℕ) (state : ThreadState) (l : Line) where
   -- is that of the board that it acts on, with all operations before it
   pub found-is : reply_to_line script (if is_process_line script l then process_board script (plain_history script) before else state.board) l
       ≡ found
-  found-is = ap (λ b. reply_to_line script b l) (by (is_process_line script l))
+  found-is = ap (λ (b : Blackboard Variant). reply_to_line script b l) (by (is_process_line script l))
     where
       back : before ≡ before + 1 - 1
       back = omega arith
@@ -145,7 +148,7 @@ module _ (script : Script) (before seen : ℕ) (state : ThreadState) (l : Line) 
 
   -- the reply behind its note is the same
   pub found-noted : found_reply script h l (note_of script before seen state l) state ≡ told
-  found-noted = ap (λ b. reply_to_line script b l)
+  found-noted = ap (λ (b : Blackboard Variant). reply_to_line script b l)
       (by (is_process_line script l) (if looks script h l (met script before state l) state then before else seen))
     where
       by : (p : Bool) (m : ℕ)
@@ -156,12 +159,16 @@ module _ (script : Script) (before seen : ℕ) (state : ThreadState) (l : Line) 
 
   -- the note is made of that reply
   pub noted-is : noted script before seen state.clock l told ≡ note_of script before seen state l
-  noted-is = ap (λ (s : ℕ). record {
-    reply = unwrap_or told reply.Merged;
-    seen = s;
-    reading = if list_any (λ channel. channel.timer && (is_accepted told && takes script channel l)) script.channels then Some state.clock else None;
-  }) (by (is_process_line script l) (list_any (λ channel. is_accepted told && takes script channel l) script.channels))
+  noted-is = ap with_seen (by (is_process_line script l) (list_any (λ channel. is_accepted told && takes script channel l) script.channels))
     where
+      abbrev with_seen : ℕ → LineNote
+      with_seen s = record {
+        reply = unwrap_or told reply.Merged;
+        seen = s;
+        reading = if list_any (λ channel. channel.timer && (is_accepted told && takes script channel l)) script.channels
+            then Some state.clock else None;
+      }
+
       by : (p t : Bool) → (if p then before + 1 else (if t then before else seen))
           ≡ (if p then before + 1 else (if t && not p then before else seen))
       by true t = refl
@@ -174,7 +181,10 @@ pub held-found : (t : Tree) (script : Script) (thread : Plain) (process : Proces
     → reply_to_line script (if is_process_line script l then process.board else thread.board) l
     ≡ found script process.count state l
 held-found t script thread process state l is sees =
-    reply_to_line-Holds t script _ _ (by (is_process_line script l)) l ∙ found-is script process.count state l
+    reply_to_line-Holds t script (if is_process_line script l then process.board else thread.board)
+    (if is_process_line script l then process_board script (plain_history script) process.count else state.board)
+    (by (is_process_line script l)) l
+    ∙ found-is script process.count state l
   where
     by : (p : Bool) → Holds t script (if p then process.board else thread.board)
         (if p then process_board script (plain_history script) process.count else state.board)
@@ -196,7 +206,7 @@ kept-plain old new script before was is state l a accepted kept holds clock =
     (by (a && not (is_process_line script l)) (holds state.board kept.mine)
     (clock ∙ ap (λ c. if a && not (is_process_line script l) then clock_after c l else c) kept.clock))
   where
-    note : LineNote
+    abbrev note : LineNote
     note = note_of script before was.seen state l
 
     by : (q : Bool) → Holds new script is.board (if q then board_placed script state.board (operation_of l) else state.board)
@@ -224,6 +234,9 @@ start-process t script history process board count = record {
 
 -- ---- the notes of lines and of threads
 
+abbrev pub thread_note : Option ℕ → List LineNote → ThreadNote
+thread_note start lines = record { start = start; lines = lines }
+
 module _ (script : Script) where
   -- one line noted, of those that are left
   pub notes-drop : (before seen : ℕ) (state : ThreadState) (ls : List Line) (i : ℕ) (l : Line) (note : LineNote) (notes all : List LineNote)
@@ -243,11 +256,11 @@ module _ (script : Script) where
       (notes all : List ThreadNote) → i < length ts → t ≡ get_or ts i t
       → start ≡ (if takes_start_reading script then Some 0 else None) → lines ≡ notes_from script before 0 at_start t
       → notes ++ threads_from script before (drop i ts) ≡ all
-      → (notes ++ record { start = start; lines = lines } ∷ [])
+      → (notes ++ thread_note start lines ∷ [])
       ++ threads_from script (before + length (process_lines script t)) (drop (i + 1) ts) ≡ all
   threads-drop before ts i t start lines notes all below is starts made so_far =
       append_assoc notes _ _
-      ∙ (λ j. notes ++ record { start = starts j; lines = made j }
+      ∙ (λ j. notes ++ thread_note (starts j) (made j)
       ∷ threads_from script (before + length (process_lines script t)) (drop (i + 1) ts))
       ∙ ap (λ ts. notes ++ threads_from script before ts) (sym (drop-first ts i t below is))
       ∙ so_far
