@@ -1,13 +1,14 @@
 -- The plain journal is made line by line and thread by thread.
-use Rattle.std.proofs.Common.{◌≡◌, ℕ, suc, zero, ◌+◌, ◌-◌, ◌<◌, ◌≤◌, List, [], ◌∷◌, ◌++◌, Bool, true, false, if◌then◌else◌, ◌&&◌, length, get_or, map, drop, ap, subst, sym, refl, ◌∙◌, append_assoc, add-one, arith}
-use Rattle.std.specs.Prelude.{Option, Some, None, not, filter_map, flat_map, unwrap_or}
+use Rattle.std.proofs.Common.{◌≡◌, ℕ, suc, zero, ◌+◌, ◌-◌, ◌<◌, ◌≤◌, List, [], ◌∷◌, ◌++◌, Bool, true, false, if◌then◌else◌, ◌&&◌, length, get_or, map, drop, ap, subst, sym, refl, ◌∙◌, append_assoc, append-nil, add-one, arith}
+use Rattle.std.specs.Prelude.{Option, Some, None, Result, Ok, Err, OnOk, not, filter_map, flat_map, unwrap_or}
 use Rattle.std.specs.List.{cons_option, enumerate_from, list_any, sum_by}
 use Rattle.std.proofs.Math.Seq.{drop-cons}
 use Rattle.std.proofs.lemmas.List.{length-append, length-map}
-use Rattle.std.proofs.lemmas.List.Sums.{sum_by-cons}
+use Rattle.std.proofs.lemmas.List.Sums.{sum_by-cons, sum_by-drop_more}
 use Rattle.cal_board.specs.Blackboard.{Blackboard, nothing_open}
 use Rattle.cal_context.specs.Tree.{Tree, Grows}
 use Rattle.cal_context.specs.declared.numbers.NodeNumber.{NodeNumber}
+use Rattle.cal_run.proofs.HeldLemmas.{Holds-Grows}
 use Rattle.cal_run.proofs.LineLemmas.{nothing-holds, reply_to_line-Holds}
 use Rattle.cal_run.specs.Held.{Holds, HoldsThen, IsProcess}
 use Rattle.cal_run.specs.History.{board_placed, process_board}
@@ -30,6 +31,13 @@ use Rattle.cal_value.specs.declared.variant.Variant.{Variant}
 -- what is left from a place on, with its first item
 pub drop-first : {A : Type 0} (xs : List A) (i : ℕ) (x : A) → i < length xs → x ≡ get_or xs i x → drop i xs ≡ x ∷ drop (i + 1) xs
 drop-first xs i x below is = drop-cons xs i x below ∙ (λ j. sym is j ∷ drop (sym (add-one i) j) xs)
+
+-- and behind the end nothing
+pub drop-past : {A : Type 0} (xs : List A) (i : ℕ) → length xs ≤ i → drop i xs ≡ []
+drop-past [] zero past = refl
+drop-past [] (suc i) past = refl
+drop-past (x ∷ xs) zero past = absurd (omega (arith, past))
+drop-past (x ∷ xs) (suc i) past = drop-past xs i (omega (arith, past))
 
 -- ---- the history
 
@@ -79,6 +87,22 @@ module _ (script : Script) where
       count-cons before l (drop (i + 1) ls)
       ∙ ap (λ ls. before + length (process_lines script ls)) (sym (drop-first ls i l below is))
 
+  pub count-end : (before begun : ℕ) (ls : List Line) (i : ℕ) → length ls ≤ i
+      → before + length (process_lines script (drop i ls)) ≡ begun + length (process_lines script ls)
+      → before ≡ begun + length (process_lines script ls)
+  count-end before begun ls i past left =
+      let none : length (process_lines script (drop i ls)) ≡ 0 = ap (λ ls. length (process_lines script ls)) (drop-past ls i past) in
+      omega (arith, none, left)
+
+  -- there is room for a process line among those that are left
+  pub room-left : (before begun all : ℕ) (ls : List Line) (i : ℕ) (l : Line) → i < length ls → l ≡ get_or ls i l
+      → before + length (process_lines script (drop i ls)) ≡ begun + length (process_lines script ls)
+      → begun + length (process_lines script ls) ≤ all → is_process_line script l ≡ true → before < all
+  room-left before begun all ls i l below is left room process =
+      let counted = count-drop before ls i l below is in
+      let one : before_after script before l ≡ before + 1 = ap (λ (p : Bool). if p then before + 1 else before) process in
+      omega (arith, counted, one, left, room)
+
   -- one line placed, of those that are left
   pub placed-drop : (thread : ℕ) (ls : List Line) (i : ℕ) (l : Line) (p : Bool) (history : List Placed) → i < length ls
       → l ≡ get_or ls i l → is_process_line script l ≡ p
@@ -97,6 +121,13 @@ module _ (script : Script) where
       by true = append_assoc history _ _
       by false = refl
 
+  pub placed-end : (thread : ℕ) (ls : List Line) (i : ℕ) (history all : List Placed) → length ls ≤ i
+      → history ++ map (place thread) (numbers_from (i + 1) (drop i ls)) ≡ all → history ≡ all
+  placed-end thread ls i history all past so_far =
+      sym (append-nil history)
+      ∙ ap (λ (ls : List Line). history ++ map (place thread) (numbers_from (i + 1) ls)) (sym (drop-past ls i past))
+      ∙ so_far
+
   -- one thread placed, of those that are left
   pub history-drop : (ts : List (List Line)) (i : ℕ) (t : List Line) (history : List Placed) → i < length ts → t ≡ get_or ts i t
       → (history ++ placed_lines script (i, t)) ++ flat_map (placed_lines script) (enumerate_from (i + 1) (drop (i + 1) ts))
@@ -104,6 +135,13 @@ module _ (script : Script) where
   history-drop ts i t history below is =
       append_assoc history _ _
       ∙ ap (λ ts. history ++ flat_map (placed_lines script) (enumerate_from i ts)) (sym (drop-first ts i t below is))
+
+  pub history-end : (ts : List (List Line)) (i : ℕ) (history all : List Placed) → length ts ≤ i
+      → history ++ flat_map (placed_lines script) (enumerate_from i (drop i ts)) ≡ all → history ≡ all
+  history-end ts i history all past so_far =
+      sym (append-nil history)
+      ∙ ap (λ (ts : List (List Line)). history ++ flat_map (placed_lines script) (enumerate_from i ts)) (sym (drop-past ts i past))
+      ∙ so_far
 
   -- how many process lines threads have
   abbrev pub total : List (List Line) → ℕ
@@ -117,6 +155,22 @@ module _ (script : Script) where
       let one = length-map (process_lines script t) (place k) in
       let add = sum_by-cons (λ t. length (process_lines script t)) t ts in
       omega (arith, rest, more, one, add)
+
+  pub total-drop : (ts : List (List Line)) (i : ℕ) (t : List Line) → i < length ts → t ≡ get_or ts i t
+      → total (drop i ts) ≡ length (process_lines script t) + total (drop (i + 1) ts)
+  total-drop ts i t below is =
+      sum_by-drop_more (λ t. length (process_lines script t)) ts i t below
+      ∙ ap (λ (t : List Line). length (process_lines script t) + total (drop (i + 1) ts)) (sym is)
+
+  -- there is room for the process lines of a thread
+  pub total-room : (before all : ℕ) (ts : List (List Line)) (i : ℕ) (t : List Line) → i < length ts → t ≡ get_or ts i t
+      → before + total (drop i ts) ≡ all → before + length (process_lines script t) ≤ all
+  total-room before all ts i t below is left = let more = total-drop ts i t below is in omega (arith, more, left)
+
+  -- and so there is for those of the threads behind it
+  pub total-next : (before next all : ℕ) (ts : List (List Line)) (i : ℕ) (t : List Line) → i < length ts → t ≡ get_or ts i t
+      → before + total (drop i ts) ≡ all → next ≡ before + length (process_lines script t) → next + total (drop (i + 1) ts) ≡ all
+  total-next before next all ts i t below is left counted = let more = total-drop ts i t below is in omega (arith, more, left, counted)
 
 -- ---- the note of a line
 
@@ -174,6 +228,33 @@ module _ (script : Script) (before seen : ℕ) (state : ThreadState) (l : Line) 
       by true t = refl
       by false true = refl
       by false false = refl
+
+-- ---- what is kept
+
+-- what holds whatever came
+pub on_ok-always : {T E Q : Type 0} (r : Result T E) → Q → OnOk r Q
+on_ok-always (Ok x) q = q
+on_ok-always (Err e) q = tt
+
+pub IsProcess-Grows : {old new : Tree} → Grows old new → (script : Script) (history : List Placed) (p : Process)
+    → IsProcess old script history p → IsProcess new script history p
+IsProcess-Grows grows script history p is = record {
+  holds = Holds-Grows grows script p.board (process_board script history p.count) is.holds;
+  within = is.within;
+}
+
+shared-false : (a p : Bool) → p ≡ true → (a && not p) ≡ false
+shared-false true true e = refl
+shared-false false p e = refl
+shared-false true false e = absurd cc
+
+-- a line of the process leaves the thread's own board
+pub shared-still : {old new : Tree} → Grows old new → (script : Script) (held : Blackboard NodeNumber) (l : Line) (a : Bool)
+    → is_process_line script l ≡ true
+    → HoldsThen old new script held held (λ b. if a && not (is_process_line script l) then board_placed script b (operation_of l) else b)
+shared-still {old} {new} grows script held l a shared b is =
+    subst (λ (q : Bool). Holds new script held (if q then board_placed script b (operation_of l) else b))
+    (sym (shared-false a (is_process_line script l) shared)) (Holds-Grows grows script held b is)
 
 -- what is found by boards of nodes
 pub held-found : (t : Tree) (script : Script) (thread : Plain) (process : Process) (state : ThreadState) (l : Line)
@@ -263,4 +344,18 @@ module _ (script : Script) where
       ∙ (λ j. notes ++ thread_note (starts j) (made j)
       ∷ threads_from script (before + length (process_lines script t)) (drop (i + 1) ts))
       ∙ ap (λ ts. notes ++ threads_from script before ts) (sym (drop-first ts i t below is))
+      ∙ so_far
+
+  pub notes-end : (before seen : ℕ) (state : ThreadState) (ls : List Line) (i : ℕ) (notes all : List LineNote) → length ls ≤ i
+      → notes ++ notes_from script before seen state (drop i ls) ≡ all → notes ≡ all
+  notes-end before seen state ls i notes all past so_far =
+      sym (append-nil notes)
+      ∙ ap (λ (ls : List Line). notes ++ notes_from script before seen state ls) (sym (drop-past ls i past))
+      ∙ so_far
+
+  pub threads-end : (before : ℕ) (ts : List (List Line)) (i : ℕ) (notes all : List ThreadNote) → length ts ≤ i
+      → notes ++ threads_from script before (drop i ts) ≡ all → notes ≡ all
+  threads-end before ts i notes all past so_far =
+      sym (append-nil notes)
+      ∙ ap (λ (ts : List (List Line)). notes ++ threads_from script before ts) (sym (drop-past ts i past))
       ∙ so_far

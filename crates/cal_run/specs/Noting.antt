@@ -35,18 +35,25 @@ abbrev pub is_timed : Script → Line → Option replies.Reply → Bool
 is_timed script l found =
     list_any (λ channel. channel.timer && (is_accepted found && takes script channel l)) script.channels
 
--- the note of a line by the reply that was found
+-- what a line has seen, and its reading, by the reply that was found
+abbrev pub seen_with : Script → (before seen : ℕ) → Line → Option replies.Reply → ℕ
+seen_with script before seen l found = if is_process_line script l then before + 1
+    else (if is_taken script l found then before else seen)
+
+abbrev pub reading_with : Script → (clock : ℕ) → Line → Option replies.Reply → Option ℕ
+reading_with script clock l found = if is_timed script l found then Some clock else None
+
+-- the note of a line by that reply
 abbrev pub noted : Script → (before seen clock : ℕ) → Line → Option replies.Reply → LineNote
 noted script before seen clock l found = record {
   reply = unwrap_or found reply.Merged;
-  seen = if is_process_line script l then before + 1
-      else (if is_taken script l found then before else seen);
-  reading = if is_timed script l found then Some clock else None;
+  seen = seen_with script before seen l found;
+  reading = reading_with script clock l found;
 }
 
 -- A line was noted, and the thread is kept as the line leaves it.
-pub record IsNoted (t : Tree) (script : Script) (before seen : ℕ) (l : Line) (note : LineNote)
+pub record IsNoted (t : Tree) (script : Script) (before had : ℕ) (l : Line) (note : LineNote)
     (thread : Plain) (state : ThreadState) : Type 0 where
-  pub note : note ≡ note_of script before seen state l
+  pub made : note ≡ note_of script before had state l
   pub seen : thread.seen ≡ note.seen
   pub kept : IsPlain t script thread (state_after script (plain_history script) l note state)

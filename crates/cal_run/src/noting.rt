@@ -8,6 +8,7 @@ ghost use Rattle.cal_run.specs.History.{board_placed};
 ghost use Rattle.cal_run.specs.Lawful.{process_lines};
 ghost use Rattle.cal_run.specs.Lines.{clock_after, is_process_line, operation_of};
 ghost use Rattle.cal_run.specs.Noting.{IsNoted, IsPlain, IsSomePlain, before_after, noted};
+ghost use Rattle.cal_run.specs.Noting.{reading_with, seen_with};
 ghost use Rattle.cal_run.specs.Numbers.{AreNumbered};
 ghost use Rattle.cal_run.specs.Plain.{notes_from, plain_history};
 ghost use Rattle.cal_run.specs.Steps.{ThreadState, at_start, is_accepted, reply_to_line};
@@ -15,6 +16,7 @@ ghost use Rattle.cal_valid.specs.Valid.{IsPlaced, IsRunnable};
 
 use crate::boards::operate;
 use crate::lines::is_process_line;
+use crate::placing::line_in;
 use crate::process::Process;
 use crate::steps::{clock_after, is_accepted, is_read, is_taken, reply_to_line};
 use crate::{Numbers, operation_of};
@@ -76,7 +78,7 @@ pub(crate) fn note_lines(
     let mut thread = Plain::new(alloc);
     let mut notes = Seq::new(alloc);
     for place in 0..lines.len() {
-        let line = lines[place];
+        let line = line_in(lines, place);
         let note = note_line(
             alloc,
             script,
@@ -151,25 +153,35 @@ fn note_of(
     requires { process.now.count < 18446744073709551615 }
     ensures { result ≡ noted script.now process.now.count thread.now.seen thread.now.clock line reply }
 {
-    let accepted = is_accepted(reply);
-    let before = process.count as u64;
-    let seen = if is_process_line(script, line) {
+    LineNote {
+        reply: reply.unwrap_or(Reply::Merged),
+        seen: seen_with(script, line, reply, process.count as u64, thread.seen),
+        reading: reading_with(script, line, reply, thread.clock),
+    }
+}
+
+/// How many operations a line with this reply has seen, behind so many.
+fn seen_with(script: &Script, line: Line, reply: Option<Reply>, before: u64, seen: u64) -> u64
+    requires { before < 18446744073709551615 }
+    ensures { result ≡ seen_with script.now before seen line reply }
+{
+    if is_process_line(script, line) {
         before + 1
-    } else if is_taken(script, line, accepted) {
+    } else if is_taken(script, line, is_accepted(reply)) {
         before
     } else {
-        thread.seen
-    };
-    let reading = if is_read(script, line, accepted) {
-        Some(thread.clock)
+        seen
+    }
+}
+
+/// The reading of a line with this reply, if it takes one.
+fn reading_with(script: &Script, line: Line, reply: Option<Reply>, clock: u64) -> Option<u64>
+    ensures { result ≡ reading_with script.now clock line reply }
+{
+    if is_read(script, line, is_accepted(reply)) {
+        Some(clock)
     } else {
         None
-    };
-    let reply = reply.unwrap_or(Reply::Merged);
-    LineNote {
-        reply,
-        seen,
-        reading,
     }
 }
 

@@ -1,5 +1,8 @@
-ghost use Rattle.std.specs.Prelude.{◌≡◌, ◌≤◌, ◌++◌, length, IfOk, OnOk};
+ghost use Rattle.std.specs.Prelude.{◌≡◌, ◌<◌, ◌≤◌, List, [], ◌∷◌, ◌++◌, length, IfOk, OnOk};
+ghost use Rattle.std.specs.Prelude.{if◌then◌else◌, slice_index_or};
+ghost use Rattle.cal_run.specs.Lines.{is_process_line};
 ghost use Rattle.cal_run.specs.Plain.{placed_lines, plain_history};
+ghost use Rattle.cal_script.specs.declared.script.Line as lines_of;
 ghost use Rattle.cal_valid.specs.Valid.{IsRunnable};
 
 use crate::lines::is_process_line;
@@ -13,9 +16,8 @@ pub(crate) fn plain_history(alloc: Global, script: &Script) -> Result<Seq<Placed
     ensures { IfOk result (λ history. history ≡ plain_history script.now) }
 {
     let mut history = Seq::new(alloc);
-    let threads = script.threads.as_slice();
-    for number in 0..threads.len() {
-        let lines = threads[number].as_slice();
+    for number in 0..script.threads.len() {
+        let lines = lines_of_thread(script, number);
         place_lines(script, number as u32, lines, &mut history)?;
     }
     Ok(history)
@@ -32,10 +34,45 @@ fn place_lines(
     ensures { OnOk result (history.new ≡ history.old ++ placed_lines script.now (thread, lines.now)) }
 {
     for place in 0..lines.len() {
-        if is_process_line(script, lines[place]) {
-            let line = place as u32 + 1;
-            history.push(Placed { thread, line })?;
-        }
+        let line = line_in(lines, place);
+        place_line(script, thread, place as u32 + 1, line, history)?;
     }
     Ok(())
+}
+
+/// Places a line of this number behind a history, if it is a process line.
+fn place_line(
+    script: &Script,
+    thread: u32,
+    number: u32,
+    line: Line,
+    history: &mut Seq<Placed>,
+) -> Result<(), OutOfMemory>
+    ensures { OnOk result (history.new ≡ (if is_process_line script.now line
+        then history.old ++ record { thread = thread; line = number } ∷ [] else history.old)) }
+{
+    if is_process_line(script, line) {
+        history.push(Placed {
+            thread,
+            line: number,
+        })
+    } else {
+        Ok(())
+    }
+}
+
+/// The lines of a thread.
+pub(crate) fn lines_of_thread(script: &Script, thread: usize) -> &[Line]
+    requires { thread < length script.now.threads }
+    ensures { (d : List lines_of.Line) → result.now ≡ slice_index_or script.now.threads thread d }
+{
+    script.threads.as_slice()[thread].as_slice()
+}
+
+/// The line at a place.
+pub(crate) fn line_in(lines: &[Line], place: usize) -> Line
+    requires { place < length lines.now }
+    ensures { (d : lines_of.Line) → result ≡ slice_index_or lines.now place d }
+{
+    lines[place]
 }

@@ -7,7 +7,7 @@ ghost use Rattle.cal_valid.specs.Valid.{IsRunnable};
 
 use crate::Numbers;
 use crate::noting::note_lines;
-use crate::placing::plain_history;
+use crate::placing::{lines_of_thread, plain_history};
 use crate::process::Process;
 use crate::steps::takes_start_reading;
 use cal_context::Context;
@@ -48,18 +48,21 @@ fn note_threads(
     let start = start_reading(script);
     let mut process = Process::new(alloc);
     let mut notes = Seq::new(alloc);
-    let threads = script.threads.as_slice();
-    for number in 0..threads.len() {
-        let lines = note_lines(
+    for number in 0..script.threads.len() {
+        let lines = lines_of_thread(script, number);
+        let noted = note_lines(
             alloc,
             script,
             numbers,
             history,
-            threads[number].as_slice(),
+            lines,
             &mut process,
             context,
         )?;
-        notes.push(ThreadNote { start, lines })?;
+        notes.push(ThreadNote {
+            start,
+            lines: noted,
+        })?;
     }
     Ok(notes)
 }
