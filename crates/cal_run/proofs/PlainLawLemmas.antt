@@ -64,7 +64,7 @@ module _ (script : Script) where
   threads-fit before [] = tt
   threads-fit before (t ∷ ts) = (notes-long before 0 at_start t, threads-fit (before + length (process_lines script t)) ts)
 
--- ---- the history
+  -- ---- the history
 
   unless-zero : (b : Bool) (o p : Option lines.Line) → b ≡ false → o ≡ p → (if b then None else o) ≡ p
   unless-zero true o p e is = absurd cc

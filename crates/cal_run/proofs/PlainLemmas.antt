@@ -211,18 +211,18 @@ module _ (script : Script) (before seen : ℕ) (state : ThreadState) (l : Line) 
       by true m = refl
       by false m = refl
 
+  abbrev with_seen : ℕ → LineNote
+  with_seen s = record {
+    reply = unwrap_or told reply.Merged;
+    seen = s;
+    reading = if list_any (λ channel. channel.timer && (is_accepted told && takes script channel l)) script.channels
+        then Some state.clock else None;
+  }
+
   -- the note is made of that reply
   pub noted-is : noted script before seen state.clock l told ≡ note_of script before seen state l
   noted-is = ap with_seen (by (is_process_line script l) (list_any (λ channel. is_accepted told && takes script channel l) script.channels))
     where
-      abbrev with_seen : ℕ → LineNote
-      with_seen s = record {
-        reply = unwrap_or told reply.Merged;
-        seen = s;
-        reading = if list_any (λ channel. channel.timer && (is_accepted told && takes script channel l)) script.channels
-            then Some state.clock else None;
-      }
-
       by : (p t : Bool) → (if p then before + 1 else (if t then before else seen))
           ≡ (if p then before + 1 else (if t && not p then before else seen))
       by true t = refl
@@ -282,17 +282,14 @@ pub kept-plain : (old new : Tree) (script : Script) (before : ℕ) (was is : Pla
     (state_after script (plain_history script) l (note_of script before was.seen state l) state)
 kept-plain old new script before was is state l a accepted kept holds clock =
     subst (λ (a : Bool). IsPlain new script is
-    (if a && not (is_process_line script l) then changed script (plain_history script) l note state else state))
+    (if a && not (is_process_line script l) then changed script (plain_history script) l (note_of script before was.seen state l) state else state))
     (accepted ∙ ap is_accepted (sym (found-noted script before was.seen state l)))
     (by (a && not (is_process_line script l)) (holds state.board kept.mine)
     (clock ∙ ap (λ c. if a && not (is_process_line script l) then clock_after c l else c) kept.clock))
   where
-    abbrev note : LineNote
-    note = note_of script before was.seen state l
-
     by : (q : Bool) → Holds new script is.board (if q then board_placed script state.board (operation_of l) else state.board)
         → is.clock ≡ (if q then clock_after state.clock l else state.clock)
-        → IsPlain new script is (if q then changed script (plain_history script) l note state else state)
+        → IsPlain new script is (if q then changed script (plain_history script) l (note_of script before was.seen state l) state else state)
     by true holds clock = record { mine = holds; clock = clock }
     by false holds clock = record { mine = holds; clock = clock }
 

@@ -1,5 +1,6 @@
 -- How the plain journal is made: a thread is kept by nodes, behind all operations before it.
-use Rattle.std.specs.Prelude.{◌≡◌, ℕ, ◌+◌, ◌<◌, Bool, if◌then◌else◌, ◌&&◌, Option, Some, None, unwrap_or}
+use Rattle.std.specs.Prelude.{◌≡◌, ℕ, ◌+◌, Bool, if◌then◌else◌, ◌&&◌}
+use Rattle.std.specs.Prelude.{Option, Some, None, unwrap_or}
 use Rattle.std.specs.List.{list_any}
 use Rattle.cal_context.specs.Tree.{Tree}
 use Rattle.cal_run.specs.Held.{Holds}
@@ -14,7 +15,8 @@ use Rattle.cal_script.specs.declared.script.Line.{Line}
 use Rattle.cal_script.specs.declared.script.Script.{Script}
 
 -- a thread is kept in a context: its board and its clock
-pub record IsPlain (t : Tree) (script : Script) (thread : Plain) (state : ThreadState) : Type 0 where
+pub record IsPlain (t : Tree) (script : Script) (thread : Plain) (state : ThreadState)
+    : Type 0 where
   pub mine : Holds t script thread.board state.board
   pub clock : thread.clock ≡ state.clock
 
@@ -33,7 +35,8 @@ is_taken script l found =
 
 abbrev pub is_timed : Script → Line → Option replies.Reply → Bool
 is_timed script l found =
-    list_any (λ channel. channel.timer && (is_accepted found && takes script channel l)) script.channels
+    list_any (λ channel. channel.timer && (is_accepted found && takes script channel l))
+    script.channels
 
 -- what a line has seen, and its reading, by the reply that was found
 abbrev pub seen_with : Script → (before seen : ℕ) → Line → Option replies.Reply → ℕ

@@ -111,10 +111,12 @@ fn note_line(
     requires history { history.now ≡ plain_history script.now }
     requires process { IsProcess context.old script.now history.now process.old }
     requires thread { IsSomePlain context.old script.now thread.old }
-    requires room { is_process_line script.now line ≡ true → process.old.count < length history.now }
+    requires room { is_process_line script.now line ≡ true
+        → process.old.count < length history.now }
     ensures noted { IfOk result (λ note. (state : ThreadState)
         → IsPlain context.old script.now thread.old state
-        → IsNoted context.new script.now process.old.count thread.old.seen line note thread.new state) }
+        → IsNoted context.new script.now process.old.count thread.old.seen line note thread.new
+        state) }
     ensures process { OnOk result (IsProcess context.new script.now history.now process.new) }
     ensures count { OnOk result (process.new.count
         ≡ before_after script.now process.old.count line) }
@@ -151,7 +153,8 @@ fn note_of(
     process: &Process,
 ) -> LineNote
     requires { process.now.count < 18446744073709551615 }
-    ensures { result ≡ noted script.now process.now.count thread.now.seen thread.now.clock line reply }
+    ensures { result ≡ noted script.now process.now.count thread.now.seen thread.now.clock line
+        reply }
 {
     LineNote {
         reply: reply.unwrap_or(Reply::Merged),
@@ -203,7 +206,8 @@ fn follow(
     requires places { MayHavePlaces script.now (operation_of line) }
     requires process { IsProcess context.old script.now history.now process.old }
     requires holds { HoldsSome context.old script.now thread.old.board }
-    requires room { is_process_line script.now line ≡ true → process.old.count < length history.now }
+    requires room { is_process_line script.now line ≡ true
+        → process.old.count < length history.now }
     ensures board { OnOk result (HoldsThen context.old context.new script.now
         thread.old.board thread.new.board
         (λ b. if accepted && not (is_process_line script.now line)

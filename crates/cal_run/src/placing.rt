@@ -31,7 +31,8 @@ fn place_lines(
     history: &mut Seq<Placed>,
 ) -> Result<(), OutOfMemory>
     requires few { length lines.now ≤ 1048576 }
-    ensures { OnOk result (history.new ≡ history.old ++ placed_lines script.now (thread, lines.now)) }
+    ensures { OnOk result (history.new
+        ≡ history.old ++ placed_lines script.now (thread, lines.now)) }
 {
     for place in 0..lines.len() {
         let line = line_in(lines, place);

@@ -15,8 +15,8 @@ use cal_script::{Journal, Placed, Script, ThreadNote};
 use cal_value::{OutOfMemory, Seq};
 use std::alloc::Global;
 
-/// The journal of the threads one after another, the first one first, with the script clock and each
-/// flush merged. It takes time in the lines and, for each, in the channels.
+/// The journal of the threads one after another, the first one first, with the script clock and
+/// each flush merged. It takes time in the lines and, for each, in the channels.
 pub fn plain_journal(alloc: Global, script: &Script) -> Result<Journal, OutOfMemory>
     requires runnable { IsRunnable script.now }
     ensures plain { IfOk result (λ journal. journal ≡ plain script.now) }

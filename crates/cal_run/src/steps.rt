@@ -12,11 +12,7 @@ use cal_script::{Line, Reply, Script};
 use cal_words::OpCode;
 
 /// The reply to a line, by the board that it acts on. That to a flush is none.
-pub(crate) fn reply_to_line(
-    script: &Script,
-    line: Line,
-    board: &Board<NodeNumber>,
-) -> Option<Reply>
+pub(crate) fn reply_to_line(script: &Script, line: Line, board: &Board<NodeNumber>) -> Option<Reply>
     ensures { result ≡ reply_to_line script.now board.now line }
 {
     match line {
@@ -74,11 +70,9 @@ pub(crate) fn is_read(script: &Script, line: Line, accepted: bool) -> bool
         (λ channel. channel.timer && (accepted && takes script.now channel line))
         script.now.channels }
 {
-    script
-        .channels
-        .as_slice()
-        .iter()
-        .any(|channel| channel.timer && accepted && takes(script, channel, line))
+    script.channels.as_slice().iter().any(|channel| channel.timer
+        && accepted
+        && takes(script, channel, line))
 }
 
 /// Whether threads take a reading before their first line.

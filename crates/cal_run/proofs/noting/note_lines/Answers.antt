@@ -63,8 +63,8 @@ loop-place-preserved c =
         after,
         noted.kept,
         (λ j. c.in_ok-push.ensures.ok j ++ notes_from script (step.count j) (noted.seen j) after (drop (i + 1) lines))
-        ∙ notes-drop script c.loop-place.process.count c.loop-place.thread.seen state lines i l note c.loop-place.notes _
-        c.loop-place-test.true (c.line_in-line.ensures l) noted.made old.so_far.2,
+            ∙ notes-drop script c.loop-place.process.count c.loop-place.thread.seen state lines i l note c.loop-place.notes _
+            c.loop-place-test.true (c.line_in-line.ensures l) noted.made old.so_far.2,
       );
     }
 

@@ -15,7 +15,7 @@ place_lines-requires c =
     let below : c.loop-number.number < length script.threads = omega arith in
     let most = get_or-le-sum_by length script.threads c.loop-number.number t below in
     let same = ap length (c.lines_of_thread-lines.ensures t) in
-    omega (arith, most, same, c.requires.few_lines)
+    omega (arith, most, same, c.requires.runnable.few_lines)
 
 pub loop-number-preserved : goal.loop-number-preserved
 loop-number-preserved c =
