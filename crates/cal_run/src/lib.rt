@@ -27,9 +27,4 @@ pub use laws::{lawful_journal_law, plain_journal_law};
 pub use numbers::{EventNumbers, Numbers};
 pub use operation::{Operation, operation_of};
 pub use plain::plain_journal;
-mod thread;
-
-pub use laws::lawful_journal_law;
-pub use numbers::{EventNumbers, Numbers};
-pub use operation::{Operation, operation_of};
 pub use run::take_channel;
