@@ -244,7 +244,7 @@ module _ {was is : Tree} (grows : Grows was is) (script : Script) (history : Lis
 
 -- ---- before the first line
 
-nothing-holds : (t : Tree) (script : Script) → Holds t script nothing_open nothing_open
+pub nothing-holds : (t : Tree) (script : Script) → Holds t script nothing_open nothing_open
 nothing-holds t script = record {
   stands = record { references = tt; as_values = refl };
   known = record {

@@ -10,3 +10,4 @@ pub mod Adding
 pub mod Threads
 pub mod Seeing
 pub mod Plain
+pub mod Noting

@@ -15,12 +15,13 @@ use Rattle.cal_script.specs.declared.script.Line.{Line}
 use Rattle.cal_script.specs.declared.script.Script.{Script}
 
 module _ (script : Script) where
+  -- the process lines of a thread, as they are placed
+  abbrev pub placed_lines : ℕ × List Line → List Placed
+  placed_lines t = map (λ n. record { thread = t.0; line = n }) (process_lines script t.1)
+
   -- all process lines
   abbrev pub plain_history : List Placed
-  plain_history = flat_map
-      (λ (t : ℕ × List Line).
-      map (λ n. record { thread = t.0; line = n }) (process_lines script t.1))
-      (enumerate_from 0 script.threads)
+  plain_history = flat_map placed_lines (enumerate_from 0 script.threads)
 
   -- What a line meets behind so many operations: those, and on a process line itself.
   abbrev pub met : (before : ℕ) → ThreadState → Line → LineNote
