@@ -5,3 +5,5 @@ pub mod ServiceLemmas
 pub mod LineLemmas
 pub mod RunLemmas
 pub mod LawLemmas
+pub mod BrokenLemmas
+pub mod RowLemmas

@@ -1,5 +1,5 @@
 ghost use Rattle.std.specs.Prelude.{◌≡◌, ◌++◌, ◌∷◌, [], ◌↔◌, ◌<◌, length, false, true, All, IfErr, IfOk};
-ghost use Rattle.std.specs.Prelude.{IsTrue, List, OnOk, Some, slice_get};
+ghost use Rattle.std.specs.Prelude.{IsTrue, List, OnOk, Some, replicate, slice_get};
 ghost use Rattle.std.specs.List.{AllZip};
 ghost use Rattle.cal_journal.specs.declared.kind.JournalKind.TheVariants as kind;
 ghost use Rattle.cal_run.specs.Broken.{HasBegun, op_line};
@@ -40,7 +40,7 @@ pub(crate) fn check_order(
 {
     let lists = process_lists(alloc, script)?;
     let ops = text.journal.ops.as_slice();
-    let mut counts = vec![in alloc; 0; lists.len()]?;
+    let mut counts = no_counts(alloc, &lists)?;
     if let Some(place) = first_out_of_order(script, &lists, ops, &mut counts) {
         return Err(CoreEnd::JournalFault {
             line: op_line(text, place),
@@ -54,6 +54,17 @@ pub(crate) fn check_order(
         });
     }
     Ok(())
+}
+
+/// No operation of any thread.
+fn no_counts(alloc: Global, lists: &[Vec<u32>]) -> Result<Vec<usize>, OutOfMemory>
+    ensures { IfOk result (λ counts. counts.items ≡ replicate (length lists.now) 0) }
+{
+    let mut counts = Vec::with_capacity(alloc, lists.len())?;
+    for _thread in 0..lists.len() {
+        counts.push(0)?;
+    }
+    Ok(counts)
 }
 
 /// The input's line of an operation.
