@@ -7,3 +7,6 @@ pub mod RunLemmas
 pub mod LawLemmas
 pub mod BrokenLemmas
 pub mod RowLemmas
+pub mod OrderLemmas
+pub mod MergeLemmas
+pub mod WatchLemmas

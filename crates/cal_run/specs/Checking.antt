@@ -83,14 +83,20 @@ noted spot l note state = record {
   state = state;
 }
 
--- whether a row is a flush of this channel that was merged in this thread
-abbrev pub is_merge : (channel : ℕ) → lines.Line → replies.Reply → Bool
-is_merge channel (line.Flush flushed) reply.Merged = flushed == channel
-is_merge channel _ _ = false
+-- the channel of a flush that was merged
+abbrev pub merged_channel : lines.Line → replies.Reply → Option ℕ
+merged_channel (line.Flush channel) reply.Merged = Some channel
+merged_channel _ _ = None
 
+abbrev pub is_channel : (channel : ℕ) → Option ℕ → Bool
+is_channel channel None = false
+is_channel channel (Some merged) = merged == channel
+
+-- whether a row is a flush of this channel that was merged in this thread
 abbrev pub merges : (thread channel : ℕ) → Row → Bool
 merges thread channel (Start note) = false
-merges thread channel (Noted n) = n.thread == thread && is_merge channel n.line n.note.reply
+merges thread channel (Noted n) =
+    n.thread == thread && is_channel channel (merged_channel n.line n.note.reply)
 
 -- the marks of 64 threads with 16 channels each
 abbrev pub has_merged : List Bool → (thread channel : ℕ) → Bool
@@ -102,10 +108,10 @@ pub record AreMerged (rows : List Row) (marks : List Bool) : Type 0 where
   pub marked : (thread channel : ℕ)
       → has_merged marks thread channel ≡ list_any (merges thread channel) rows
 
--- a channel that is flushed is one of 16
-abbrev pub IsChannel : lines.Line → Type 0
-IsChannel (line.Flush channel) = channel < 16
-IsChannel _ = Unit {0}
+-- a channel that was merged is one of 16
+abbrev pub IsChannel : Option ℕ → Type 0
+IsChannel None = Unit {0}
+IsChannel (Some channel) = channel < 16
 
 module _ (script : Script) (journal : Journal) where
   abbrev pub TellsRule : JournalKind → Option ℕ → List Row → Type 0
@@ -129,16 +135,20 @@ module _ (script : Script) (journal : Journal) where
 -- ---- what a line finds
 
 module _ (script : Script) where
-  -- by the board that it acts on
-  abbrev pub found_on : {V : Type 0} → Blackboard V → lines.Line → (clock : ℕ) → Found
-  found_on b l clock = record {
-    reply = reply_to_line script b l;
-    looks = list_any (λ (c : Channel). is_accepted (reply_to_line script b l) && takes script c l)
-        script.channels && not (is_process_line script l);
-    due = list_any (λ (c : Channel).
-        c.timer && (is_accepted (reply_to_line script b l) && takes script c l)) script.channels;
+  -- by its reply
+  abbrev pub found_with : Option replies.Reply → lines.Line → (clock : ℕ) → Found
+  found_with found l clock = record {
+    reply = found;
+    looks = list_any (λ (c : Channel). is_accepted found && takes script c l) script.channels
+        && not (is_process_line script l);
+    due = list_any (λ (c : Channel). c.timer && (is_accepted found && takes script c l))
+        script.channels;
     clock = clock;
   }
+
+  -- by the board that it acts on
+  abbrev pub found_on : {V : Type 0} → Blackboard V → lines.Line → (clock : ℕ) → Found
+  found_on b l clock = found_with (reply_to_line script b l) l clock
 
   abbrev pub found_of : List Placed → lines.Line → LineNote → ThreadState → Found
   found_of history l note state = found_on (acted_on script history l note state) l state.clock

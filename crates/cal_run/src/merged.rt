@@ -1,6 +1,6 @@
 ghost use Rattle.std.specs.Prelude.{◌≡◌, ◌<◌, [], ◌∷◌, ◌++◌, IfOk, List};
 ghost use Rattle.cal_run.specs.Broken.Row as rows;
-ghost use Rattle.cal_run.specs.Checking.{AreMerged, IsChannel, has_merged};
+ghost use Rattle.cal_run.specs.Checking.{AreMerged, IsChannel, has_merged, merged_channel};
 ghost use Rattle.cal_run.specs.Lawful.{NotedLine};
 
 use cal_script::{Line, LineNote, Reply};
@@ -29,15 +29,13 @@ impl Merged {
     /// Marks a flush of a thread, where it was merged.
     pub(crate) fn mark(&mut self, thread: usize, line: Line, note: LineNote)
         requires within { thread < 64 }
-        requires channel { IsChannel line }
+        requires channel { IsChannel (merged_channel line note.reply) }
         ensures { (front : List rows.Row) (n : NotedLine) → n.thread ≡ thread → n.line ≡ line → n.note ≡ note
             → AreMerged front self.old.marks.items
             → AreMerged (front ++ rows.Noted n ∷ []) self.new.marks.items }
     {
-        if let Line::Flush { channel } = line {
-            if note.reply == Reply::Merged {
-                self.marks[thread * MOST_CHANNELS + channel as usize] = true;
-            }
+        if let Some(channel) = merged_channel(line, note.reply) {
+            self.marks[thread * MOST_CHANNELS + channel as usize] = true;
         }
     }
 
@@ -48,5 +46,18 @@ impl Merged {
         thread < MOST_THREADS
             && channel < MOST_CHANNELS
             && self.marks.get(thread * MOST_CHANNELS + channel).copied().unwrap_or(false)
+    }
+}
+
+/// The channel of a flush that was merged.
+fn merged_channel(line: Line, reply: Reply) -> Option<u32>
+    ensures { result ≡ merged_channel line reply }
+{
+    match line {
+        Line::Flush { channel } => match reply {
+            Reply::Merged => Some(channel),
+            _ => None,
+        },
+        _ => None,
     }
 }

@@ -2,7 +2,7 @@ ghost use Rattle.std.specs.Prelude.{◌≡◌, ◌<◌, ◌≤◌, ◌+◌, ◌�
 ghost use Rattle.std.specs.Prelude.{IfOk, List, Some, slice_get};
 ghost use Rattle.cal_run.specs.Broken.{Row, all_rows};
 ghost use Rattle.cal_run.specs.Broken.Row.{Noted};
-ghost use Rattle.cal_run.specs.Checking.{IsChannel, SeenTell, next_first, noted};
+ghost use Rattle.cal_run.specs.Checking.{IsChannel, SeenTell, merged_channel, next_first, noted};
 ghost use Rattle.cal_run.specs.Lawful.{HasShape, SeenOwn, SeesOwn, noted_from};
 ghost use Rattle.cal_run.specs.Steps.{ThreadState, at_start};
 ghost use Rattle.cal_valid.specs.Valid.{IsPlaced, IsRunnable};
@@ -100,7 +100,7 @@ fn test_line(
     tests: &mut SeenTests,
 )
     requires within { spot.thread < 64 }
-    requires channel { IsChannel line }
+    requires channel { IsChannel (merged_channel line note.reply) }
     requires room { tests.old.row < 2000000 }
     ensures told { (front : List Row) (state : ThreadState)
         → SeenTell script.now journal.now tests.old front
