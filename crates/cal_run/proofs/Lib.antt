@@ -10,3 +10,4 @@ pub mod RowLemmas
 pub mod OrderLemmas
 pub mod MergeLemmas
 pub mod WatchLemmas
+pub mod TellLemmas

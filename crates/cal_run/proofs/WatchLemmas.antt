@@ -1,11 +1,15 @@
 -- What lines find, and how a thread is kept while its lines are gone through.
 use Rattle.std.proofs.Common.{◌≡◌, ℕ, ◌+◌, ◌-◌, ◌<◌, ◌≤◌, List, [], ◌∷◌, ◌++◌, Bool, true, false, if◌then◌else◌, ◌&&◌, length, ap, subst, sym, refl, ◌∙◌, arith}
 use Rattle.std.specs.Prelude.{Option, Some, None, not}
+use Rattle.std.specs.List.{All}
+use Rattle.std.proofs.lemmas.List.Elements.{All-nil}
 use Rattle.cal_board.specs.Blackboard.{Blackboard, nothing_open}
+use Rattle.cal_board.specs.PathBoards.{AreKnown}
+use Rattle.cal_board.specs.declared.opened.Slot.{Slot}
 use Rattle.cal_context.specs.Tree.{Tree, Grows}
 use Rattle.cal_context.specs.declared.numbers.NodeNumber.{NodeNumber}
 use Rattle.cal_run.proofs.HeldLemmas.{Holds-Grows}
-use Rattle.cal_run.proofs.LineLemmas.{nothing-holds, reply_to_line-Holds}
+use Rattle.cal_run.proofs.LineLemmas.{reply_to_line-Holds}
 use Rattle.cal_run.specs.Checking.{IsWatched, found_of, found_on, found_with}
 use Rattle.cal_run.specs.Held.{Holds, HoldsThen, IsProcess}
 use Rattle.cal_run.specs.History.{board_placed, process_board}
@@ -20,6 +24,16 @@ use Rattle.cal_script.specs.declared.journal.Reply.TheVariants as reply
 use Rattle.cal_script.specs.declared.script.Line.{Line}
 use Rattle.cal_script.specs.declared.script.Script.{Script}
 use Rattle.cal_value.specs.declared.variant.Variant.{Variant}
+
+-- a board without values
+nothing-holds : (t : Tree) (script : Script) → Holds t script nothing_open nothing_open
+nothing-holds t script = record {
+  stands = record { references = tt; as_values = refl };
+  known = record {
+    references = All-nil (λ (s : Slot Variant). AreKnown script.attributes s.opened);
+    as_values = All-nil (λ (s : Slot Variant). AreKnown script.attributes s.opened);
+  };
+}
 
 -- a thread before its first line
 pub start-watch : (t : Tree) (script : Script) (history : List Placed) (watch : Watch) → watch.board ≡ nothing_open

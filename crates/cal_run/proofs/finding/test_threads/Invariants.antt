@@ -13,7 +13,7 @@ invariant-loop-thread l = record {
   numbered : AreNumbered l.context l.script l.numbers;
   so_far : (rows : List Row)
       × (rows ++ flat_map (thread_rows l.script l.journal)
-      (enumerate_from l.thread (zip (drop l.thread l.script.threads) (drop l.thread l.journal.threads)))
+      (enumerate_from l.thread (drop l.thread (zip l.script.threads l.journal.threads)))
       ≡ all_rows l.script l.journal)
       × FoundTell l.script l.journal l.tests rows;
   room : l.tests.row + sum_by length (drop l.thread l.script.threads) + length (drop l.thread l.script.threads) ≤ 2000000;
