@@ -6,6 +6,7 @@ use Rattle.std.proofs.lemmas.List.{map-append}
 use Rattle.std.proofs.lemmas.List.Elements.{All-append, All-cons, All-nil}
 use Rattle.cal_journal.specs.declared.kind.JournalKind.{JournalKind}
 use Rattle.cal_journal.specs.declared.kind.JournalKind.TheVariants as kind
+use Rattle.cal_run.proofs.LawLemmas.{threads_in_order}
 use Rattle.cal_run.proofs.RunLemmas.{zip_drop}
 use Rattle.cal_run.specs.Broken.{AllKeep, HoldBefore, HoldsRule, IsLawfulText, KeepsLine, KeepsRow, Row, all_rows, line_rows, rows_from, starts_of, thread_rows, wanted_rows, written_from, written_rows}
 use Rattle.cal_run.specs.Broken.Row.{Noted, Start}
@@ -114,6 +115,18 @@ pub kept-lines : (script : Script) (journal : Journal) (rule : JournalKind) → 
     → All (KeepsLine script journal rule) (noted_lines script journal)
 kept-lines script journal rule all =
     all-noted script journal (KeepsRow script journal rule) 0 (zip script.threads journal.threads) all
+
+-- where the rules on what lines have seen hold, a run can be read off the journal
+pub seen-read : (script : Script) (text : JournalText) → HoldBefore script text kind.SeenFixed → CanBeRead script text.journal
+seen-read script text held =
+    let journal = text.journal in
+    let rises = kept-lines script journal kind.SeenFalls held.0.0.1 in
+    let within = kept-lines script journal kind.SeenPast held.0.1 in
+    let own = kept-lines script journal kind.SeenOwn held.1 in
+    record {
+      shape = written-shape script text held.0.0.0.0.0;
+      order = threads_in_order script journal 0 (zip script.threads journal.threads) (λ k d l. (rises k d l, within k d l, own k d l));
+    }
 
 -- the rules together are the law
 pub all-rules : (script : Script) (text : JournalText) → HoldBefore script text kind.Reply → HoldsRule script text kind.Reply

@@ -132,5 +132,10 @@ fn is_written(text: &JournalText, row: usize, start: bool, wanted: RowName) -> b
     ensures { IsTrue result ↔ (written_row text.now row start ≡ wanted) }
 {
     let mark = mark_at(text, row);
-    start == wanted.start && mark.thread == wanted.thread && mark.number == wanted.number
+    let written = RowName {
+        start,
+        thread: mark.thread,
+        number: mark.number,
+    };
+    written == wanted
 }
