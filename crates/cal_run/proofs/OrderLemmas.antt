@@ -78,15 +78,15 @@ long-zip R [] (y ∷ ys) all = absurd all
 long-zip R (x ∷ xs) [] all = absurd all
 long-zip R (x ∷ xs) (y ∷ ys) all = ap suc (long-zip R xs ys all.1)
 
-abbrev ListIs : Script → Vec ℕ → List Line → Type 0
+abbrev ListIs : {Z : Type 0} → Script → Vec ℕ Z → List Line → Type 0
 ListIs script list ls = list.items ≡ process_lines script ls
 
-module _ (script : Script) (lists : List (Vec ℕ)) (listed : AreListed script lists script.threads) where
+module _ (script : Script) {Z : Type 0} (lists : List (Vec ℕ Z)) (listed : AreListed script lists script.threads) where
   pub lists-long : length lists ≡ length script.threads
   lists-long = long-zip (ListIs script) lists script.threads listed
 
   -- the list of a thread
-  list-is : (t : ℕ) (ls : List Line) (d : Vec ℕ) → slice_get script.threads t ≡ Some ls → t < length lists
+  list-is : (t : ℕ) (ls : List Line) (d : Vec ℕ Z) → slice_get script.threads t ≡ Some ls → t < length lists
       → (get_or lists t d).items ≡ process_lines script ls
   list-is t ls d is below =
       all_zip-at (ListIs script) lists script.threads t d ls listed below
@@ -101,7 +101,7 @@ module _ (script : Script) (lists : List (Vec ℕ)) (listed : AreListed script l
         ∙ get_or-replicate (length lists) t 0 0 (let long : length counts ≡ length lists = ap length none ∙ length-replicate (length lists) 0 in omega (arith, below, long));
   }
 
-  module _ (history : List Placed) (op : Placed) (counts : List ℕ) (counted : AreCounted script history counts) (d : Vec ℕ)
+  module _ (history : List Placed) (op : Placed) (counts : List ℕ) (counted : AreCounted script history counts) (d : Vec ℕ Z)
       (in_counts : op.thread < length counts) (in_lists : op.thread < length lists) where
     -- the next process line of a thread is placed
     pub counted-next : slice_get (get_or lists op.thread d).items (get_or counts op.thread 0) ≡ Some op.line
@@ -161,7 +161,7 @@ module _ (script : Script) (lists : List (Vec ℕ)) (listed : AreListed script l
 
   module _ (history : List Placed) (counts : List ℕ) (counted : AreCounted script history counts) where
     -- where no thread lacks an operation, all are placed
-    pub whole-order : (d : Vec ℕ) → ((k : ℕ) (d : Vec ℕ) → k < length lists → length (get_or lists k d).items ≤ get_or counts k 0)
+    pub whole-order : (d : Vec ℕ Z) → ((k : ℕ) (d : Vec ℕ Z) → k < length lists → length (get_or lists k d).items ≤ get_or counts k 0)
         → HasOrder script history
     whole-order d enough t ls is =
         let long : length lists ≡ length script.threads = lists-long in
@@ -174,7 +174,7 @@ module _ (script : Script) (lists : List (Vec ℕ)) (listed : AreListed script l
         let count = counted.counted t in_counts in
         front-whole (placed_of t history) (process_lines script ls) (counted.begun t ls is) (omega (arith, long3, most, count))
 
-    pub lacks-order : (t : ℕ) (d : Vec ℕ) → t < length lists → get_or counts t 0 < length (get_or lists t d).items
+    pub lacks-order : (t : ℕ) (d : Vec ℕ Z) → t < length lists → get_or counts t 0 < length (get_or lists t d).items
         → ¬ HasOrder script history
     lacks-order t d in_lists lacks order =
         let long : length lists ≡ length script.threads = lists-long in

@@ -8,8 +8,9 @@ use Rattle.cal_journal.specs.declared.kind.JournalKind.{JournalKind}
 use Rattle.cal_journal.specs.declared.kind.JournalKind.TheVariants as kind
 use Rattle.cal_run.proofs.LawLemmas.{threads_in_order}
 use Rattle.cal_run.proofs.RunLemmas.{zip_drop}
-use Rattle.cal_run.specs.Broken.{AllKeep, HoldBefore, HoldsRule, IsLawfulText, KeepsLine, KeepsRow, Row, all_rows, line_rows, rows_from, starts_of, thread_rows, wanted_rows, written_from, written_rows}
+use Rattle.cal_run.specs.Broken.{AllKeep, IsLawfulText, KeepsLine, KeepsRow, Row, all_rows, line_rows, rows_from, starts_of, thread_rows, wanted_rows, written_from, written_rows}
 use Rattle.cal_run.specs.Broken.Row.{Noted, Start}
+use Rattle.cal_run.specs.Checking.{HoldFirst}
 use Rattle.cal_run.specs.Lawful.{HasShape, Lawful, NotedLine, noted_from, noted_lines, noted_of}
 use Rattle.cal_run.specs.Seeing.{CanBeRead}
 use Rattle.cal_run.specs.Steps.{ThreadState, at_start, state_after}
@@ -117,36 +118,36 @@ kept-lines script journal rule all =
     all-noted script journal (KeepsRow script journal rule) 0 (zip script.threads journal.threads) all
 
 -- where the rules on what lines have seen hold, a run can be read off the journal
-pub seen-read : (script : Script) (text : JournalText) → HoldBefore script text kind.SeenFixed → CanBeRead script text.journal
+pub seen-read : (script : Script) (text : JournalText) → HoldFirst script text 6 → CanBeRead script text.journal
 seen-read script text held =
     let journal = text.journal in
-    let rises = kept-lines script journal kind.SeenFalls held.0.0.1 in
-    let within = kept-lines script journal kind.SeenPast held.0.1 in
-    let own = kept-lines script journal kind.SeenOwn held.1 in
+    let rises = kept-lines script journal kind.SeenFalls held.1.1.1.0 in
+    let within = kept-lines script journal kind.SeenPast held.1.1.1.1.0 in
+    let own = kept-lines script journal kind.SeenOwn held.1.1.1.1.1.0 in
     record {
-      shape = written-shape script text held.0.0.0.0.0;
+      shape = written-shape script text held.0;
       order = threads_in_order script journal 0 (zip script.threads journal.threads) (λ k d l. (rises k d l, within k d l, own k d l));
     }
 
 -- the rules together are the law
-pub all-rules : (script : Script) (text : JournalText) → HoldBefore script text kind.Reply → HoldsRule script text kind.Reply
+pub all-rules : (script : Script) (text : JournalText) → HoldFirst script text 9
     → IsLawfulText script text
-all-rules script text held last =
+all-rules script text held =
     let journal = text.journal in
-    let shape = written-shape script text held.0.0.0.0.0.0.0 in
+    let shape = written-shape script text held.0 in
     record {
-      rows = held.0.0.0.0.0.0.0;
+      rows = held.0;
       lawful = record {
         shape = shape;
-        known = held.0.0.0.0.0.0.1;
-        order = held.0.0.0.0.0.1;
-        rises = kept-lines script journal kind.SeenFalls held.0.0.0.0.1;
-        within = kept-lines script journal kind.SeenPast held.0.0.0.1;
-        own = kept-lines script journal kind.SeenOwn held.0.0.1;
-        fixed = kept-lines script journal kind.SeenFixed held.0.1;
-        starts = all-starts script journal (KeepsRow script journal kind.Reading) 0 script.threads journal.threads shape held.1;
-        read = kept-lines script journal kind.Reading held.1;
-        answered = kept-lines script journal kind.Reply last;
+        known = held.1.0;
+        order = held.1.1.0;
+        rises = kept-lines script journal kind.SeenFalls held.1.1.1.0;
+        within = kept-lines script journal kind.SeenPast held.1.1.1.1.0;
+        own = kept-lines script journal kind.SeenOwn held.1.1.1.1.1.0;
+        fixed = kept-lines script journal kind.SeenFixed held.1.1.1.1.1.1.0;
+        starts = all-starts script journal (KeepsRow script journal kind.Reading) 0 script.threads journal.threads shape held.1.1.1.1.1.1.1.0;
+        read = kept-lines script journal kind.Reading held.1.1.1.1.1.1.1.0;
+        answered = kept-lines script journal kind.Reply held.1.1.1.1.1.1.1.1.0;
       };
     }
 

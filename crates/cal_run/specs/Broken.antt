@@ -130,6 +130,11 @@ module _ (script : Script) (journal : Journal) where
 
 -- ---- the rules
 
+-- the rules, in the order in which they are tried; Form, Cut and After are the reader's
+abbrev pub rules : List JournalKind
+rules = kind.Shape ∷ kind.OpStranger ∷ kind.OpOrder ∷ kind.SeenFalls ∷ kind.SeenPast ∷ kind.SeenOwn
+    ∷ kind.SeenFixed ∷ kind.Reading ∷ kind.Reply ∷ []
+
 module _ (script : Script) (text : JournalText) where
   -- a rule holds of the journal
   abbrev pub HoldsRule : JournalKind → Type 0
@@ -138,18 +143,10 @@ module _ (script : Script) (text : JournalText) where
   HoldsRule kind.OpOrder = HasOrder script text.journal.ops
   HoldsRule rule = AllKeep script text.journal rule (all_rows script text.journal)
 
-  -- the rules before this one hold
-  abbrev pub HoldBefore : JournalKind → Type 0
-  HoldBefore kind.OpStranger = HoldsRule kind.Shape
-  HoldBefore kind.OpOrder = HoldBefore kind.OpStranger × HoldsRule kind.OpStranger
-  HoldBefore kind.SeenFalls = HoldBefore kind.OpOrder × HoldsRule kind.OpOrder
-  HoldBefore kind.SeenPast = HoldBefore kind.SeenFalls × HoldsRule kind.SeenFalls
-  HoldBefore kind.SeenOwn = HoldBefore kind.SeenPast × HoldsRule kind.SeenPast
-  HoldBefore kind.SeenFixed = HoldBefore kind.SeenOwn × HoldsRule kind.SeenOwn
-  HoldBefore kind.Reading = HoldBefore kind.SeenFixed × HoldsRule kind.SeenFixed
-  HoldBefore kind.Reply = HoldBefore kind.Reading × HoldsRule kind.Reading
-  HoldBefore _ = Unit {0}
-
+  -- all of these hold
+  abbrev pub HoldAll : List JournalKind → Type 0
+  HoldAll [] = Unit {0}
+  HoldAll (rule ∷ rules) = HoldsRule rule × HoldAll rules
 
   -- An operation isn't the next process line of its thread, or some are missing at the end.
   abbrev pub BreaksOrder : (line : ℕ) → Type 0
@@ -159,7 +156,7 @@ module _ (script : Script) (text : JournalText) where
       ⊎ (HasBegun script text.journal.ops
       × (¬ HasOrder script text.journal.ops) × (line ≡ text.marks.end))
 
-  -- A rule is broken on this line, and on none before. The first three rules are the reader's.
+  -- A rule is broken on this line, and on none before.
   abbrev pub BreaksRule : JournalKind → (line : ℕ) → Type 0
   BreaksRule kind.Form line = ⊥
   BreaksRule kind.Cut line = ⊥
@@ -175,7 +172,9 @@ module _ (script : Script) (text : JournalText) where
 
   -- The first rule that the journal breaks, and the first line on which it breaks it.
   pub record IsFirstBroken (rule : JournalKind) (line : ℕ) : Type 0 where
-    pub before : HoldBefore rule
+    pub place : ℕ
+    pub is : slice_get rules place ≡ Some rule
+    pub before : HoldAll (take place rules)
     pub here : BreaksRule rule line
 
   -- The journal is a lawful one of the script, and its rows say of what they are.

@@ -1,13 +1,14 @@
 -- What the parts of the check of a journal answer.
 use Rattle.std.specs.Prelude.{◌≡◌, ℕ, ◌<◌, ◌+◌, ◌*◌, Bool, false, List, length, slice_index_or, Option}
-use Rattle.std.specs.Prelude.{Some, None, All, if◌then◌else◌, not, ◌&&◌, ◌==◌, nat_lt}
+use Rattle.std.specs.Prelude.{Some, None, All, if◌then◌else◌, not, ◌&&◌, ◌==◌, nat_lt, take}
 use Rattle.std.specs.List.{AllZip, list_any}
 use Rattle.std.specs.declared.vec.Vec.{Vec}
 use Rattle.cal_board.specs.Blackboard.{Blackboard}
 use Rattle.cal_context.specs.Tree.{Tree}
 use Rattle.cal_journal.specs.declared.kind.JournalKind.{JournalKind}
 use Rattle.cal_journal.specs.declared.kind.JournalKind.TheVariants as kind
-use Rattle.cal_run.specs.Broken.{BreaksAt, BreaksRule, HasBegun, IsFirstBroken, KeepsRow, Row}
+use Rattle.cal_run.specs.Broken.{BreaksAt, BreaksRule, HasBegun, HoldAll, IsFirstBroken, KeepsRow, Row}
+use Rattle.cal_run.specs.Broken.{rules}
 use Rattle.cal_run.specs.Broken.Row.{Noted, Start}
 use Rattle.cal_run.specs.Held.{Holds, IsProcess}
 use Rattle.cal_run.specs.Lawful.{NotedLine, placed_of, process_lines}
@@ -36,6 +37,10 @@ abbrev pub EndsBy : Script → JournalText → JournalKind → ends.CoreEnd → 
 EndsBy script text rule (end.JournalFault line kind) = (kind ≡ rule) × BreaksRule script text rule line
 EndsBy script text rule end.OutOfMemory = Unit {0}
 
+-- the first rules hold, in their order
+abbrev pub HoldFirst : Script → JournalText → (count : ℕ) → Type 0
+HoldFirst script text count = HoldAll script text (take count rules)
+
 -- what a refusal says of a journal
 abbrev pub IsRefusalOf : Script → JournalText → ends.CoreEnd → Type 0
 IsRefusalOf script text (end.JournalFault line kind) = IsFirstBroken script text kind line
@@ -49,9 +54,10 @@ Tells Keeps (Some place) xs = BreaksAt (All Keeps) xs place
 -- ---- the history
 
 -- these are the numbers of the process lines of threads
-abbrev pub AreListed : Script → List (Vec ℕ) → List (List lines.Line) → Type 0
-AreListed script lists threads =
-    AllZip (λ (list : Vec ℕ) (ls : List lines.Line). list.items ≡ process_lines script ls) lists threads
+abbrev pub AreListed : {Z : Type 0} → Script → List (Vec ℕ Z) → List (List lines.Line) → Type 0
+AreListed {Z} script lists threads =
+    AllZip (λ (list : Vec ℕ Z) (ls : List lines.Line). list.items ≡ process_lines script ls)
+    lists threads
 
 -- Each thread has its first process lines in a history, and so many.
 pub record AreCounted (script : Script) (history : List Placed) (counts : List ℕ) : Type 0 where

@@ -1,11 +1,6 @@
-ghost use Rattle.std.specs.Prelude.{◌≡◌, IfErr, IfNone, IfSome, OnOk};
-ghost use Rattle.cal_journal.specs.declared.kind.JournalKind as kinds;
-ghost use Rattle.cal_journal.specs.declared.kind.JournalKind.TheVariants as kind;
-ghost use Rattle.cal_run.specs.Broken.{AllKeep, HoldBefore, HoldsRule, IsLawfulText, all_rows};
-ghost use Rattle.cal_run.specs.Broken.{wanted_rows, written_rows};
-ghost use Rattle.cal_run.specs.Checking.{AreMerged, EndsBy, IsOfRows, IsRefusalOf, TellsRule};
-ghost use Rattle.cal_run.specs.Lawful.{HasShape};
-ghost use Rattle.cal_run.specs.Seeing.{CanBeRead};
+ghost use Rattle.std.specs.Prelude.{IfErr, OnOk};
+ghost use Rattle.cal_run.specs.Broken.{HoldsRule, IsLawfulText, all_rows};
+ghost use Rattle.cal_run.specs.Checking.{AreMerged, EndsBy, HoldFirst, IsOfRows, IsRefusalOf, TellsRule};
 ghost use Rattle.cal_valid.specs.Valid.{IsRunnable};
 
 use crate::CoreEnd;
@@ -32,7 +27,7 @@ pub fn check_journal(alloc: Global, script: &Script, text: &JournalText) -> Resu
 
 /// Tests the rules Shape, OpStranger and OpOrder.
 fn check_history(alloc: Global, script: &Script, text: &JournalText) -> Result<(), CoreEnd>
-    ensures held { OnOk result (HoldBefore script.now text.now kind.SeenFalls) }
+    ensures held { OnOk result (HoldFirst script.now text.now 3) }
     ensures fault { IfErr result (IsRefusalOf script.now text.now) }
 {
     check_shape(alloc, script, text)?;
@@ -43,7 +38,7 @@ fn check_history(alloc: Global, script: &Script, text: &JournalText) -> Result<(
 /// Tests the others, where those hold.
 fn check_rows(alloc: Global, script: &Script, text: &JournalText) -> Result<(), CoreEnd>
     requires runnable { IsRunnable script.now }
-    requires held { HoldBefore script.now text.now kind.SeenFalls }
+    requires held { HoldFirst script.now text.now 3 }
     ensures lawful { OnOk result (IsLawfulText script.now text.now) }
     ensures fault { IfErr result (IsRefusalOf script.now text.now) }
 {
@@ -62,7 +57,7 @@ fn check_found(
     merged: &Merged,
 ) -> Result<(), CoreEnd>
     requires runnable { IsRunnable script.now }
-    requires held { HoldBefore script.now text.now kind.SeenFixed }
+    requires held { HoldFirst script.now text.now 6 }
     requires merged { AreMerged (all_rows script.now text.now.journal) merged.now.marks.items }
     ensures lawful { OnOk result (IsLawfulText script.now text.now) }
     ensures fault { IfErr result (IsRefusalOf script.now text.now) }

@@ -69,7 +69,8 @@ fn is_flush_reply(
     requires { AreMerged (all_rows script.now journal.now) merged.now.marks.items }
     ensures { IsTrue result ↔ IsFlushReply script.now journal.now thread line reply }
 {
-    let _ = (script, journal);
+    let _ = script;
+    let _ = journal;
     let Line::Flush { channel } = line else {
         return false;
     };

@@ -1,5 +1,6 @@
 ghost use Rattle.std.specs.Prelude.{◌≡◌, ◌<◌, [], ◌∷◌, ◌++◌, IfOk, List};
-ghost use Rattle.cal_run.specs.Broken.Row as rows;
+ghost use Rattle.cal_run.specs.Broken.{Row};
+ghost use Rattle.cal_run.specs.Broken.Row.{Noted};
 ghost use Rattle.cal_run.specs.Checking.{AreMerged, IsChannel, has_merged, merged_channel};
 ghost use Rattle.cal_run.specs.Lawful.{NotedLine};
 
@@ -30,9 +31,9 @@ impl Merged {
     pub(crate) fn mark(&mut self, thread: usize, line: Line, note: LineNote)
         requires within { thread < 64 }
         requires channel { IsChannel (merged_channel line note.reply) }
-        ensures { (front : List rows.Row) (n : NotedLine) → n.thread ≡ thread → n.line ≡ line → n.note ≡ note
+        ensures { (front : List Row) (n : NotedLine) → n.thread ≡ thread → n.line ≡ line → n.note ≡ note
             → AreMerged front self.old.marks.items
-            → AreMerged (front ++ rows.Noted n ∷ []) self.new.marks.items }
+            → AreMerged (front ++ Noted n ∷ []) self.new.marks.items }
     {
         if let Some(channel) = merged_channel(line, note.reply) {
             self.marks[thread * MOST_CHANNELS + channel as usize] = true;

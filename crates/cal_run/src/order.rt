@@ -179,7 +179,8 @@ fn are_all_placed(script: &Script, lists: &[Vec<u32>], ops: &[Placed], counts: &
     requires counted { AreCounted script.now ops.now counts.now }
     ensures { IsTrue result ↔ HasOrder script.now ops.now }
 {
-    let _ = (script, ops);
+    let _ = script;
+    let _ = ops;
     for thread in 0..lists.len() {
         if thread < counts.len() && counts[thread] < lists[thread].len() {
             return false;

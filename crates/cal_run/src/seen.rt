@@ -143,7 +143,8 @@ fn sees_own(script: &Script, journal: &Journal, spot: Spot, line: Line, note: Li
     ensures { (state : ThreadState)
         → (IsTrue result ↔ SeesOwn script.now journal.now (noted spot line note state)) }
 {
-    let _ = (script, line);
+    let _ = script;
+    let _ = line;
     if note.seen == 0 || note.seen <= spot.before {
         return false;
     }
