@@ -1,16 +1,17 @@
 -- The first item that breaks a rule, while a list is gone through.
-use Rattle.std.proofs.Common.{◌≡◌, ℕ, suc, zero, ◌+◌, ◌-◌, ◌<◌, ◌≤◌, List, [], ◌∷◌, ◌++◌, Bool, true, false, length, get_or, take, drop, ap, subst, sym, refl, ◌∙◌, append_assoc, append-nil, arith, length-append}
+use Rattle.std.proofs.Common.{◌≡◌, ℕ, suc, zero, ◌+◌, ◌-◌, ◌<◌, ◌≤◌, List, [], ◌∷◌, ◌++◌, Bool, true, false, length, get_or, take, drop, ap, subst, sym, refl, ◌∙◌, append_assoc, append-nil, arith, length-append, inl, inr}
 use Rattle.std.specs.Prelude.{Option, Some, None, slice_get, ◌↔◌, ◌≢◌}
 use Rattle.std.specs.List.{All}
 use Rattle.std.proofs.lemmas.List.{get_or_append_left, take_more, take_all, take-append-le, take-append-drop, length-take-le, get_or-take, get_or-append_right, take_more_same}
 use Rattle.std.proofs.lemmas.List.Elements.{All-push}
-use Rattle.std.proofs.lemmas.Option.{slice_get_within, get_or_from_slice_get}
+use Rattle.std.proofs.lemmas.Option.{get_or_from_slice_get, slice_get-get_or, slice_get_within}
 use Rattle.cal_context.specs.Lists.{IsFront}
-use Rattle.cal_context.proofs.ListLemmas.{get_or-IsFront, length-IsFront}
-use Rattle.cal_run.specs.Broken.{BreaksAt, BreaksShape, row_line, starts_of, written_from, written_row}
+use Rattle.cal_context.proofs.ListLemmas.{length-IsFront, slice_get-IsFront}
+use Rattle.cal_run.specs.Broken.{BreaksAt, BreaksShape, row_line, starts_of, wanted_rows, written_from, written_row, written_rows}
 use Rattle.cal_run.specs.Checking.{Tells, next_first}
 use Rattle.cal_run.specs.declared.shape.RowName.{RowName}
 use Rattle.cal_script.specs.declared.journal.JournalText.{JournalText}
+use Rattle.cal_script.specs.declared.script.Script.{Script}
 
 module _ {A : Type 0} (P : A → Type 0) where
   pub all-last : (xs : List A) (x : A) → All P (xs ++ x ∷ []) → P x
@@ -49,17 +50,19 @@ module _ {A : Type 0} (P : A → Type 0) where
   }
 
 module _ {A : Type 0} where
+  front-take : (xs ys : List A) (i : ℕ) → take i xs ≡ take i ys → IsFront (take i xs) ys
+  front-take xs ys i same = (drop i ys, sym (take-append-drop i ys) ∙ ap (λ zs. zs ++ drop i ys) (sym same))
+
   -- the first place at which a list isn't the front of another
   pub breaks-front : (xs ys : List A) (i : ℕ) (d : A) → i < length xs → take i xs ≡ take i ys
-      → (i < length ys → get_or xs i d ≢ get_or ys i d) → BreaksAt (λ zs. IsFront zs ys) xs i
+      → ¬ (slice_get ys i ≡ Some (get_or xs i d)) → BreaksAt (λ zs. IsFront zs ys) xs i
   breaks-front xs ys i d below same not = record {
     within = below;
-    kept = (drop i ys, sym (take-append-drop i ys) ∙ ap (λ zs. zs ++ drop i ys) (sym same));
+    kept = front-take xs ys i same;
     broken = λ front.
         let long : length (take (i + 1) xs) ≡ i + 1 = length-take-le (i + 1) xs (omega (arith, below)) in
-        let reach = length-IsFront (take (i + 1) xs) ys front in
-        not (omega (arith, long, reach))
-        (sym (get_or-take (i + 1) xs i d (omega arith)) ∙ sym (get_or-IsFront (take (i + 1) xs) ys i d front (omega (arith, long))));
+        not (slice_get-IsFront (take (i + 1) xs) ys i (get_or xs i d) front
+        (slice_get-get_or (take (i + 1) xs) i d (omega (arith, long)) ∙ ap (λ x. Some x) (get_or-take (i + 1) xs i d (omega arith))));
   }
 
 -- ---- rows as they are written
@@ -83,3 +86,50 @@ get_or-written_from text row (start ∷ starts) (suc i) d b below =
   where
     by : (n i : ℕ) → n + 1 + i ≡ n + suc i
     by n i = omega arith
+
+module _ (script : Script) (text : JournalText) (starts : List Bool) (wanted : List RowName)
+    (starts-are : starts ≡ starts_of text.journal.threads) (wanted-are : wanted ≡ wanted_rows script) where
+  written : List RowName
+  written = written_from text 0 starts
+
+  written-are : written ≡ written_rows text
+  written-are = ap (written_from text 0) starts-are
+
+  -- a row that stands where another belongs
+  pub strange-row : (row line : ℕ) (b : Bool) → row < length starts → take row written ≡ take row wanted
+      → ¬ (slice_get wanted row ≡ Some (written_row text row (get_or starts row b))) → line ≡ row_line text row
+      → BreaksShape text (written_rows text) (wanted_rows script) line
+  strange-row row line b below same not is =
+      let d : RowName = written_row text row b in
+      let breaks : BreaksAt (λ zs. IsFront zs wanted) written row =
+          breaks-front written wanted row d (let long = length-written_from text 0 starts in omega (arith, long, below)) same
+          (λ next. not (next ∙ ap (λ x. Some x) (get_or-written_from text 0 starts row d b below))) in
+      inl (row, subst (λ zs. BreaksAt (λ rows. IsFront rows (wanted_rows script)) zs row) written-are
+      (subst (λ ws. BreaksAt (λ rows. IsFront rows ws) written row) wanted-are breaks), is)
+
+  -- rows are missing at the end
+  pub missing-rows : (line : ℕ) → take (length starts) written ≡ take (length starts) wanted → length starts < length wanted
+      → line ≡ text.marks.end → BreaksShape text (written_rows text) (wanted_rows script) line
+  missing-rows line same few is =
+      let long : length written ≡ length starts = length-written_from text 0 starts in
+      let whole : take (length starts) written ≡ written = take_all (length starts) written (omega (arith, long)) in
+      let front : IsFront written wanted = subst (λ zs. IsFront zs wanted) whole (front-take written wanted (length starts) same) in
+      inr (subst (λ zs. IsFront zs (wanted_rows script)) written-are (subst (IsFront written) wanted-are front),
+      (λ e. let same-long : length written ≡ length wanted = ap length (written-are ∙ e ∙ sym wanted-are) in omega (arith, same-long, long, few)), is)
+
+  -- all rows are the wanted ones
+  pub all-wanted : take (length starts) written ≡ take (length starts) wanted → length wanted ≤ length starts
+      → written_rows text ≡ wanted_rows script
+  all-wanted same enough =
+      let long : length written ≡ length starts = length-written_from text 0 starts in
+      sym written-are ∙ sym (take_all (length starts) written (omega (arith, long))) ∙ same ∙ take_all (length starts) wanted enough ∙ wanted-are
+
+  -- one row more is the wanted one
+  pub more-wanted : (row : ℕ) (b : Bool) → row < length starts → take row written ≡ take row wanted
+      → slice_get wanted row ≡ Some (written_row text row (get_or starts row b))
+      → take (row + 1) written ≡ take (row + 1) wanted
+  more-wanted row b below same is =
+      let d : RowName = written_row text row b in
+      let long : length written ≡ length starts = length-written_from text 0 starts in
+      take_more_same written wanted row d (omega (arith, long, below)) (slice_get_within wanted row (written_row text row (get_or starts row b)) is) same
+      (get_or-written_from text 0 starts row d b below ∙ sym (get_or_from_slice_get wanted row (written_row text row (get_or starts row b)) d is))

@@ -1,7 +1,7 @@
 ghost use Rattle.std.specs.Prelude.{◌≡◌, ◌++◌, false, map, IfErr, IfNone, IfOk, IfSome, OnOk};
-ghost use Rattle.std.specs.Prelude.{◌↔◌, IsTrue};
+ghost use Rattle.std.specs.Prelude.{◌↔◌, IsTrue, Some, slice_get};
 ghost use Rattle.cal_journal.specs.declared.kind.JournalKind.TheVariants as kind;
-ghost use Rattle.cal_run.specs.Broken.{line_rows, mark_at, starts_of, wanted_rows, written_from};
+ghost use Rattle.cal_run.specs.Broken.{line_rows, mark_at, starts_of, wanted_rows};
 ghost use Rattle.cal_run.specs.Broken.{BreaksShape, written_row, written_rows};
 ghost use Rattle.cal_run.specs.Checking.{EndsBy};
 
@@ -31,7 +31,7 @@ pub(crate) fn check_shape(
 {
     let wanted = wanted_rows(alloc, script)?;
     let starts = row_starts(alloc, text.journal.threads.as_slice())?;
-    match first_strange_line(text, &starts, &wanted) {
+    match first_strange_line(script, text, &starts, &wanted) {
         None => Ok(()),
         Some(line) => Err(CoreEnd::JournalFault {
             line,
@@ -111,13 +111,21 @@ fn push_lines(lines: &[LineNote], starts: &mut Vec<bool>) -> Result<(), OutOfMem
 
 /// The input's line of the first row that isn't the wanted one, or of the end, where rows are
 /// missing.
-fn first_strange_line(text: &JournalText, starts: &[bool], wanted: &[RowName]) -> Option<u64>
-    ensures none { IfNone result (written_from text.now 0 starts.now ≡ wanted.now) }
-    ensures some { IfSome result (BreaksShape text.now (written_from text.now 0 starts.now)
-        wanted.now) }
+fn first_strange_line(
+    script: &Script,
+    text: &JournalText,
+    starts: &[bool],
+    wanted: &[RowName],
+) -> Option<u64>
+    requires starts { starts.now ≡ starts_of text.now.journal.threads }
+    requires wanted { wanted.now ≡ wanted_rows script.now }
+    ensures none { IfNone result (written_rows text.now ≡ wanted_rows script.now) }
+    ensures some { IfSome result (BreaksShape text.now (written_rows text.now)
+        (wanted_rows script.now)) }
 {
+    let _ = script;
     for row in 0..starts.len() {
-        if row >= wanted.len() || !is_written(text, row, starts[row], wanted[row]) {
+        if !is_wanted(text, row, starts[row], wanted) {
             return Some(mark_at(text, row).line);
         }
     }
@@ -127,15 +135,19 @@ fn first_strange_line(text: &JournalText, starts: &[bool], wanted: &[RowName]) -
     None
 }
 
-/// Whether a row is written as a wanted one.
-fn is_written(text: &JournalText, row: usize, start: bool, wanted: RowName) -> bool
-    ensures { IsTrue result ↔ (written_row text.now row start ≡ wanted) }
+/// Whether a row is written as the wanted one.
+fn is_wanted(text: &JournalText, row: usize, start: bool, wanted: &[RowName]) -> bool
+    ensures { IsTrue result ↔ (slice_get wanted.now row ≡ Some (written_row text.now row start)) }
 {
-    let mark = mark_at(text, row);
-    let written = RowName {
-        start,
-        thread: mark.thread,
-        number: mark.number,
-    };
-    written == wanted
+    match wanted.get(row) {
+        None => false,
+        Some(name) => is_name(mark_at(text, row), start, *name),
+    }
+}
+
+fn is_name(mark: RowMark, start: bool, name: RowName) -> bool
+    ensures { IsTrue result ↔ (name
+        ≡ record { start = start; thread = mark.thread; number = mark.number }) }
+{
+    name.start == start && name.thread == mark.thread && name.number == mark.number
 }
