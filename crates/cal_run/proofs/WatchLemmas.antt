@@ -15,6 +15,8 @@ use Rattle.cal_run.specs.Held.{Holds, HoldsThen, IsProcess}
 use Rattle.cal_run.specs.History.{board_placed, process_board}
 use Rattle.cal_run.specs.Lines.{clock_after, is_process_line, operation_of}
 use Rattle.cal_run.specs.Steps.{ThreadState, acted_on, at_start, changed, found_reply, is_accepted, process_seen, reply_to_line, seen_before, state_after}
+use Rattle.cal_run.specs.Seeing.{MaySee}
+use Rattle.cal_run.specs.declared.found.Found.{Found}
 use Rattle.cal_run.specs.declared.process.Process.{Process}
 use Rattle.cal_run.specs.declared.watch.Watch.{Watch}
 use Rattle.cal_script.specs.declared.journal.LineNote.{LineNote}
@@ -74,16 +76,62 @@ module _ (t : Tree) (script : Script) (history : List Placed) (l : Line) (note :
       ap (λ (r : Option replies.Reply). found_with script r l clock) (reply-found p is)
       ∙ ap (found_with script (found_reply script history l note state) l) same
 
--- a line that isn't accepted, or is the process's, leaves the thread
-pub stays-watched : (t : Tree) (script : Script) (history : List Placed) (watch : Watch) (l : Line) (note : LineNote) (state : ThreadState)
-    → (is_accepted (found_reply script history l note state) && not (is_process_line script l)) ≡ false
-    → IsWatched t script history watch state → IsWatched t script history watch (state_after script history l note state)
-stays-watched t script history watch l note state no is =
-    subst (λ (b : Bool). IsWatched t script history watch (if b then changed script history l note state else state)) (sym no) is
+-- what a line may see is enough for it
+pub may-more : (script : Script) (history : List Placed) (count : ℕ) (l : Line) (note : LineNote) (p : Bool) → p ≡ is_process_line script l
+    → MaySee script history count l note → count ≤ (if p then note.seen - 1 else note.seen)
+may-more script history count l note true is may = let own = may.own (sym is) in omega (arith, own)
+may-more script history count l note false is may = may.rises
 
-pub changes-watched : (t : Tree) (script : Script) (history : List Placed) (watch : Watch) (l : Line) (note : LineNote) (state : ThreadState)
-    → (is_accepted (found_reply script history l note state) && not (is_process_line script l)) ≡ true
-    → IsWatched t script history watch (changed script history l note state)
-    → IsWatched t script history watch (state_after script history l note state)
-changes-watched t script history watch l note state yes is =
-    subst (λ (b : Bool). IsWatched t script history watch (if b then changed script history l note state else state)) (sym yes) is
+pub may-within : (script : Script) (history : List Placed) (count : ℕ) (l : Line) (note : LineNote) (p : Bool)
+    → MaySee script history count l note → (if p then note.seen - 1 else note.seen) ≤ length history
+may-within script history count l note true may = let within = may.within in omega (arith, within)
+may-within script history count l note false may = may.within
+
+pub seen-most : (note : LineNote) (p : Bool) → (if p then note.seen - 1 else note.seen) ≤ note.seen
+seen-most note true = omega arith
+seen-most note false = omega arith
+
+module _ {t0 t1 : Tree} (grows : Grows t0 t1) (script : Script) (history : List Placed) (l : Line) (note : LineNote)
+    (state : ThreadState) (watch : Watch) (is : IsWatched t0 script history watch state) (process : Process)
+    (shared : IsProcess t1 script history process) (p : Bool) (p-is : p ≡ is_process_line script l)
+    (seen : process.count ≡ (if p then note.seen - 1 else note.seen)) (found : Found)
+    (found-on : found ≡ found_on script (if p then process.board else watch.board) l watch.clock) where
+  still : Holds t1 script watch.board state.board
+  still = Holds-Grows grows script watch.board state.board is.mine
+
+  seen-is : process.count ≡ seen_before script history l note
+  seen-is = seen ∙ ap (λ (q : Bool). if q then note.seen - 1 else note.seen) p-is
+
+  pub found-of : found ≡ found_of script history l note state
+  found-of = found-on ∙ found-is t1 script history l note state watch.board process watch.clock still shared seen-is is.clock p p-is
+
+  accepts : (is_accepted found.reply && not p) ≡ (is_accepted (found_reply script history l note state) && not (is_process_line script l))
+  accepts =
+      ap (λ (f : Found). is_accepted f.reply && not p) found-of
+      ∙ ap (λ (q : Bool). is_accepted (found_reply script history l note state) && not q) p-is
+
+  -- a line that isn't accepted, or is the process's, leaves the thread
+  pub refused-watch : (is_accepted found.reply && not p) ≡ false → (new : Watch) → new.board ≡ watch.board → new.process ≡ process
+      → new.clock ≡ watch.clock → IsWatched t1 script history new (state_after script history l note state)
+  refused-watch no new board seen-board clock =
+      let kept : IsWatched t1 script history new state = record {
+        mine = subst (λ b. Holds t1 script b state.board) (sym board) still;
+        process = subst (IsProcess t1 script history) (sym seen-board) shared;
+        clock = clock ∙ is.clock;
+      } in
+      subst (λ (b : Bool). IsWatched t1 script history new (if b then changed script history l note state else state)) (sym (sym accepts ∙ no)) kept
+
+  -- and another changes it
+  pub accepted-watch : (is_accepted found.reply && not p) ≡ true → {t2 : Tree} → Grows t1 t2 → (new : Watch)
+      → HoldsThen t1 t2 script watch.board new.board (λ b. board_placed script b (operation_of l)) → new.process ≡ process
+      → new.clock ≡ clock_after watch.clock l → IsWatched t2 script history new (state_after script history l note state)
+  accepted-watch yes {t2} more new then seen-board clock =
+      let kept : IsWatched t2 script history new (changed script history l note state) = record {
+        mine = then state.board still;
+        process = subst (IsProcess t2 script history) (sym seen-board) (record {
+          holds = Holds-Grows more script process.board (process_board script history process.count) shared.holds;
+          within = shared.within;
+        });
+        clock = clock ∙ ap (λ n. clock_after n l) is.clock;
+      } in
+      subst (λ (b : Bool). IsWatched t2 script history new (if b then changed script history l note state else state)) (sym (sym accepts ∙ yes)) kept

@@ -1,4 +1,4 @@
-ghost use Rattle.std.specs.Prelude.{◌≡◌, ◌<◌, ◌≤◌, ◌-◌, ◌&&◌, length, true, IfOk, if◌then◌else◌, OnOk};
+ghost use Rattle.std.specs.Prelude.{◌≡◌, ◌≤◌, ◌-◌, ◌&&◌, not, if◌then◌else◌, IfOk, OnOk};
 ghost use Rattle.cal_board.specs.Blackboard.{nothing_open};
 ghost use Rattle.cal_context.specs.Tree.{Grows};
 ghost use Rattle.cal_run.specs.Adding.{MayHavePlaces};
@@ -8,7 +8,7 @@ ghost use Rattle.cal_run.specs.History.{board_placed};
 ghost use Rattle.cal_run.specs.Lines.{clock_after, operation_of};
 ghost use Rattle.cal_run.specs.Numbers.{AreNumbered};
 ghost use Rattle.cal_run.specs.Seeing.{MaySee};
-ghost use Rattle.cal_run.specs.Steps.{ThreadState, at_start, state_after};
+ghost use Rattle.cal_run.specs.Steps.{ThreadState, is_accepted, state_after};
 ghost use Rattle.cal_valid.specs.Valid.{IsPlaced, IsRunnable};
 
 use crate::boards::operate;
@@ -74,13 +74,14 @@ impl Watch {
         ensures grows { Grows context.old context.new }
     {
         let shared = is_process_line(script, line);
-        let seen = if shared { note.seen - 1 } else { note.seen };
+        let seen = seen_before(shared, note);
         self.process
             .take_in(alloc, script, numbers, history, seen as usize, context)?;
         let found = self.find(script, shared, line);
-        if !shared && found.reply == Some(Reply::Done) {
-            self.change(alloc, script, numbers, line, context)?;
+        if !is_changing(shared, found.reply) {
+            return Ok(found);
         }
+        self.change(alloc, script, numbers, line, context)?;
         Ok(found)
     }
 
@@ -120,6 +121,24 @@ impl Watch {
             Some(op) => operate(alloc, script, numbers, op, &mut self.board, context),
         }
     }
+}
+
+/// How many operations a line has seen before its own.
+fn seen_before(shared: bool, note: LineNote) -> u64
+    ensures { result ≡ (if shared then note.seen - 1 else note.seen) }
+{
+    if shared {
+        note.seen.saturating_sub(1)
+    } else {
+        note.seen
+    }
+}
+
+/// Whether a line changes its thread.
+fn is_changing(shared: bool, reply: Option<Reply>) -> bool
+    ensures { result ≡ (is_accepted reply && not shared) }
+{
+    !shared && matches!(reply, Some(Reply::Done))
 }
 
 /// The script clock behind a line.
