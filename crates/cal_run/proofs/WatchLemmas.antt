@@ -8,8 +8,9 @@ use Rattle.cal_board.specs.PathBoards.{AreKnown}
 use Rattle.cal_board.specs.declared.opened.Slot.{Slot}
 use Rattle.cal_context.specs.Tree.{Tree, Grows}
 use Rattle.cal_context.specs.declared.numbers.NodeNumber.{NodeNumber}
-use Rattle.cal_run.proofs.HeldLemmas.{Holds-Grows}
+use Rattle.cal_run.proofs.HeldLemmas.{Holds-Grows, placed-HasPlaces}
 use Rattle.cal_run.proofs.LineLemmas.{reply_to_line-Holds}
+use Rattle.cal_run.specs.Adding.{MayHavePlaces}
 use Rattle.cal_run.specs.Checking.{IsWatched, found_of, found_on, found_with}
 use Rattle.cal_run.specs.Held.{Holds, HoldsThen, IsProcess}
 use Rattle.cal_run.specs.History.{board_placed, process_board}
@@ -24,7 +25,9 @@ use Rattle.cal_script.specs.declared.journal.Placed.{Placed}
 use Rattle.cal_script.specs.declared.journal.Reply as replies
 use Rattle.cal_script.specs.declared.journal.Reply.TheVariants as reply
 use Rattle.cal_script.specs.declared.script.Line.{Line}
+use Rattle.cal_script.specs.declared.script.Line.TheVariants as line
 use Rattle.cal_script.specs.declared.script.Script.{Script}
+use Rattle.cal_valid.specs.Valid.{IsPlaced}
 use Rattle.cal_value.specs.declared.variant.Variant.{Variant}
 
 -- a board without values
@@ -135,3 +138,13 @@ module _ {t0 t1 : Tree} (grows : Grows t0 t1) (script : Script) (history : List 
         clock = clock ∙ ap (λ n. clock_after n l) is.clock;
       } in
       subst (λ (b : Bool). IsWatched t2 script history new (if b then changed script history l note state else state)) (sym (sym accepts ∙ yes)) kept
+
+-- the operation of a line has its places
+pub watched-places : (script : Script) (l : Line) → IsPlaced script.attributes script.channels script.values l
+    → MayHavePlaces script (operation_of l)
+watched-places script (line.Begin a v) is = placed-HasPlaces script (line.Begin a v) _ is refl
+watched-places script (line.End a) is = placed-HasPlaces script (line.End a) _ is refl
+watched-places script (line.Set a v) is = placed-HasPlaces script (line.Set a v) _ is refl
+watched-places script line.Snapshot is = tt
+watched-places script (line.Flush c) is = tt
+watched-places script (line.Tick n) is = tt
