@@ -8,9 +8,11 @@ use Rattle.cal_journal.specs.declared.kind.JournalKind.{JournalKind}
 use Rattle.cal_journal.specs.declared.kind.JournalKind.TheVariants as kind
 use Rattle.cal_run.proofs.LawLemmas.{threads_in_order}
 use Rattle.cal_run.proofs.RunLemmas.{zip_drop}
-use Rattle.cal_run.specs.Broken.{AllKeep, IsLawfulText, KeepsLine, KeepsRow, Row, all_rows, line_rows, rows_from, starts_of, thread_rows, wanted_rows, written_from, written_rows}
+use Rattle.cal_run.specs.Broken.{AllKeep, BreaksAt, BreaksRule, HoldsRule, IsLawfulText, KeepsLine, KeepsRow, Row, all_rows, line_rows, row_line, rows_from, rules, starts_of, thread_rows, wanted_rows, written_from, written_rows}
 use Rattle.cal_run.specs.Broken.Row.{Noted, Start}
-use Rattle.cal_run.specs.Checking.{HoldFirst}
+use Rattle.cal_run.specs.Checking.{EndsBy, HoldFirst, IsOfRows, IsRefusalOf}
+use Rattle.cal_run.specs.declared.end.CoreEnd as ends
+use Rattle.cal_run.specs.declared.end.CoreEnd.TheVariants as end
 use Rattle.cal_run.specs.Lawful.{HasShape, Lawful, NotedLine, noted_from, noted_lines, noted_of}
 use Rattle.cal_run.specs.Seeing.{CanBeRead}
 use Rattle.cal_run.specs.Steps.{ThreadState, at_start, state_after}
@@ -150,6 +152,53 @@ all-rules script text held =
         answered = kept-lines script journal kind.Reply held.1.1.1.1.1.1.1.1.0;
       };
     }
+
+-- ---- a rule on rows
+
+module _ (script : Script) (text : JournalText) where
+  -- it holds where all rows keep it
+  pub rows-hold : (rule : JournalKind) → IsOfRows rule → AllKeep script text.journal rule (all_rows script text.journal)
+      → HoldsRule script text rule
+  rows-hold kind.Form of all = absurd of
+  rows-hold kind.Cut of all = absurd of
+  rows-hold kind.After of all = absurd of
+  rows-hold kind.Shape of all = absurd of
+  rows-hold kind.OpStranger of all = absurd of
+  rows-hold kind.OpOrder of all = absurd of
+  rows-hold kind.SeenFalls of all = all
+  rows-hold kind.SeenPast of all = all
+  rows-hold kind.SeenOwn of all = all
+  rows-hold kind.SeenFixed of all = all
+  rows-hold kind.Reading of all = all
+  rows-hold kind.Reply of all = all
+
+  -- and is broken where some row breaks it
+  pub rows-broken : (rule : JournalKind) → IsOfRows rule → (row line : ℕ)
+      → BreaksAt (AllKeep script text.journal rule) (all_rows script text.journal) row → line ≡ row_line text row
+      → BreaksRule script text rule line
+  rows-broken kind.Form of row line breaks is = absurd of
+  rows-broken kind.Cut of row line breaks is = absurd of
+  rows-broken kind.After of row line breaks is = absurd of
+  rows-broken kind.Shape of row line breaks is = absurd of
+  rows-broken kind.OpStranger of row line breaks is = absurd of
+  rows-broken kind.OpOrder of row line breaks is = absurd of
+  rows-broken kind.SeenFalls of row line breaks is = (row, breaks, is)
+  rows-broken kind.SeenPast of row line breaks is = (row, breaks, is)
+  rows-broken kind.SeenOwn of row line breaks is = (row, breaks, is)
+  rows-broken kind.SeenFixed of row line breaks is = (row, breaks, is)
+  rows-broken kind.Reading of row line breaks is = (row, breaks, is)
+  rows-broken kind.Reply of row line breaks is = (row, breaks, is)
+
+  -- a fault of a rule, where those before it hold
+  pub ends-refusal : (rule : JournalKind) (place : ℕ) → slice_get rules place ≡ Some rule → HoldFirst script text place
+      → (end : ends.CoreEnd) → EndsBy script text rule end → IsRefusalOf script text end
+  ends-refusal rule place is before (end.JournalFault line told) broken = record {
+    place = place;
+    is = is ∙ ap (λ (k : JournalKind). Some k) (sym broken.0);
+    before = before;
+    here = subst (λ (k : JournalKind). BreaksRule script text k line) (sym broken.0) broken.1;
+  }
+  ends-refusal rule place is before end.OutOfMemory broken = tt
 
 -- ---- one line more of a thread
 

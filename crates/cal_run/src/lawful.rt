@@ -22,7 +22,8 @@ pub fn check_journal(alloc: Global, script: &Script, text: &JournalText) -> Resu
     ensures fault { IfErr result (IsRefusalOf script.now text.now) }
 {
     check_history(alloc, script, text)?;
-    check_rows(alloc, script, text)
+    check_rows(alloc, script, text)?;
+    Ok(())
 }
 
 /// Tests the rules Shape, OpStranger and OpOrder.
@@ -32,7 +33,8 @@ fn check_history(alloc: Global, script: &Script, text: &JournalText) -> Result<(
 {
     check_shape(alloc, script, text)?;
     check_known(script, text)?;
-    check_order(alloc, script, text)
+    check_order(alloc, script, text)?;
+    Ok(())
 }
 
 /// Tests the others, where those hold.
@@ -46,7 +48,8 @@ fn check_rows(alloc: Global, script: &Script, text: &JournalText) -> Result<(), 
     check_row(script, text, tests.falls, JournalKind::SeenFalls)?;
     check_row(script, text, tests.past, JournalKind::SeenPast)?;
     check_row(script, text, tests.own, JournalKind::SeenOwn)?;
-    check_found(alloc, script, text, &tests.merged)
+    check_found(alloc, script, text, &tests.merged)?;
+    Ok(())
 }
 
 /// Tests the last three, where the others hold.
@@ -65,7 +68,8 @@ fn check_found(
     let tests = test_found(alloc, script, &text.journal, merged)?;
     check_row(script, text, tests.fixed, JournalKind::SeenFixed)?;
     check_row(script, text, tests.reading, JournalKind::Reading)?;
-    check_row(script, text, tests.reply, JournalKind::Reply)
+    check_row(script, text, tests.reply, JournalKind::Reply)?;
+    Ok(())
 }
 
 /// The fault of a rule on rows, where one breaks it.
