@@ -7,7 +7,7 @@ use Rattle.std.proofs.lemmas.Bool.{eqb-true, eqb-false, eq-eqb, lt-ltb, ltb-true
 use Rattle.std.proofs.lemmas.List.{get_or-set_other, get_or-set_same, length-replicate, length-set}
 use Rattle.std.proofs.lemmas.List.Folds.{Any-from_list_any, list_any-append, list_any-from_Any}
 use Rattle.cal_run.specs.Broken.{Row, all_rows, thread_rows}
-use Rattle.cal_run.specs.Broken.Row.{Noted, Start}
+use Rattle.cal_run.specs.Broken.{Noted, Start}
 use Rattle.cal_run.specs.Checking.{AreMerged, has_merged, is_channel, merged_channel, merges}
 use Rattle.cal_run.specs.Lawful.{IsMerged, NotedLine, noted_lines, noted_of}
 use Rattle.cal_script.specs.declared.journal.Journal.{Journal}

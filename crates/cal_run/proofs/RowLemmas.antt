@@ -9,7 +9,7 @@ use Rattle.cal_journal.specs.declared.kind.JournalKind.TheVariants as kind
 use Rattle.cal_run.proofs.LawLemmas.{threads_in_order}
 use Rattle.cal_run.proofs.RunLemmas.{zip_drop}
 use Rattle.cal_run.specs.Broken.{AllKeep, BreaksAt, BreaksRule, HoldsRule, IsLawfulText, KeepsLine, KeepsRow, Row, all_rows, line_rows, row_line, rows_from, rules, starts_of, thread_rows, wanted_rows, written_from, written_rows}
-use Rattle.cal_run.specs.Broken.Row.{Noted, Start}
+use Rattle.cal_run.specs.Broken.{Noted, Start}
 use Rattle.cal_run.specs.Checking.{EndsBy, HoldFirst, IsOfRows, IsRefusalOf}
 use Rattle.cal_run.specs.declared.end.CoreEnd as ends
 use Rattle.cal_run.specs.declared.end.CoreEnd.TheVariants as end

@@ -13,7 +13,7 @@ use Rattle.cal_journal.specs.declared.kind.JournalKind.TheVariants as kind
 use Rattle.cal_run.proofs.BrokenLemmas.{tells-more}
 use Rattle.cal_run.proofs.RunLemmas.{zip_drop, zip_long}
 use Rattle.cal_run.specs.Broken.{KeepsLine, KeepsRow, KeepsStart, Row, all_rows, thread_rows}
-use Rattle.cal_run.specs.Broken.Row.{Noted, Start}
+use Rattle.cal_run.specs.Broken.{Noted, Start}
 use Rattle.cal_run.specs.Checking.{AreMerged, FoundTell, IsChannel, SeenTell, Tells, merged_channel, merges, next_first}
 use Rattle.cal_run.specs.Lawful.{NotedLine, noted_from, noted_of}
 use Rattle.cal_run.specs.Steps.{ThreadState, at_start}

@@ -146,7 +146,7 @@ module _ (script : Script) (text : JournalText) where
   -- all of these hold
   abbrev pub HoldAll : List JournalKind → Type 0
   HoldAll [] = Unit {0}
-  HoldAll (rule ∷ rules) = HoldsRule rule × HoldAll rules
+  HoldAll (rule ∷ more) = HoldsRule rule × HoldAll more
 
   -- An operation isn't the next process line of its thread, or some are missing at the end.
   abbrev pub BreaksOrder : (line : ℕ) → Type 0

@@ -9,7 +9,7 @@ use Rattle.cal_journal.specs.declared.kind.JournalKind.{JournalKind}
 use Rattle.cal_journal.specs.declared.kind.JournalKind.TheVariants as kind
 use Rattle.cal_run.specs.Broken.{BreaksAt, BreaksRule, HasBegun, HoldAll, IsFirstBroken, KeepsRow, Row}
 use Rattle.cal_run.specs.Broken.{rules}
-use Rattle.cal_run.specs.Broken.Row.{Noted, Start}
+use Rattle.cal_run.specs.Broken.{Noted, Start}
 use Rattle.cal_run.specs.Held.{Holds, IsProcess}
 use Rattle.cal_run.specs.Lawful.{NotedLine, placed_of, process_lines}
 use Rattle.cal_run.specs.Lines.{is_process_line, takes}

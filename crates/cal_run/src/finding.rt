@@ -1,9 +1,9 @@
-ghost use Rattle.std.specs.Prelude.{◌≡◌, ◌<◌, ◌≤◌, ◌+◌, ◌∷◌, [], ◌++◌, ◌↔◌, length, map, zip, All, IfOk};
-ghost use Rattle.std.specs.Prelude.{IsTrue, List, OnOk};
+ghost use Rattle.std.specs.Prelude.{◌≡◌, ◌<◌, ◌≤◌, ◌+◌, ◌∷◌, [], ◌++◌, length, map, zip, All, IfOk};
+ghost use Rattle.std.specs.Prelude.{List, OnOk};
 ghost use Rattle.std.specs.List.{list_any};
 ghost use Rattle.cal_context.specs.Tree.{Grows};
 ghost use Rattle.cal_run.specs.Broken.{Row, all_rows};
-ghost use Rattle.cal_run.specs.Broken.Row.{Noted};
+ghost use Rattle.cal_run.specs.Broken.{Noted};
 ghost use Rattle.cal_run.specs.Checking.{AreMerged, FoundTell, found_of, noted};
 ghost use Rattle.cal_run.specs.Lawful.{noted_from};
 ghost use Rattle.cal_run.specs.Numbers.{AreNumbered};

@@ -1,8 +1,8 @@
-ghost use Rattle.std.specs.Prelude.{◌≡◌, ◌&&◌, Some, if◌then◌else◌};
+ghost use Rattle.std.specs.Prelude.{◌≡◌, ◌&&◌};
 ghost use Rattle.std.specs.List.{list_any};
 ghost use Rattle.cal_run.specs.Checking.{found_on};
 ghost use Rattle.cal_run.specs.Lines.{takes};
-ghost use Rattle.cal_run.specs.Steps.{as_reply, is_accepted, reply_to_line};
+ghost use Rattle.cal_run.specs.Steps.{as_reply, reply_to_line};
 
 use crate::lines::{attr_ref, is_process_line, takes};
 use crate::operation_of;

@@ -1,6 +1,6 @@
 ghost use Rattle.std.specs.Prelude.{◌≡◌, ◌<◌, [], ◌∷◌, ◌++◌, IfOk, List};
 ghost use Rattle.cal_run.specs.Broken.{Row};
-ghost use Rattle.cal_run.specs.Broken.Row.{Noted};
+ghost use Rattle.cal_run.specs.Broken.{Noted};
 ghost use Rattle.cal_run.specs.Checking.{AreMerged, IsChannel, has_merged, merged_channel};
 ghost use Rattle.cal_run.specs.Lawful.{NotedLine};
 

@@ -1,10 +1,9 @@
-ghost use Rattle.std.specs.Prelude.{◌≡◌, ◌++◌, ◌∷◌, [], ◌↔◌, ◌<◌, length, false, true, All, IfErr, IfOk};
+ghost use Rattle.std.specs.Prelude.{◌≡◌, ◌++◌, ◌∷◌, [], ◌↔◌, ◌<◌, length, false, All, IfErr, IfOk};
 ghost use Rattle.std.specs.Prelude.{IsTrue, List, OnOk, Some, replicate, slice_get};
-ghost use Rattle.std.specs.List.{AllZip};
 ghost use Rattle.cal_journal.specs.declared.kind.JournalKind.TheVariants as kind;
 ghost use Rattle.cal_run.specs.Broken.{HasBegun, op_line};
 ghost use Rattle.cal_run.specs.Checking.{AreCounted, AreListed, EndsBy, Tells, TellsOrder};
-ghost use Rattle.cal_run.specs.Lawful.{HasOrder, IsKnown, names_process_line, process_lines};
+ghost use Rattle.cal_run.specs.Lawful.{HasOrder, IsKnown, process_lines};
 ghost use Rattle.cal_script.specs.declared.journal.Placed as places;
 
 use crate::CoreEnd;

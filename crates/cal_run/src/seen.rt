@@ -1,7 +1,7 @@
 ghost use Rattle.std.specs.Prelude.{◌≡◌, ◌<◌, ◌≤◌, ◌+◌, ◌↔◌, ◌∷◌, [], ◌++◌, length, map, zip, All, IsTrue};
 ghost use Rattle.std.specs.Prelude.{IfOk, List, Some, slice_get};
 ghost use Rattle.cal_run.specs.Broken.{Row, all_rows};
-ghost use Rattle.cal_run.specs.Broken.Row.{Noted};
+ghost use Rattle.cal_run.specs.Broken.{Noted};
 ghost use Rattle.cal_run.specs.Checking.{IsChannel, SeenTell, merged_channel, next_first, noted};
 ghost use Rattle.cal_run.specs.Lawful.{HasShape, SeenOwn, SeesOwn, noted_from};
 ghost use Rattle.cal_run.specs.Steps.{ThreadState, at_start};

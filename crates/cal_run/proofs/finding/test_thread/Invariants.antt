@@ -2,7 +2,7 @@ use Rattle.std.proofs.Common.{◌≡◌, ℕ, ◌+◌, ◌≤◌, ◌++◌, List
 use Rattle.std.specs.Prelude.{zip}
 use Rattle.cal_context.specs.Tree.{Grows}
 use Rattle.cal_run.specs.Broken.{Row}
-use Rattle.cal_run.specs.Broken.Row.{Noted}
+use Rattle.cal_run.specs.Broken.{Noted}
 use Rattle.cal_run.specs.Checking.{FoundTell, IsWatched}
 use Rattle.cal_run.specs.Lawful.{noted_from}
 use Rattle.cal_run.specs.Numbers.{AreNumbered}

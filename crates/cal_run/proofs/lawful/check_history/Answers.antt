@@ -13,4 +13,4 @@ returns-in_err-check_known-clause-fault c =
 
 pub returns-in_err-check_order-clause-fault : goal.returns-in_err-check_order-clause-fault
 returns-in_err-check_order-clause-fault c =
-    ends-refusal c.args.script.now c.args.text.now kind.OpOrder 2 refl (c.in_ok-check_shape.ensures.held, c.in_ok-check_known.ensures.held, tt) _ c.in_err-check_order.ensures.broken
+    ends-refusal c.args.script.now c.args.text.now kind.OpOrder 2 refl (c.in_ok-check_shape.ensures.held, (c.in_ok-check_known.ensures.held, tt)) _ c.in_err-check_order.ensures.broken

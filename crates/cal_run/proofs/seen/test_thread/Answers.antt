@@ -2,7 +2,7 @@ use Rattle.std.proofs.Common.{◌+◌, List, [], ◌∷◌, ◌++◌, subst, sym
 use Rattle.cal_run.proofs.RowLemmas.{noted-drop}
 use Rattle.cal_run.proofs.TellLemmas.{channel-within, noted-done}
 use Rattle.cal_run.specs.Broken.{Row}
-use Rattle.cal_run.specs.Broken.Row.{Noted}
+use Rattle.cal_run.specs.Broken.{Noted}
 use Rattle.cal_run.specs.Checking.{SeenTell, noted}
 use Rattle.cal_run.specs.Steps.{at_start, state_after}
 use Rattle.cal_run.proofs.seen.test_thread.Goals as goal

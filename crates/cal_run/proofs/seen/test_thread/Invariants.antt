@@ -1,7 +1,7 @@
 use Rattle.std.proofs.Common.{◌≡◌, ℕ, ◌+◌, ◌++◌, List, drop, map}
 use Rattle.std.specs.Prelude.{zip}
 use Rattle.cal_run.specs.Broken.{Row}
-use Rattle.cal_run.specs.Broken.Row.{Noted}
+use Rattle.cal_run.specs.Broken.{Noted}
 use Rattle.cal_run.specs.Checking.{SeenTell}
 use Rattle.cal_run.specs.Lawful.{noted_from}
 use Rattle.cal_run.specs.Steps.{ThreadState, at_start}
