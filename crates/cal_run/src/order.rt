@@ -146,15 +146,13 @@ fn first_out_of_order(
 fn take_next(script: &Script, lists: &[Vec<u32>], op: Placed, counts: &mut [usize]) -> bool
     requires listed { AreListed script.now lists.now script.now.threads }
     requires known { IsKnown script.now op }
+    requires long { length counts.old ≡ length script.now.threads }
     ensures taken { (history : List places.Placed) → AreCounted script.now history counts.old
         → IsTrue result → AreCounted script.now (history ++ op ∷ []) counts.new }
     ensures not { (history : List places.Placed) → AreCounted script.now history counts.old
         → result ≡ false → ¬ HasBegun script.now (history ++ op ∷ []) }
 {
     let thread = op.thread as usize;
-    if thread >= lists.len() || thread >= counts.len() {
-        return false;
-    }
     let count = counts[thread];
     if is_at(&lists[thread], count, op.line) {
         counts[thread] = count + 1;
@@ -181,7 +179,7 @@ fn are_all_placed(script: &Script, lists: &[Vec<u32>], ops: &[Placed], counts: &
     let _ = script;
     let _ = ops;
     for thread in 0..lists.len() {
-        if thread < counts.len() && counts[thread] < lists[thread].len() {
+        if counts[thread] < lists[thread].len() {
             return false;
         }
     }
