@@ -8,6 +8,7 @@ pub mod Gathering
 pub mod Takings
 pub mod Lasts
 pub mod Drops
+pub mod InPlace
 pub mod Ranking
 pub mod Folds
 pub mod Learned
@@ -18,3 +19,10 @@ pub mod Results
 pub mod Totalling
 pub mod GroupRows
 pub mod Regroups
+pub mod Sifting
+pub mod Choosing
+pub mod KeyLemmas
+pub mod Counting
+pub mod Tallying
+pub mod Gating
+pub mod Staying
