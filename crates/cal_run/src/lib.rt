@@ -17,10 +17,6 @@ mod line;
 mod lines;
 mod meeting;
 mod merged;
-mod filling;
-mod laws;
-mod line;
-mod lines;
 mod moment;
 mod numbers;
 mod operation;
@@ -35,9 +31,6 @@ mod watch;
 
 pub use end::CoreEnd;
 pub use lawful::check_journal;
-mod services;
-mod thread;
-
 pub use laws::lawful_journal_law;
 pub use numbers::{EventNumbers, Numbers};
 pub use operation::{Operation, operation_of};
