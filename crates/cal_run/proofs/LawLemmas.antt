@@ -50,7 +50,7 @@ module _ (script : Script) (journal : Journal) where
   abbrev InOrder : List Line × ThreadNote → Type 0
   InOrder t = SeesInOrder script journal.ops 0 (zip t.0 t.1.lines)
 
-  threads_in_order : (k : ℕ) (ts : List (List Line × ThreadNote))
+  pub threads_in_order : (k : ℕ) (ts : List (List Line × ThreadNote))
       → All Rule (flat_map (noted_of script journal.ops) (enumerate_from k ts)) → All InOrder ts
   threads_in_order k [] all = All-nil InOrder
   threads_in_order k (t ∷ ts) all =

@@ -7,3 +7,9 @@ pub mod RunLemmas
 pub mod LawLemmas
 pub mod PlainLemmas
 pub mod PlainLawLemmas
+pub mod BrokenLemmas
+pub mod RowLemmas
+pub mod OrderLemmas
+pub mod MergeLemmas
+pub mod WatchLemmas
+pub mod TellLemmas

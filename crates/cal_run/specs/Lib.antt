@@ -4,6 +4,8 @@ pub mod Snapshots
 pub mod Steps
 pub mod Runs
 pub mod Lawful
+pub mod Broken
+pub mod Checking
 pub mod Numbers
 pub mod Held
 pub mod Adding

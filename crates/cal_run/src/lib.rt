@@ -7,22 +7,34 @@
 
 mod boards;
 mod closing;
+mod end;
 mod filling;
+mod finding;
+mod found;
+mod lawful;
 mod laws;
 mod line;
 mod lines;
+mod meeting;
+mod merged;
 mod moment;
 mod noting;
 mod numbers;
 mod operation;
+mod order;
 mod placing;
 mod plain;
 mod process;
 mod run;
+mod seen;
 mod services;
+mod shape;
 mod steps;
 mod thread;
+mod watch;
 
+pub use end::CoreEnd;
+pub use lawful::check_journal;
 pub use laws::{lawful_journal_law, plain_journal_law};
 pub use numbers::{EventNumbers, Numbers};
 pub use operation::{Operation, operation_of};

@@ -1,0 +1,16 @@
+use Rattle.std.proofs.Common.{refl}
+use Rattle.cal_journal.specs.declared.kind.JournalKind.TheVariants as kind
+use Rattle.cal_run.proofs.RowLemmas.{ends-refusal}
+use Rattle.cal_run.proofs.lawful.check_history.Goals as goal
+
+pub returns-in_err-check_shape-clause-fault : goal.returns-in_err-check_shape-clause-fault
+returns-in_err-check_shape-clause-fault c =
+    ends-refusal c.args.script.now c.args.text.now kind.Shape 0 refl tt _ c.in_err-check_shape.ensures.broken
+
+pub returns-in_err-check_known-clause-fault : goal.returns-in_err-check_known-clause-fault
+returns-in_err-check_known-clause-fault c =
+    ends-refusal c.args.script.now c.args.text.now kind.OpStranger 1 refl (c.in_ok-check_shape.ensures.held, tt) _ c.in_err-check_known.ensures.broken
+
+pub returns-in_err-check_order-clause-fault : goal.returns-in_err-check_order-clause-fault
+returns-in_err-check_order-clause-fault c =
+    ends-refusal c.args.script.now c.args.text.now kind.OpOrder 2 refl (c.in_ok-check_shape.ensures.held, (c.in_ok-check_known.ensures.held, tt)) _ c.in_err-check_order.ensures.broken

@@ -1,0 +1,9 @@
+use Rattle.std.proofs.Common.{arith}
+use Rattle.cal_run.proofs.OrderLemmas.{counted-next, known-within, lists-long, not-next}
+use Rattle.cal_run.proofs.order.take_next.Goals as goal
+
+pub bounds-counts-thread : goal.bounds-counts-thread
+bounds-counts-thread c =
+    let within = known-within c.args.script.now c.args.op c.requires.known in
+    let long = c.requires.long in
+    omega (arith, within, long)
