@@ -1,6 +1,5 @@
 ghost use Rattle.std.specs.Prelude.{◌≡◌, ◌<◌, ◌≤◌, ◌+◌, ◌∷◌, [], ◌++◌, length, map, zip, All, IfOk};
 ghost use Rattle.std.specs.Prelude.{List, OnOk};
-ghost use Rattle.std.specs.List.{list_any};
 ghost use Rattle.cal_context.specs.Tree.{Grows};
 ghost use Rattle.cal_run.specs.Broken.{Row, all_rows};
 ghost use Rattle.cal_run.specs.Broken.{Noted};
@@ -16,9 +15,10 @@ use crate::found::Found;
 use crate::meeting::{is_answered, is_fixed, is_read};
 use crate::merged::Merged;
 use crate::seen::{Spot, first_of};
+use crate::steps::takes_start_reading;
 use crate::watch::Watch;
 use cal_context::Context;
-use cal_script::{Channel, Journal, Line, LineNote, Script};
+use cal_script::{Journal, Line, LineNote, Script};
 use cal_value::OutOfMemory;
 use std::alloc::Global;
 
@@ -66,7 +66,7 @@ fn test_threads(
         FoundTell script.now journal.now tests (all_rows script.now journal.now)) }
 {
     let (threads, notes) = (script.threads.as_slice(), journal.threads.as_slice());
-    let timed = takes_start_reading(script.channels.as_slice());
+    let timed = takes_start_reading(script);
     let mut tests = FoundTests {
         row: 0,
         fixed: None,
@@ -83,18 +83,6 @@ fn test_threads(
         )?;
     }
     Ok(tests)
-}
-
-/// Whether some channel has the timer.
-fn takes_start_reading(channels: &[Channel]) -> bool
-    ensures { result ≡ list_any (λ channel. channel.timer) channels.now }
-{
-    for place in 0..channels.len() {
-        if channels[place].timer {
-            return true;
-        }
-    }
-    false
 }
 
 fn test_thread(
