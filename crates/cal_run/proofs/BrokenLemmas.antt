@@ -89,7 +89,7 @@ get_or-written_from text row (start ∷ starts) (suc i) d b below =
 
 module _ (script : Script) (text : JournalText) (starts : List Bool) (wanted : List RowName)
     (starts-are : starts ≡ starts_of text.journal.threads) (wanted-are : wanted ≡ wanted_rows script) where
-  written : List RowName
+  abbrev written : List RowName
   written = written_from text 0 starts
 
   written-are : written ≡ written_rows text
