@@ -1,5 +1,5 @@
 -- The first item that breaks a rule, while a list is gone through.
-use Rattle.std.proofs.Common.{◌≡◌, ℕ, suc, zero, ◌+◌, ◌-◌, ◌<◌, ◌≤◌, List, [], ◌∷◌, ◌++◌, Bool, true, false, length, get_or, take, drop, ap, subst, sym, refl, ◌∙◌, append_assoc, append-nil, arith, length-append, inl, inr}
+use Rattle.std.proofs.Common.{◌≡◌, ℕ, suc, zero, ◌+◌, ◌-◌, ◌<◌, ◌≤◌, List, [], ◌∷◌, ◌++◌, Bool, true, false, length, get_or, take, drop, map, ap, subst, sym, refl, ◌∙◌, append_assoc, append-nil, add-one, arith, length-append, inl, inr}
 use Rattle.std.specs.Prelude.{Option, Some, None, slice_get, ◌↔◌, ◌≢◌}
 use Rattle.std.specs.List.{All}
 use Rattle.std.proofs.lemmas.List.{get_or_append_left, take_more, take_all, take-append-le, take-append-drop, length-take-le, get_or-take, get_or-append_right, take_more_same}
@@ -7,10 +7,11 @@ use Rattle.std.proofs.lemmas.List.Elements.{All-push}
 use Rattle.std.proofs.lemmas.Option.{get_or_from_slice_get, slice_get-get_or, slice_get_within}
 use Rattle.cal_context.specs.Lists.{IsFront}
 use Rattle.cal_context.proofs.ListLemmas.{length-IsFront, slice_get-IsFront}
-use Rattle.cal_run.specs.Broken.{BreaksAt, BreaksShape, row_line, starts_of, wanted_rows, written_from, written_row, written_rows}
+use Rattle.cal_run.specs.Broken.{BreaksAt, BreaksShape, line_rows, row_line, starts_of, wanted_rows, written_from, written_row, written_rows}
 use Rattle.cal_run.specs.Checking.{Tells, next_first}
 use Rattle.cal_run.specs.declared.shape.RowName.{RowName}
 use Rattle.cal_script.specs.declared.journal.JournalText.{JournalText}
+use Rattle.cal_script.specs.declared.script.Line.{Line}
 use Rattle.cal_script.specs.declared.script.Script.{Script}
 
 module _ {A : Type 0} (P : A → Type 0) where
@@ -67,6 +68,32 @@ module _ {A : Type 0} where
 
 -- ---- rows as they are written
 
+-- the row of one line of a thread, and those behind it
+pub line_rows-drop : (thread number i : ℕ) (ls : List Line) → i < length ls
+    → line_rows thread number (drop i ls)
+    ≡ record { start = false; thread = thread; number = number } ∷ line_rows thread (number + 1) (drop (i + 1) ls)
+line_rows-drop thread number i ls below =
+    subst (λ k. line_rows thread number (drop i ls)
+    ≡ record { start = false; thread = thread; number = number } ∷ line_rows thread (number + 1) (drop k ls))
+    (sym (add-one i)) (by i ls below)
+  where
+    by : (i : ℕ) (ls : List Line) → i < length ls
+        → line_rows thread number (drop i ls)
+        ≡ record { start = false; thread = thread; number = number } ∷ line_rows thread (number + 1) (drop (suc i) ls)
+    by i [] l = absurd (omega (arith, l))
+    by zero (x ∷ ls) l = refl
+    by (suc i) (x ∷ ls) l = by i ls (omega (arith, l))
+
+-- one line more is no start
+pub falses-more : {A : Type 0} (xs : List A) (i : ℕ) → i < length xs
+    → map (λ _. false) (take (i + 1) xs) ≡ map (λ _. false) (take i xs) ++ false ∷ []
+falses-more {A} xs i below = rw add-one (by xs i below)
+  where
+    by : (xs : List A) (i : ℕ) → i < length xs → map (λ _. false) (take (suc i) xs) ≡ map (λ _. false) (take i xs) ++ false ∷ []
+    by [] i l = absurd (omega (arith, l))
+    by (x ∷ xs) zero l = refl
+    by (x ∷ xs) (suc i) l = ap (λ bs. false ∷ bs) (by xs i (omega (arith, l)))
+
 pub length-written_from : (text : JournalText) (row : ℕ) (starts : List Bool)
     → length (written_from text row starts) ≡ length starts
 length-written_from text row [] = refl
@@ -89,11 +116,18 @@ get_or-written_from text row (start ∷ starts) (suc i) d b below =
 
 module _ (script : Script) (text : JournalText) (starts : List Bool) (wanted : List RowName)
     (starts-are : starts ≡ starts_of text.journal.threads) (wanted-are : wanted ≡ wanted_rows script) where
-  written : List RowName
+  abbrev written : List RowName
   written = written_from text 0 starts
 
   written-are : written ≡ written_rows text
   written-are = ap (written_from text 0) starts-are
+
+  written-at : (row : ℕ) (d : RowName) (b : Bool) → row < length starts → get_or written row d ≡ written_row text row (get_or starts row b)
+  written-at row d b below =
+      get_or-written_from text 0 starts row d b below ∙ ap (λ r. written_row text r (get_or starts row b)) (by row)
+    where
+      by : (n : ℕ) → 0 + n ≡ n
+      by n = omega arith
 
   -- a row that stands where another belongs
   pub strange-row : (row line : ℕ) (b : Bool) → row < length starts → take row written ≡ take row wanted
@@ -103,14 +137,15 @@ module _ (script : Script) (text : JournalText) (starts : List Bool) (wanted : L
       let d : RowName = written_row text row b in
       let breaks : BreaksAt (λ zs. IsFront zs wanted) written row =
           breaks-front written wanted row d (let long = length-written_from text 0 starts in omega (arith, long, below)) same
-          (λ next. not (next ∙ ap (λ x. Some x) (get_or-written_from text 0 starts row d b below))) in
+          (λ next. not (next ∙ ap (λ x. Some x) (written-at row d b below))) in
       inl (row, subst (λ zs. BreaksAt (λ rows. IsFront rows (wanted_rows script)) zs row) written-are
       (subst (λ ws. BreaksAt (λ rows. IsFront rows ws) written row) wanted-are breaks), is)
 
   -- rows are missing at the end
-  pub missing-rows : (line : ℕ) → take (length starts) written ≡ take (length starts) wanted → length starts < length wanted
+  pub missing-rows : (row line : ℕ) → row ≡ length starts → take row written ≡ take row wanted → length starts < length wanted
       → line ≡ text.marks.end → BreaksShape text (written_rows text) (wanted_rows script) line
-  missing-rows line same few is =
+  missing-rows row line whole-row so_far few is =
+      let same : take (length starts) written ≡ take (length starts) wanted = subst (λ n. take n written ≡ take n wanted) whole-row so_far in
       let long : length written ≡ length starts = length-written_from text 0 starts in
       let whole : take (length starts) written ≡ written = take_all (length starts) written (omega (arith, long)) in
       let front : IsFront written wanted = subst (λ zs. IsFront zs wanted) whole (front-take written wanted (length starts) same) in
@@ -118,9 +153,10 @@ module _ (script : Script) (text : JournalText) (starts : List Bool) (wanted : L
       (λ e. let same-long : length written ≡ length wanted = ap length (written-are ∙ e ∙ sym wanted-are) in omega (arith, same-long, long, few)), is)
 
   -- all rows are the wanted ones
-  pub all-wanted : take (length starts) written ≡ take (length starts) wanted → length wanted ≤ length starts
+  pub all-wanted : (row : ℕ) → row ≡ length starts → take row written ≡ take row wanted → length wanted ≤ length starts
       → written_rows text ≡ wanted_rows script
-  all-wanted same enough =
+  all-wanted row whole so_far enough =
+      let same : take (length starts) written ≡ take (length starts) wanted = subst (λ n. take n written ≡ take n wanted) whole so_far in
       let long : length written ≡ length starts = length-written_from text 0 starts in
       sym written-are ∙ sym (take_all (length starts) written (omega (arith, long))) ∙ same ∙ take_all (length starts) wanted enough ∙ wanted-are
 
@@ -132,4 +168,4 @@ module _ (script : Script) (text : JournalText) (starts : List Bool) (wanted : L
       let d : RowName = written_row text row b in
       let long : length written ≡ length starts = length-written_from text 0 starts in
       take_more_same written wanted row d (omega (arith, long, below)) (slice_get_within wanted row (written_row text row (get_or starts row b)) is) same
-      (get_or-written_from text 0 starts row d b below ∙ sym (get_or_from_slice_get wanted row (written_row text row (get_or starts row b)) d is))
+      (written-at row d b below ∙ sym (get_or_from_slice_get wanted row (written_row text row (get_or starts row b)) d is))

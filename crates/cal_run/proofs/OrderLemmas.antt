@@ -1,15 +1,16 @@
 -- The history's order: what is placed of each thread, by counts.
-use Rattle.std.proofs.Common.{◌≡◌, ℕ, suc, zero, ◌+◌, ◌-◌, ◌<◌, ◌≤◌, List, [], ◌∷◌, ◌++◌, Bool, true, false, length, get_or, set, ap, subst, sym, refl, ◌∙◌, append_assoc, append-nil, arith, if◌then◌else◌, replicate}
-use Rattle.std.specs.Prelude.{Option, Some, None, slice_get, slice_index_or, ◌==◌, filter_map}
+use Rattle.std.proofs.Common.{◌≡◌, ℕ, suc, zero, ◌+◌, ◌-◌, ◌<◌, ◌≤◌, List, [], ◌∷◌, ◌++◌, Bool, true, false, length, get_or, set, take, ap, subst, sym, refl, ◌∙◌, append_assoc, append-nil, arith, if◌then◌else◌, replicate}
+use Rattle.std.specs.Prelude.{Option, Some, None, slice_get, slice_index_or, ◌==◌, filter_map, sum_by}
 use Rattle.std.specs.List.{All, AllZip}
 use Rattle.std.proofs.lemmas.List.Elements.{filter_map-append}
 use Rattle.std.proofs.lemmas.Bool.{eqb-true, eqb-false, eq-eqb}
-use Rattle.std.proofs.lemmas.List.{get_or-replicate, get_or-set_other, get_or-set_same, length-append, length-replicate, length-set}
+use Rattle.std.proofs.lemmas.List.{get_or-replicate, get_or-set_other, get_or-set_same, length-append, length-replicate, length-set, take_more}
+use Rattle.std.proofs.lemmas.List.Sums.{sum_by-cons}
 use Rattle.std.proofs.lemmas.Option.{get_or_from_slice_get, slice_get-get_or, slice_get_within}
 use Rattle.std.specs.declared.vec.Vec.{Vec}
 use Rattle.cal_context.specs.Lists.{IsFront}
-use Rattle.cal_run.proofs.RunLemmas.{all_zip-at}
-use Rattle.cal_run.specs.Broken.{HasBegun}
+use Rattle.cal_run.proofs.NumberLemmas.{all_zip-at}
+use Rattle.cal_run.specs.Broken.{BreaksAt, HasBegun}
 use Rattle.cal_run.specs.Checking.{AreCounted, AreListed}
 use Rattle.cal_run.specs.Lawful.{HasOrder, IsKnown, names_process_line, placed_of, process_lines}
 use Rattle.cal_script.specs.declared.journal.Placed.{Placed}
@@ -20,8 +21,11 @@ use Rattle.cal_script.specs.declared.script.Script.{Script}
 within-from : (script : Script) (threads : List (List Line)) (t n : ℕ)
     → names_process_line script (if n == 0 then None else slice_get (slice_index_or threads t []) (n - 1)) ≡ true
     → t < length threads
-within-from script [] t zero e = absurd (let no : false ≡ true = e in cc)
-within-from script [] t (suc n) e = absurd (let no : false ≡ true = e in cc)
+within-from script [] t n e = absurd (let no : false ≡ true = sym (by (n == 0)) ∙ e in cc)
+  where
+    by : (b : Bool) → names_process_line script (if b then None else None) ≡ false
+    by true = refl
+    by false = refl
 within-from script (ls ∷ threads) zero n e = omega arith
 within-from script (ls ∷ threads) (suc t) n e = let rest = within-from script threads t n e in omega (arith, rest)
 
@@ -57,6 +61,10 @@ module _ {A : Type 0} where
       let whole : y ∷ ys ≡ x ∷ (xs ++ front.0) = front.1 in
       let rest : xs ≡ ys = front-whole xs ys (front.0, cc) (omega (arith, long)) in
       cc
+
+  an-item : (xs : List A) → ¬ (xs ≡ []) → A
+  an-item [] some = absurd (some refl)
+  an-item (x ∷ xs) some = x
 
 -- ---- one operation more
 
@@ -161,13 +169,14 @@ module _ (script : Script) {Z : Type 0} (lists : List (Vec ℕ Z)) (listed : Are
 
   module _ (history : List Placed) (counts : List ℕ) (counted : AreCounted script history counts) where
     -- where no thread lacks an operation, all are placed
-    pub whole-order : (d : Vec ℕ Z) → ((k : ℕ) (d : Vec ℕ Z) → k < length lists → length (get_or lists k d).items ≤ get_or counts k 0)
+    pub whole-order : ((k : ℕ) (d : Vec ℕ Z) → k < length lists → length (get_or lists k d).items ≤ get_or counts k 0)
         → HasOrder script history
-    whole-order d enough t ls is =
+    whole-order enough t ls is =
         let long : length lists ≡ length script.threads = lists-long in
         let below : t < length script.threads = slice_get_within script.threads t ls is in
         let in_lists : t < length lists = omega (arith, long, below) in
         let in_counts : t < length counts = (let long2 = counted.long in omega (arith, long2, below)) in
+        let d : Vec ℕ Z = an-item lists (λ none. let no = ap length none in omega (arith, no, in_lists)) in
         let list : (get_or lists t d).items ≡ process_lines script ls = list-is t ls d is in_lists in
         let long3 : length (get_or lists t d).items ≡ length (process_lines script ls) = ap length list in
         let most = enough t d in_lists in
@@ -186,3 +195,52 @@ module _ (script : Script) {Z : Type 0} (lists : List (Vec ℕ Z)) (listed : Are
         let list : length (get_or lists t d).items ≡ length (process_lines script ls) = ap length (list-is t ls d is in_lists) in
         let count : get_or counts t 0 ≡ length (placed_of t history) = counted.counted t (omega (arith, long, long2, in_lists)) in
         omega (arith, same, list, count, lacks)
+
+-- ---- an operation at a place
+
+module _ (script : Script) (ops : List Placed) (place : ℕ) (op : Placed) (below : place < length ops) (is : op ≡ get_or ops place op)
+    (counts : List ℕ) (counted : AreCounted script (take place ops) counts) where
+  take-next-op : take (place + 1) ops ≡ take place ops ++ op ∷ []
+  take-next-op = take_more ops place op below ∙ ap (λ (o : Placed). take place ops ++ o ∷ []) (sym is)
+
+  -- it is out of order
+  pub breaks-order : ¬ HasBegun script (take place ops ++ op ∷ []) → BreaksAt (HasBegun script) ops place
+  breaks-order not = record {
+    within = below;
+    kept = counted.begun;
+    broken = λ begun. not (subst (HasBegun script) take-next-op begun);
+  }
+
+  -- it is counted
+  pub counted-more : (now : List ℕ) → AreCounted script (take place ops ++ op ∷ []) now → AreCounted script (take (place + 1) ops) now
+  counted-more now more = subst (λ history. AreCounted script history now) (sym take-next-op) more
+
+-- ---- the lists of process lines
+
+all_zip-push : {A B : Type 0} (R : A → B → Type 0) (xs : List A) (ys : List B) (x : A) (y : B) → AllZip R xs ys → R x y
+    → AllZip R (xs ++ x ∷ []) (ys ++ y ∷ [])
+all_zip-push R [] [] x y all is = (is, tt)
+all_zip-push R [] (b ∷ ys) x y all is = absurd all
+all_zip-push R (a ∷ xs) [] x y all is = absurd all
+all_zip-push R (a ∷ xs) (b ∷ ys) x y all is = (all.0, all_zip-push R xs ys x y all.1 is)
+
+-- the list of one thread more
+pub listed-more : (script : Script) {Z : Type 0} (lists : List (Vec ℕ Z)) (threads : List (List Line)) (i : ℕ) (ls : List Line)
+    (list : Vec ℕ Z) → i < length threads → ls ≡ get_or threads i ls → list.items ≡ process_lines script ls
+    → AreListed script lists (take i threads) → AreListed script (lists ++ list ∷ []) (take (i + 1) threads)
+listed-more script lists threads i ls list below is lines listed =
+    subst (AreListed script (lists ++ list ∷ [])) (sym (take_more threads i ls below ∙ ap (λ (t : List Line). take i threads ++ t ∷ []) (sym is)))
+    (all_zip-push (ListIs script) lists (take i threads) list ls listed lines)
+
+-- a thread has no more lines than all
+pub lines-within : (threads : List (List Line)) (i : ℕ) (ls : List Line) → i < length threads → ls ≡ get_or threads i ls
+    → length ls ≤ sum_by length threads
+lines-within [] i ls below is = absurd (omega (arith, below))
+lines-within (x ∷ xs) zero ls below is =
+    let sum = sum_by-cons length x xs in
+    let long : length ls ≡ length x = ap length is in
+    omega (arith, sum, long)
+lines-within (x ∷ xs) (suc i) ls below is =
+    let sum = sum_by-cons length x xs in
+    let rest = lines-within xs i ls (omega (arith, below)) is in
+    omega (arith, sum, rest)

@@ -28,6 +28,7 @@ pub fn check_journal(alloc: Global, script: &Script, text: &JournalText) -> Resu
 
 /// Tests the rules Shape, OpStranger and OpOrder.
 fn check_history(alloc: Global, script: &Script, text: &JournalText) -> Result<(), CoreEnd>
+    requires { IsRunnable script.now }
     ensures held { OnOk result (HoldFirst script.now text.now 3) }
     ensures fault { IfErr result (IsRefusalOf script.now text.now) }
 {

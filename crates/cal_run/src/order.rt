@@ -5,6 +5,7 @@ ghost use Rattle.cal_run.specs.Broken.{HasBegun, op_line};
 ghost use Rattle.cal_run.specs.Checking.{AreCounted, AreListed, EndsBy, Tells, TellsOrder};
 ghost use Rattle.cal_run.specs.Lawful.{HasOrder, IsKnown, process_lines};
 ghost use Rattle.cal_script.specs.declared.journal.Placed as places;
+ghost use Rattle.cal_valid.specs.Valid.{IsRunnable};
 
 use crate::CoreEnd;
 use crate::lines::{is_process_line, line_at};
@@ -33,6 +34,7 @@ pub(crate) fn check_order(
     script: &Script,
     text: &JournalText,
 ) -> Result<(), CoreEnd>
+    requires runnable { IsRunnable script.now }
     requires known { All (IsKnown script.now) text.now.journal.ops }
     ensures held { OnOk result (HasOrder script.now text.now.journal.ops) }
     ensures broken { IfErr result (EndsBy script.now text.now kind.OpOrder) }
@@ -98,6 +100,7 @@ fn names_process_line(script: &Script, op: Placed) -> bool
 
 /// The numbers of the process lines of each thread.
 fn process_lists(alloc: Global, script: &Script) -> Result<Vec<Vec<u32>>, OutOfMemory>
+    requires { IsRunnable script.now }
     ensures { IfOk result (λ lists. AreListed script.now lists.items script.now.threads) }
 {
     let threads = script.threads.as_slice();
