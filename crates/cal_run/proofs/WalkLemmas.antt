@@ -1,16 +1,23 @@
 -- What the two walks over the lines of a journal need.
-use Rattle.std.proofs.Common.{◌≡◌, ◌↔◌, IsTrue, ℕ, List, Bool, ◌&&◌, ap, subst, sym, ◌∙◌}
-use Rattle.std.specs.Prelude.{Option, not}
+use Rattle.std.proofs.Common.{◌≡◌, ◌↔◌, IsTrue, ℕ, ◌+◌, ◌<◌, ◌≤◌, List, [], ◌∷◌, ◌++◌, Bool, ◌&&◌}
+use Rattle.std.proofs.Common.{length, map, get_or, drop, append_assoc, ap, subst, sym, ◌∙◌, arith}
+use Rattle.std.specs.Prelude.{Option, not, zip}
 use Rattle.std.specs.List.{list_any}
 use Rattle.cal_board.specs.Blackboard.{Blackboard}
 use Rattle.cal_run.proofs.MergeLemmas.{merged-any}
-use Rattle.cal_run.specs.Broken.{all_rows}
-use Rattle.cal_run.specs.Checking.{AreMerged, found_on, found_with, has_merged}
-use Rattle.cal_run.specs.Lawful.{IsFlushReply}
+use Rattle.cal_run.proofs.RunLemmas.{zip_next}
+use Rattle.cal_run.specs.Broken.{Row, all_rows}
+use Rattle.cal_run.specs.Broken.{Noted}
+use Rattle.cal_run.specs.Checking.{AreMerged, found_of, found_on, found_with, has_merged}
+use Rattle.cal_run.specs.Lawful.{IsAnswer, IsAnswered, IsFlushReply, IsRead, LineIsRead}
+use Rattle.cal_run.specs.Lawful.{NotedLine, noted_from}
 use Rattle.cal_run.specs.Lines.{is_process_line, takes}
-use Rattle.cal_run.specs.Steps.{is_accepted, reply_to_line}
+use Rattle.cal_run.specs.Seeing.{MaySee}
+use Rattle.cal_run.specs.Steps.{ThreadState, is_accepted, reply_to_line, state_after}
 use Rattle.cal_run.specs.declared.found.Found.{Found}
 use Rattle.cal_script.specs.declared.journal.Journal.{Journal}
+use Rattle.cal_script.specs.declared.journal.LineNote.{LineNote}
+use Rattle.cal_script.specs.declared.journal.Placed.{Placed}
 use Rattle.cal_script.specs.declared.journal.Reply as replies
 use Rattle.cal_script.specs.declared.journal.Reply.TheVariants as reply
 use Rattle.cal_script.specs.declared.script.Channel.{Channel}
@@ -49,3 +56,51 @@ busy-is script journal marks are thread holder channel l r has l-is r-is other h
     (subst (λ (x : replies.Reply). IsTrue has
         ↔ IsFlushReply script journal thread (line.Flush channel) x) (sym r-is)
     ((λ (h : IsTrue has). (other, merged.0 (sym has-is ∙ h))), (λ f. has-is ∙ merged.1 f.1)))
+
+-- a line whose finds are known
+module _ (script : Script) (journal : Journal) (n : NotedLine) (found : Found) (kept : Bool)
+    (is : found ≡ found_of script journal.ops n.line n.note n.state) where
+  pub reads-found : (IsTrue kept ↔ IsRead script journal found.due found.clock n.note.reading)
+      → (IsTrue kept ↔ LineIsRead script journal n)
+  reads-found read = subst (λ (f : Found). IsTrue kept
+      ↔ IsRead script journal f.due f.clock n.note.reading) is read
+
+  pub answers-found : (IsTrue kept ↔ IsAnswer script journal n found.reply)
+      → (IsTrue kept ↔ IsAnswered script journal n)
+  answers-found answered = subst (λ (f : Found). IsTrue kept
+      ↔ IsAnswer script journal n f.reply) is answered
+
+-- ---- one line more of a thread
+
+-- a line that may follow one is behind those before it
+pub may-sooner : (script : Script) (history : List Placed) (count before : ℕ) (l : Line)
+    (n : LineNote) → count ≤ before → MaySee script history before l n
+    → MaySee script history count l n
+may-sooner script history count before l n less may = record {
+  rises = (let rises = may.rises in omega (arith, less, rises));
+  own = λ is. (let own = may.own is in omega (arith, less, own));
+  within = may.within;
+}
+
+-- the rows of the lines so far and of those that are left, with one line more
+pub noted-next : (script : Script) (history : List Placed) (thread number before : ℕ)
+    (state : ThreadState) (lines : List Line) (notes : List LineNote) (i : ℕ) (l : Line)
+    (n : LineNote) (rows all : List Row) → l ≡ get_or lines i l → n ≡ get_or notes i n
+    → i < length lines → length notes ≡ length lines
+    → rows ++ map Noted (noted_from script history thread number before state
+    (drop i (zip lines notes))) ≡ all
+    → (rows ++ Noted (record {
+      thread = thread;
+      number = number;
+      line = l;
+      note = n;
+      before = before;
+      state = state;
+    }) ∷ []) ++ map Noted (noted_from script history thread (number + 1) n.seen
+    (state_after script history l n state) (drop (i + 1) (zip lines notes))) ≡ all
+noted-next script history thread number before state lines notes i l n rows all line-is note-is
+    below long so_far =
+    append_assoc rows _ _
+    ∙ ap (λ ls. rows ++ map Noted (noted_from script history thread number before state ls))
+    (sym (zip_next lines notes i l n line-is note-is below long))
+    ∙ so_far

@@ -14,6 +14,7 @@ use crate::Numbers;
 use crate::found::Found;
 use crate::meeting::{is_answered, is_fixed, is_read};
 use crate::merged::Merged;
+use crate::run::noted_at;
 use crate::seen::{Spot, first_of};
 use crate::steps::takes_start_reading;
 use crate::watch::Watch;
@@ -115,7 +116,7 @@ fn test_thread(
     let mut watch = Watch::new(alloc);
     let mut before = 0;
     for place in 0..lines.len() {
-        let (line, note) = (lines[place], notes[place]);
+        let (line, note) = noted_at(lines, notes, place);
         let found = watch.run_line(alloc, script, numbers, ops, line, note, context)?;
         let spot = Spot {
             thread,
