@@ -3,16 +3,18 @@ use Rattle.std.proofs.Common.{◌≡◌, ◌↔◌, IsTrue, ℕ, ◌+◌, ◌<�
 use Rattle.std.proofs.Common.{length, map, get_or, drop, append_assoc, ap, subst, sym, ◌∙◌, arith}
 use Rattle.std.specs.Prelude.{Option, None, flat_map, not, zip}
 use Rattle.std.specs.List.{enumerate_from, list_any}
+use Rattle.std.proofs.lemmas.List.{get_or_default}
+use Rattle.std.proofs.lemmas.Slice.Zip.{AllZip-long}
 use Rattle.cal_board.specs.Blackboard.{Blackboard}
 use Rattle.cal_run.proofs.MergeLemmas.{merged-any}
-use Rattle.cal_run.proofs.RunLemmas.{zip_drop, zip_next}
+use Rattle.cal_run.proofs.RunLemmas.{thread-All, zip_drop, zip_next}
 use Rattle.cal_run.specs.Broken.{Row, all_rows, thread_rows}
 use Rattle.cal_run.specs.Broken.{Noted, Start}
 use Rattle.cal_run.specs.Checking.{AreMerged, found_of, found_on, found_with, has_merged}
 use Rattle.cal_run.specs.Lawful.{IsAnswer, IsAnswered, IsFlushReply, IsRead, LineIsRead}
-use Rattle.cal_run.specs.Lawful.{NotedLine, noted_from}
+use Rattle.cal_run.specs.Lawful.{HasShape, NotedLine, noted_from}
 use Rattle.cal_run.specs.Lines.{is_process_line, takes}
-use Rattle.cal_run.specs.Seeing.{MaySee}
+use Rattle.cal_run.specs.Seeing.{CanBeRead, MaySee, SeesInOrder}
 use Rattle.cal_run.specs.Steps.{ThreadState, at_start, is_accepted, reply_to_line, state_after}
 use Rattle.cal_run.specs.declared.found.Found.{Found}
 use Rattle.cal_script.specs.declared.journal.Journal.{Journal}
@@ -108,9 +110,34 @@ noted-next script history thread number before state lines notes i l n rows all 
 
 -- ---- one thread more
 
--- what a thread without a note would be read by
+-- any note
 pub no_note : ThreadNote
 no_note = record { start = None; lines = [] }
+
+-- there are as many notes as threads
+pub notes-long : (script : Script) (journal : Journal) → HasShape script journal
+    → length journal.threads ≡ length script.threads
+notes-long script journal shape =
+    AllZip-long (λ (thread : List Line) (note : ThreadNote). length note.lines ≡ length thread)
+    script.threads journal.threads shape
+
+-- what a thread sees, it sees in order
+pub order-at : (script : Script) (journal : Journal) (t : ℕ) (ls : List Line) (ns : List LineNote)
+    → CanBeRead script journal → t < length script.threads
+    → ((d : List Line) → ls ≡ get_or script.threads t d)
+    → ((d : ThreadNote) → ns ≡ (get_or journal.threads t d).lines)
+    → SeesInOrder script journal.ops 0 (zip ls ns)
+order-at script journal t ls ns read below ls-is ns-is =
+    let long = notes-long script journal read.shape in
+    let n : ThreadNote = get_or journal.threads t no_note in
+    let in_notes : t < length journal.threads = omega (arith, long, below) in
+    let n-is : n ≡ get_or journal.threads t n =
+    get_or_default journal.threads t no_note n in_notes in
+    subst (λ (xs : List LineNote). SeesInOrder script journal.ops 0 (zip ls xs))
+    (sym (ns-is no_note))
+    (thread-All script.threads journal.threads t ls n (ls-is ls) n-is below long
+    (λ (x : List Line × ThreadNote). SeesInOrder script journal.ops 0 (zip x.0 x.1.lines))
+    read.order)
 
 -- the rows of the threads so far and of those that are left, with one thread more
 pub rows-next : (script : Script) (journal : Journal) (threads : List (List Line))

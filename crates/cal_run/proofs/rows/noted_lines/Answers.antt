@@ -1,20 +1,10 @@
 use Rattle.std.proofs.Common.{◌≡◌, ◌<◌, List, length, get_or, ap, sym, ◌∙◌, arith}
 use Rattle.std.proofs.lemmas.List.{get_or_default}
-use Rattle.std.proofs.lemmas.Slice.Zip.{AllZip-long}
 use Rattle.cal_run.proofs.NumberLemmas.{all_zip-at}
-use Rattle.cal_run.specs.Lawful.{HasShape}
-use Rattle.cal_script.specs.declared.journal.Journal.{Journal}
+use Rattle.cal_run.proofs.WalkLemmas.{notes-long}
 use Rattle.cal_script.specs.declared.journal.ThreadNote.{ThreadNote}
 use Rattle.cal_script.specs.declared.script.Line.{Line}
-use Rattle.cal_script.specs.declared.script.Script.{Script}
 use Rattle.cal_run.proofs.rows.noted_lines.Goals as goal
-
--- there are as many notes as threads
-notes-long : (script : Script) (journal : Journal) → HasShape script journal
-    → length journal.threads ≡ length script.threads
-notes-long script journal shape =
-    AllZip-long (λ (thread : List Line) (note : ThreadNote). length note.lines ≡ length thread)
-    script.threads journal.threads shape
 
 pub bounds-notes-thread : goal.bounds-notes-thread
 bounds-notes-thread c =
