@@ -13,3 +13,4 @@ pub mod OrderLemmas
 pub mod MergeLemmas
 pub mod WatchLemmas
 pub mod TellLemmas
+pub mod WalkLemmas

@@ -7,7 +7,6 @@ use Rattle.std.proofs.lemmas.List.Elements.{All-append, All-cons, All-nil}
 use Rattle.cal_journal.specs.declared.kind.JournalKind.{JournalKind}
 use Rattle.cal_journal.specs.declared.kind.JournalKind.TheVariants as kind
 use Rattle.cal_run.proofs.LawLemmas.{threads_in_order}
-use Rattle.cal_run.proofs.RunLemmas.{zip_drop}
 use Rattle.cal_run.specs.Broken.{AllKeep, BreaksAt, BreaksRule, HoldsRule, IsLawfulText, KeepsLine, KeepsRow, Row, all_rows, line_rows, row_line, rows_from, rules, starts_of, thread_rows, wanted_rows, written_from, written_rows}
 use Rattle.cal_run.specs.Broken.{Noted, Start}
 use Rattle.cal_run.specs.Checking.{EndsBy, HoldFirst, IsOfRows, IsRefusalOf}
@@ -199,18 +198,3 @@ module _ (script : Script) (text : JournalText) where
     here = subst (λ (k : JournalKind). BreaksRule script text k line) (sym broken.0) broken.1;
   }
   ends-refusal rule place is before end.OutOfMemory broken = tt
-
--- ---- one line more of a thread
-
-module _ (script : Script) (history : List Placed) where
-  pub noted-drop : (thread number before : ℕ) (state : ThreadState) (lines : List Line) (notes : List LineNote) (i : ℕ)
-      (l : Line) (n : LineNote) (rows all : List Row) → i < length lines → length notes ≡ length lines
-      → rows ++ map Noted (noted_from script history thread number before state (drop i (zip lines notes))) ≡ all
-      → (rows ++ Noted (record { thread = thread; number = number; line = get_or lines i l; note = get_or notes i n; before = before; state = state }) ∷ [])
-      ++ map Noted (noted_from script history thread (number + 1) (get_or notes i n).seen
-      (state_after script history (get_or lines i l) (get_or notes i n) state) (drop (i + 1) (zip lines notes)))
-      ≡ all
-  noted-drop thread number before state lines notes i l n rows all below long so_far =
-      append_assoc rows _ _
-      ∙ ap (λ ls. rows ++ map Noted (noted_from script history thread number before state ls)) (sym (zip_drop lines notes i l n below long))
-      ∙ so_far

@@ -6,12 +6,13 @@ use Rattle.std.proofs.Math.Bool.{or-false}
 use Rattle.std.proofs.Math.Seq.{drop-cons}
 use Rattle.std.proofs.lemmas.List.{drop_all, take-append-le}
 use Rattle.std.proofs.lemmas.Option.{slice_get_within}
+use Rattle.std.proofs.lemmas.Slice.Zip.{length-zip}
 use Rattle.std.proofs.lemmas.List.Elements.{All-push}
 use Rattle.std.proofs.lemmas.List.Folds.{list_any-append}
 use Rattle.std.proofs.lemmas.List.Sums.{sum_by-cons}
 use Rattle.cal_journal.specs.declared.kind.JournalKind.TheVariants as kind
 use Rattle.cal_run.proofs.BrokenLemmas.{tells-more}
-use Rattle.cal_run.proofs.RunLemmas.{zip_drop, zip_long}
+use Rattle.cal_run.proofs.RunLemmas.{zip_drop}
 use Rattle.cal_run.specs.Broken.{KeepsLine, KeepsRow, KeepsStart, Row, all_rows, thread_rows}
 use Rattle.cal_run.specs.Broken.{Noted, Start}
 use Rattle.cal_run.specs.Checking.{AreMerged, FoundTell, IsChannel, SeenTell, Tells, merged_channel, merges, next_first}
@@ -171,23 +172,26 @@ channel-within attributes channels values line.Snapshot r placed few = tt
 channel-within attributes channels values (line.Tick n) r placed few = tt
 
 -- no line is left
-pub noted-done : (script : Script) (history : List Placed) (thread number before : ℕ) (state : ThreadState) (ls : List lines.Line) (ns : List LineNote)
-    (i : ℕ) (rows all : List Row) → length ls ≤ i → length ns ≡ length ls
-    → rows ++ map Noted (noted_from script history thread number before state (drop i (zip ls ns))) ≡ all → rows ≡ all
-noted-done script history thread number before state ls ns i rows all past long so_far =
+pub noted-done : (script : Script) (history : List Placed) (thread number before : ℕ)
+    (state : ThreadState) (ls : List lines.Line) (ns : List LineNote) (i : ℕ) (rows all : List Row)
+    → length ls ≤ i
+    → rows ++ map Noted (noted_from script history thread number before state (drop i (zip ls ns)))
+    ≡ all → rows ≡ all
+noted-done script history thread number before state ls ns i rows all past so_far =
     sym (append-nil rows)
     ∙ ap (λ xs. rows ++ map Noted (noted_from script history thread number before state xs))
-    (sym (drop_all i (zip ls ns) (let same = zip_long ls ns long in omega (arith, past, same))))
+    (sym (drop_all i (zip ls ns) (let long = length-zip ls ns in omega (arith, past, long))))
     ∙ so_far
 
 -- no thread is left
-pub rows-done : (script : Script) (journal : Journal) (ls : List (List lines.Line)) (ns : List ThreadNote) (i : ℕ) (rows all : List Row)
-    → length ls ≤ i → length ns ≡ length ls
-    → rows ++ flat_map (thread_rows script journal) (enumerate_from i (drop i (zip ls ns))) ≡ all → rows ≡ all
-rows-done script journal ls ns i rows all past long so_far =
+pub rows-done : (script : Script) (journal : Journal) (ls : List (List lines.Line))
+    (ns : List ThreadNote) (i : ℕ) (rows all : List Row) → length ls ≤ i
+    → rows ++ flat_map (thread_rows script journal) (enumerate_from i (drop i (zip ls ns))) ≡ all
+    → rows ≡ all
+rows-done script journal ls ns i rows all past so_far =
     sym (append-nil rows)
     ∙ ap (λ ts. rows ++ flat_map (thread_rows script journal) (enumerate_from i ts))
-    (sym (drop_all i (zip ls ns) (let same = zip_long ls ns long in omega (arith, past, same))))
+    (sym (drop_all i (zip ls ns) (let long = length-zip ls ns in omega (arith, past, long))))
     ∙ so_far
 
 -- threads and their notes are as many

@@ -1,6 +1,5 @@
 ghost use Rattle.std.specs.Prelude.{◌≡◌, ◌<◌, ◌≤◌, ◌+◌, ◌∷◌, [], ◌++◌, length, map, zip, All, IfOk};
 ghost use Rattle.std.specs.Prelude.{List, OnOk};
-ghost use Rattle.std.specs.List.{list_any};
 ghost use Rattle.cal_context.specs.Tree.{Grows};
 ghost use Rattle.cal_run.specs.Broken.{Row, all_rows};
 ghost use Rattle.cal_run.specs.Broken.{Noted};
@@ -15,10 +14,12 @@ use crate::Numbers;
 use crate::found::Found;
 use crate::meeting::{is_answered, is_fixed, is_read};
 use crate::merged::Merged;
+use crate::run::noted_at;
 use crate::seen::{Spot, first_of};
+use crate::steps::takes_start_reading;
 use crate::watch::Watch;
 use cal_context::Context;
-use cal_script::{Channel, Journal, Line, LineNote, Script};
+use cal_script::{Journal, Line, LineNote, Script};
 use cal_value::OutOfMemory;
 use std::alloc::Global;
 
@@ -66,7 +67,7 @@ fn test_threads(
         FoundTell script.now journal.now tests (all_rows script.now journal.now)) }
 {
     let (threads, notes) = (script.threads.as_slice(), journal.threads.as_slice());
-    let timed = takes_start_reading(script.channels.as_slice());
+    let timed = takes_start_reading(script);
     let mut tests = FoundTests {
         row: 0,
         fixed: None,
@@ -83,18 +84,6 @@ fn test_threads(
         )?;
     }
     Ok(tests)
-}
-
-/// Whether some channel has the timer.
-fn takes_start_reading(channels: &[Channel]) -> bool
-    ensures { result ≡ list_any (λ channel. channel.timer) channels.now }
-{
-    for place in 0..channels.len() {
-        if channels[place].timer {
-            return true;
-        }
-    }
-    false
 }
 
 fn test_thread(
@@ -127,7 +116,7 @@ fn test_thread(
     let mut watch = Watch::new(alloc);
     let mut before = 0;
     for place in 0..lines.len() {
-        let (line, note) = (lines[place], notes[place]);
+        let (line, note) = noted_at(lines, notes, place);
         let found = watch.run_line(alloc, script, numbers, ops, line, note, context)?;
         let spot = Spot {
             thread,

@@ -108,7 +108,7 @@ fn take_thread<T: Taker>(
 }
 
 /// The line at a place, with its note.
-fn noted_at(lines: &[Line], notes: &[LineNote], place: usize) -> (Line, LineNote)
+pub(crate) fn noted_at(lines: &[Line], notes: &[LineNote], place: usize) -> (Line, LineNote)
     requires line { place < length lines.now }
     requires note { place < length notes.now }
     ensures line { (d : script_lines.Line) → result.0 ≡ slice_index_or lines.now place d }

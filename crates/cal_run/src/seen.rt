@@ -9,6 +9,7 @@ ghost use Rattle.cal_valid.specs.Valid.{IsPlaced, IsRunnable};
 
 use crate::lines::is_process_line;
 use crate::merged::Merged;
+use crate::run::noted_at;
 use cal_script::{Journal, Line, LineNote, Placed, Script};
 use cal_value::OutOfMemory;
 use std::alloc::Global;
@@ -80,7 +81,7 @@ fn test_thread(
 {
     let mut before = 0;
     for place in 0..lines.len() {
-        let (line, note) = (lines[place], notes[place]);
+        let (line, note) = noted_at(lines, notes, place);
         let spot = Spot {
             thread,
             number: place + 1,

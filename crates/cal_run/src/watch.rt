@@ -15,6 +15,7 @@ use crate::boards::operate;
 use crate::found::{Found, found_on};
 use crate::lines::is_process_line;
 use crate::process::Process;
+use crate::steps::{clock_after, is_accepted};
 use crate::{Numbers, operation_of};
 use cal_board::Board;
 use cal_context::{Context, NodeNumber};
@@ -138,15 +139,5 @@ fn seen_before(shared: bool, note: LineNote) -> u64
 fn is_changing(shared: bool, reply: Option<Reply>) -> bool
     ensures { result ≡ (is_accepted reply && not shared) }
 {
-    !shared && matches!(reply, Some(Reply::Done))
-}
-
-/// The script clock behind a line.
-fn clock_after(clock: u64, line: Line) -> u64
-    ensures { result ≡ clock_after clock line }
-{
-    match line {
-        Line::Tick { n } => clock.saturating_add(n),
-        _ => clock,
-    }
+    is_accepted(reply) && !shared
 }

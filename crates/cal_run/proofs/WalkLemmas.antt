@@ -1,0 +1,106 @@
+-- What the two walks over the lines of a journal need.
+use Rattle.std.proofs.Common.{◌≡◌, ◌↔◌, IsTrue, ℕ, ◌+◌, ◌<◌, ◌≤◌, List, [], ◌∷◌, ◌++◌, Bool, ◌&&◌}
+use Rattle.std.proofs.Common.{length, map, get_or, drop, append_assoc, ap, subst, sym, ◌∙◌, arith}
+use Rattle.std.specs.Prelude.{Option, not, zip}
+use Rattle.std.specs.List.{list_any}
+use Rattle.cal_board.specs.Blackboard.{Blackboard}
+use Rattle.cal_run.proofs.MergeLemmas.{merged-any}
+use Rattle.cal_run.proofs.RunLemmas.{zip_next}
+use Rattle.cal_run.specs.Broken.{Row, all_rows}
+use Rattle.cal_run.specs.Broken.{Noted}
+use Rattle.cal_run.specs.Checking.{AreMerged, found_of, found_on, found_with, has_merged}
+use Rattle.cal_run.specs.Lawful.{IsAnswer, IsAnswered, IsFlushReply, IsRead, LineIsRead}
+use Rattle.cal_run.specs.Lawful.{NotedLine, noted_from}
+use Rattle.cal_run.specs.Lines.{is_process_line, takes}
+use Rattle.cal_run.specs.Seeing.{MaySee}
+use Rattle.cal_run.specs.Steps.{ThreadState, is_accepted, reply_to_line, state_after}
+use Rattle.cal_run.specs.declared.found.Found.{Found}
+use Rattle.cal_script.specs.declared.journal.Journal.{Journal}
+use Rattle.cal_script.specs.declared.journal.LineNote.{LineNote}
+use Rattle.cal_script.specs.declared.journal.Placed.{Placed}
+use Rattle.cal_script.specs.declared.journal.Reply as replies
+use Rattle.cal_script.specs.declared.journal.Reply.TheVariants as reply
+use Rattle.cal_script.specs.declared.script.Channel.{Channel}
+use Rattle.cal_script.specs.declared.script.Line.{Line}
+use Rattle.cal_script.specs.declared.script.Line.TheVariants as line
+use Rattle.cal_script.specs.declared.script.Script.{Script}
+
+-- what a line finds, part by part
+pub found-made : {V : Type 0} (script : Script) (b : Blackboard V) (l : Line) (clock : ℕ)
+    (reply : Option replies.Reply) (accepted looks due : Bool)
+    → reply ≡ reply_to_line script b l → accepted ≡ is_accepted reply
+    → looks ≡ (list_any (λ (c : Channel). accepted && takes script c l) script.channels
+    && not (is_process_line script l))
+    → due ≡ list_any (λ (c : Channel). c.timer && (accepted && takes script c l)) script.channels
+    → record { reply = reply; looks = looks; due = due; clock = clock } ≡ found_on script b l clock
+found-made script b l clock reply accepted looks due reply-is accepted-is looks-is due-is =
+    let looks-so = looks-is ∙ ap (λ (a : Bool). list_any (λ (c : Channel). a && takes script c l)
+        script.channels && not (is_process_line script l)) accepted-is in
+    let due-so = due-is ∙ ap (λ (a : Bool). list_any (λ (c : Channel).
+        c.timer && (a && takes script c l)) script.channels) accepted-is in
+    let made : record { reply = reply; looks = looks; due = due; clock = clock }
+        ≡ found_with script reply l clock =
+        λ j. record { reply = reply; looks = looks-so j; due = due-so j; clock = clock } in
+    made ∙ ap (λ (r : Option replies.Reply). found_with script r l clock) reply-is
+
+-- a flush is busy with another thread, of which a flush of the channel was merged
+pub busy-is : (script : Script) (journal : Journal) (marks : List Bool)
+    → AreMerged (all_rows script journal) marks
+    → (thread holder channel : ℕ) (l : Line) (r : replies.Reply) (has : Bool)
+    → l ≡ line.Flush channel → r ≡ reply.Busy holder → ¬ (holder ≡ thread)
+    → has ≡ has_merged marks holder channel
+    → (IsTrue has ↔ IsFlushReply script journal thread l r)
+busy-is script journal marks are thread holder channel l r has l-is r-is other has-is =
+    let merged = merged-any script journal holder channel marks are in
+    subst (λ (x : Line). IsTrue has ↔ IsFlushReply script journal thread x r) (sym l-is)
+    (subst (λ (x : replies.Reply). IsTrue has
+        ↔ IsFlushReply script journal thread (line.Flush channel) x) (sym r-is)
+    ((λ (h : IsTrue has). (other, merged.0 (sym has-is ∙ h))), (λ f. has-is ∙ merged.1 f.1)))
+
+-- a line whose finds are known
+module _ (script : Script) (journal : Journal) (n : NotedLine) (found : Found) (kept : Bool)
+    (is : found ≡ found_of script journal.ops n.line n.note n.state) where
+  pub reads-found : (IsTrue kept ↔ IsRead script journal found.due found.clock n.note.reading)
+      → (IsTrue kept ↔ LineIsRead script journal n)
+  reads-found read = subst (λ (f : Found). IsTrue kept
+      ↔ IsRead script journal f.due f.clock n.note.reading) is read
+
+  pub answers-found : (IsTrue kept ↔ IsAnswer script journal n found.reply)
+      → (IsTrue kept ↔ IsAnswered script journal n)
+  answers-found answered = subst (λ (f : Found). IsTrue kept
+      ↔ IsAnswer script journal n f.reply) is answered
+
+-- ---- one line more of a thread
+
+-- a line that may follow one is behind those before it
+pub may-sooner : (script : Script) (history : List Placed) (count before : ℕ) (l : Line)
+    (n : LineNote) → count ≤ before → MaySee script history before l n
+    → MaySee script history count l n
+may-sooner script history count before l n less may = record {
+  rises = (let rises = may.rises in omega (arith, less, rises));
+  own = λ is. (let own = may.own is in omega (arith, less, own));
+  within = may.within;
+}
+
+-- the rows of the lines so far and of those that are left, with one line more
+pub noted-next : (script : Script) (history : List Placed) (thread number before : ℕ)
+    (state : ThreadState) (lines : List Line) (notes : List LineNote) (i : ℕ) (l : Line)
+    (n : LineNote) (rows all : List Row) → l ≡ get_or lines i l → n ≡ get_or notes i n
+    → i < length lines → length notes ≡ length lines
+    → rows ++ map Noted (noted_from script history thread number before state
+    (drop i (zip lines notes))) ≡ all
+    → (rows ++ Noted (record {
+      thread = thread;
+      number = number;
+      line = l;
+      note = n;
+      before = before;
+      state = state;
+    }) ∷ []) ++ map Noted (noted_from script history thread (number + 1) n.seen
+    (state_after script history l n state) (drop (i + 1) (zip lines notes))) ≡ all
+noted-next script history thread number before state lines notes i l n rows all line-is note-is
+    below long so_far =
+    append_assoc rows _ _
+    ∙ ap (λ ls. rows ++ map Noted (noted_from script history thread number before state ls))
+    (sym (zip_next lines notes i l n line-is note-is below long))
+    ∙ so_far
