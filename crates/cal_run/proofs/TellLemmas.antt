@@ -121,22 +121,6 @@ module _ (script : Script) (journal : Journal) where
         (tells-more (KeepsRow script journal kind.Reply) old.reply front (Noted n) old.row c told.row c-is told.reply);
   }
 
-  -- one thread more is taken off those that are left
-  pub rows-drop : (threads : List (List lines.Line)) (notes : List ThreadNote) (t : ℕ) (ls : List lines.Line) (note : ThreadNote) (rows all : List Row)
-      → t < length threads → length notes ≡ length threads → ls ≡ get_or threads t ls → note ≡ get_or notes t note
-      → rows ++ flat_map (thread_rows script journal) (enumerate_from t (drop t (zip threads notes))) ≡ all
-      → ((rows ++ Start note ∷ []) ++ map Noted (noted_from script journal.ops t 1 0 at_start (zip ls note.lines)))
-      ++ flat_map (thread_rows script journal) (enumerate_from (t + 1) (drop (t + 1) (zip threads notes))) ≡ all
-  rows-drop threads notes t ls note rows all below long ls-is note-is so_far =
-      let one : List Row = map Noted (noted_from script journal.ops t 1 0 at_start (zip ls note.lines)) in
-      let more : List Row = flat_map (thread_rows script journal) (enumerate_from (t + 1) (drop (t + 1) (zip threads notes))) in
-      append_assoc (rows ++ Start note ∷ []) one more
-      ∙ append_assoc rows (Start note ∷ []) (one ++ more)
-      ∙ ap (λ (x : List lines.Line × ThreadNote). rows ++ flat_map (thread_rows script journal) (enumerate_from t (x ∷ drop (t + 1) (zip threads notes))))
-      (λ j. (ls-is j, note-is j))
-      ∙ ap (λ ts. rows ++ flat_map (thread_rows script journal) (enumerate_from t ts)) (sym (zip_drop threads notes t ls note below long))
-      ∙ so_far
-
 -- the rest has fewer lines
 pub room-drop : (threads : List (List lines.Line)) (t : ℕ) (ls : List lines.Line) (row most : ℕ) → t < length threads
     → ls ≡ get_or threads t ls

@@ -1,25 +1,26 @@
 -- What the two walks over the lines of a journal need.
 use Rattle.std.proofs.Common.{◌≡◌, ◌↔◌, IsTrue, ℕ, ◌+◌, ◌<◌, ◌≤◌, List, [], ◌∷◌, ◌++◌, Bool, ◌&&◌}
 use Rattle.std.proofs.Common.{length, map, get_or, drop, append_assoc, ap, subst, sym, ◌∙◌, arith}
-use Rattle.std.specs.Prelude.{Option, not, zip}
-use Rattle.std.specs.List.{list_any}
+use Rattle.std.specs.Prelude.{Option, None, flat_map, not, zip}
+use Rattle.std.specs.List.{enumerate_from, list_any}
 use Rattle.cal_board.specs.Blackboard.{Blackboard}
 use Rattle.cal_run.proofs.MergeLemmas.{merged-any}
-use Rattle.cal_run.proofs.RunLemmas.{zip_next}
-use Rattle.cal_run.specs.Broken.{Row, all_rows}
-use Rattle.cal_run.specs.Broken.{Noted}
+use Rattle.cal_run.proofs.RunLemmas.{zip_drop, zip_next}
+use Rattle.cal_run.specs.Broken.{Row, all_rows, thread_rows}
+use Rattle.cal_run.specs.Broken.{Noted, Start}
 use Rattle.cal_run.specs.Checking.{AreMerged, found_of, found_on, found_with, has_merged}
 use Rattle.cal_run.specs.Lawful.{IsAnswer, IsAnswered, IsFlushReply, IsRead, LineIsRead}
 use Rattle.cal_run.specs.Lawful.{NotedLine, noted_from}
 use Rattle.cal_run.specs.Lines.{is_process_line, takes}
 use Rattle.cal_run.specs.Seeing.{MaySee}
-use Rattle.cal_run.specs.Steps.{ThreadState, is_accepted, reply_to_line, state_after}
+use Rattle.cal_run.specs.Steps.{ThreadState, at_start, is_accepted, reply_to_line, state_after}
 use Rattle.cal_run.specs.declared.found.Found.{Found}
 use Rattle.cal_script.specs.declared.journal.Journal.{Journal}
 use Rattle.cal_script.specs.declared.journal.LineNote.{LineNote}
 use Rattle.cal_script.specs.declared.journal.Placed.{Placed}
 use Rattle.cal_script.specs.declared.journal.Reply as replies
 use Rattle.cal_script.specs.declared.journal.Reply.TheVariants as reply
+use Rattle.cal_script.specs.declared.journal.ThreadNote.{ThreadNote}
 use Rattle.cal_script.specs.declared.script.Channel.{Channel}
 use Rattle.cal_script.specs.declared.script.Line.{Line}
 use Rattle.cal_script.specs.declared.script.Line.TheVariants as line
@@ -103,4 +104,37 @@ noted-next script history thread number before state lines notes i l n rows all 
     append_assoc rows _ _
     ∙ ap (λ ls. rows ++ map Noted (noted_from script history thread number before state ls))
     (sym (zip_next lines notes i l n line-is note-is below long))
+    ∙ so_far
+
+-- ---- one thread more
+
+-- what a thread without a note would be read by
+pub no_note : ThreadNote
+no_note = record { start = None; lines = [] }
+
+-- the rows of the threads so far and of those that are left, with one thread more
+pub rows-next : (script : Script) (journal : Journal) (threads : List (List Line))
+    (notes : List ThreadNote) (t : ℕ) (note : ThreadNote) (ls : List Line) (ns : List LineNote)
+    (rows all : List Row) → t < length threads → length notes ≡ length threads
+    → ls ≡ get_or threads t ls → ns ≡ (get_or notes t note).lines
+    → rows ++ flat_map (thread_rows script journal)
+    (enumerate_from t (drop t (zip threads notes))) ≡ all
+    → ((rows ++ Start (get_or notes t note) ∷ [])
+    ++ map Noted (noted_from script journal.ops t 1 0 at_start (zip ls ns)))
+    ++ flat_map (thread_rows script journal)
+    (enumerate_from (t + 1) (drop (t + 1) (zip threads notes))) ≡ all
+rows-next script journal threads notes t note ls ns rows all below long ls-is ns-is so_far =
+    let here : ThreadNote = get_or notes t note in
+    let one : List Row = map Noted (noted_from script journal.ops t 1 0 at_start (zip ls ns)) in
+    let more : List Row = flat_map (thread_rows script journal)
+    (enumerate_from (t + 1) (drop (t + 1) (zip threads notes))) in
+    let next : drop t (zip threads notes) ≡ (get_or threads t ls, here) ∷ drop (t + 1)
+    (zip threads notes) = zip_drop threads notes t ls note below long in
+    append_assoc (rows ++ Start here ∷ []) one more
+    ∙ append_assoc rows (Start here ∷ []) (one ++ more)
+    ∙ ap (λ (xs : List LineNote). rows ++ (Start here ∷ (map Noted (noted_from script journal.ops t
+    1 0 at_start (zip ls xs)) ++ more))) ns-is
+    ∙ ap (λ (xs : List Line). rows ++ (Start here ∷ (map Noted (noted_from script journal.ops t
+    1 0 at_start (zip xs here.lines)) ++ more))) ls-is
+    ∙ ap (λ ts. rows ++ flat_map (thread_rows script journal) (enumerate_from t ts)) (sym next)
     ∙ so_far

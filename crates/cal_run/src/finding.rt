@@ -1,19 +1,21 @@
 ghost use Rattle.std.specs.Prelude.{◌≡◌, ◌<◌, ◌≤◌, ◌+◌, ◌∷◌, [], ◌++◌, length, map, zip, All, IfOk};
-ghost use Rattle.std.specs.Prelude.{List, OnOk};
+ghost use Rattle.std.specs.Prelude.{List, OnOk, slice_index_or};
 ghost use Rattle.cal_context.specs.Tree.{Grows};
 ghost use Rattle.cal_run.specs.Broken.{Row, all_rows};
-ghost use Rattle.cal_run.specs.Broken.{Noted};
+ghost use Rattle.cal_run.specs.Broken.{Noted, Start};
 ghost use Rattle.cal_run.specs.Checking.{AreMerged, FoundTell, found_of, noted};
 ghost use Rattle.cal_run.specs.Lawful.{noted_from};
 ghost use Rattle.cal_run.specs.Numbers.{AreNumbered};
 ghost use Rattle.cal_run.specs.Seeing.{CanBeRead, SeesInOrder};
 ghost use Rattle.cal_run.specs.Steps.{ThreadState, at_start};
+ghost use Rattle.cal_script.specs.declared.journal.ThreadNote as thread_notes;
 ghost use Rattle.cal_valid.specs.Valid.{IsPlaced, IsRunnable};
 
 use crate::Numbers;
 use crate::found::Found;
 use crate::meeting::{is_answered, is_fixed, is_read};
 use crate::merged::Merged;
+use crate::rows::noted_lines;
 use crate::run::noted_at;
 use crate::seen::{Spot, first_of};
 use crate::steps::takes_start_reading;
@@ -66,8 +68,7 @@ fn test_threads(
     ensures { IfOk result (λ tests.
         FoundTell script.now journal.now tests (all_rows script.now journal.now)) }
 {
-    let (threads, notes) = (script.threads.as_slice(), journal.threads.as_slice());
-    let timed = takes_start_reading(script);
+    let threads = script.threads.as_slice();
     let mut tests = FoundTests {
         row: 0,
         fixed: None,
@@ -75,15 +76,28 @@ fn test_threads(
         reply: None,
     };
     for thread in 0..threads.len() {
-        let kept = is_read(journal, timed, 0, notes[thread].start);
-        tests.reading = first_of(tests.reading, tests.row, kept);
-        tests.row += 1;
-        let (lines, notes) = (threads[thread].as_slice(), notes[thread].lines.as_slice());
+        let (lines, notes) = noted_lines(script, journal, thread);
+        test_start(script, journal, thread, &mut tests);
         test_thread(
             alloc, script, journal, numbers, merged, thread, lines, notes, context, &mut tests,
         )?;
     }
     Ok(tests)
+}
+
+fn test_start(script: &Script, journal: &Journal, thread: usize, tests: &mut FoundTests)
+    requires within { thread < length journal.now.threads }
+    requires room { tests.old.row < 2000000 }
+    ensures told { (front : List Row) (d : thread_notes.ThreadNote)
+        → FoundTell script.now journal.now tests.old front
+        → FoundTell script.now journal.now tests.new
+        (front ++ Start (slice_index_or journal.now.threads thread d) ∷ []) }
+    ensures row { tests.new.row ≡ tests.old.row + 1 }
+{
+    let notes = journal.threads.as_slice();
+    let kept = is_read(journal, takes_start_reading(script), 0, notes[thread].start);
+    tests.reading = first_of(tests.reading, tests.row, kept);
+    tests.row += 1;
 }
 
 fn test_thread(

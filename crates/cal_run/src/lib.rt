@@ -25,6 +25,7 @@ mod order;
 mod placing;
 mod plain;
 mod process;
+mod rows;
 mod run;
 mod seen;
 mod services;

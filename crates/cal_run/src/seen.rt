@@ -9,6 +9,7 @@ ghost use Rattle.cal_valid.specs.Valid.{IsPlaced, IsRunnable};
 
 use crate::lines::is_process_line;
 use crate::merged::Merged;
+use crate::rows::noted_lines;
 use crate::run::noted_at;
 use cal_script::{Journal, Line, LineNote, Placed, Script};
 use cal_value::OutOfMemory;
@@ -44,7 +45,7 @@ pub(crate) fn test_seen(
     ensures { IfOk result (λ tests.
         SeenTell script.now journal.now tests (all_rows script.now journal.now)) }
 {
-    let (threads, notes) = (script.threads.as_slice(), journal.threads.as_slice());
+    let threads = script.threads.as_slice();
     let mut tests = SeenTests {
         row: 0,
         falls: None,
@@ -53,9 +54,9 @@ pub(crate) fn test_seen(
         merged: Merged::new(alloc)?,
     };
     for thread in 0..threads.len() {
-        let lines = threads[thread].as_slice();
+        let (lines, notes) = noted_lines(script, journal, thread);
         tests.row += 1;
-        test_thread(script, journal, thread, lines, notes[thread].lines.as_slice(), &mut tests);
+        test_thread(script, journal, thread, lines, notes, &mut tests);
     }
     Ok(tests)
 }
