@@ -16,14 +16,14 @@ use Rattle.cal_script.specs.declared.script.Line.{Line}
 use Rattle.cal_script.specs.declared.script.Script.{Script}
 
 module _ {A : Type 0} (P : A → Type 0) where
-  all-rest : (x : A) (xs : List A) → All P (x ∷ xs) → All P xs
+  pub all-rest : (x : A) (xs : List A) → All P (x ∷ xs) → All P xs
   all-rest x xs all k d l = all (suc k) d (omega (arith, l))
 
-  all-front : (xs ys : List A) → All P (xs ++ ys) → All P xs
+  pub all-front : (xs ys : List A) → All P (xs ++ ys) → All P xs
   all-front xs ys all k d l =
       subst P (get_or_append_left xs ys d k l) (all k d (omega (arith, l, length-append xs ys)))
 
-  all-back : (xs ys : List A) → All P (xs ++ ys) → All P ys
+  pub all-back : (xs ys : List A) → All P (xs ++ ys) → All P ys
   all-back [] ys all = all
   all-back (x ∷ xs) ys all = all-back xs ys (all-rest x (xs ++ ys) all)
 

@@ -14,3 +14,4 @@ pub mod MergeLemmas
 pub mod WatchLemmas
 pub mod TellLemmas
 pub mod WalkLemmas
+pub mod FirstLemmas

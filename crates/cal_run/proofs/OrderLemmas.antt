@@ -198,22 +198,20 @@ module _ (script : Script) {Z : Type 0} (lists : List (Vec ℕ Z)) (listed : Are
 
 -- ---- an operation at a place
 
-module _ (script : Script) (ops : List Placed) (place : ℕ) (op : Placed) (below : place < length ops) (is : op ≡ get_or ops place op)
+module _ (script : Script) (ops : List Placed) (place : ℕ) (d : Placed) (below : place < length ops)
     (counts : List ℕ) (counted : AreCounted script (take place ops) counts) where
-  take-next-op : take (place + 1) ops ≡ take place ops ++ op ∷ []
-  take-next-op = take_more ops place op below ∙ ap (λ (o : Placed). take place ops ++ o ∷ []) (sym is)
-
   -- it is out of order
-  pub breaks-order : ¬ HasBegun script (take place ops ++ op ∷ []) → BreaksAt (HasBegun script) ops place
+  pub breaks-order : ¬ HasBegun script (take place ops ++ get_or ops place d ∷ []) → BreaksAt (HasBegun script) ops place
   breaks-order not = record {
     within = below;
     kept = counted.begun;
-    broken = λ begun. not (subst (HasBegun script) take-next-op begun);
+    broken = λ begun. not (subst (HasBegun script) (take_more ops place d below) begun);
   }
 
   -- it is counted
-  pub counted-more : (now : List ℕ) → AreCounted script (take place ops ++ op ∷ []) now → AreCounted script (take (place + 1) ops) now
-  counted-more now more = subst (λ history. AreCounted script history now) (sym take-next-op) more
+  pub counted-more : (now : List ℕ) → AreCounted script (take place ops ++ get_or ops place d ∷ []) now
+      → AreCounted script (take (place + 1) ops) now
+  counted-more now more = subst (λ history. AreCounted script history now) (sym (take_more ops place d below)) more
 
 -- ---- the lists of process lines
 

@@ -1,12 +1,12 @@
 -- The rows of a journal: their shape, and what rules on rows say of the lines.
 use Rattle.std.proofs.Common.{◌≡◌, ℕ, suc, zero, ◌+◌, ◌-◌, ◌<◌, ◌≤◌, List, [], ◌∷◌, ◌++◌, Bool, true, false, length, get_or, take, drop, map, ap, subst, sym, refl, ◌∙◌, append_assoc, arith, length-append}
-use Rattle.std.specs.Prelude.{flat_map, zip, ◌&&◌, ◌||◌, ◌==◌, ◌↔◌, Option, Some, None, slice_get, Any}
+use Rattle.std.specs.Prelude.{flat_map, zip, ◌&&◌, ◌||◌, ◌==◌, ◌↔◌, Option, Some, None, slice_get, Any, Result, Ok, Err, IfErr, IsErrAnd}
 use Rattle.std.specs.List.{All, AllZip, enumerate_from, list_any}
 use Rattle.std.proofs.lemmas.List.{map-append}
 use Rattle.std.proofs.lemmas.List.Elements.{All-append, All-cons, All-nil}
 use Rattle.cal_journal.specs.declared.kind.JournalKind.{JournalKind}
 use Rattle.cal_journal.specs.declared.kind.JournalKind.TheVariants as kind
-use Rattle.cal_run.proofs.LawLemmas.{threads_in_order}
+use Rattle.cal_run.proofs.LawLemmas.{all-back, all-front, all-rest, threads_in_order}
 use Rattle.cal_run.specs.Broken.{AllKeep, BreaksAt, BreaksRule, HoldsRule, IsLawfulText, KeepsLine, KeepsRow, Row, all_rows, line_rows, row_line, rows_from, rules, starts_of, thread_rows, wanted_rows, written_from, written_rows}
 use Rattle.cal_run.specs.Broken.{Noted, Start}
 use Rattle.cal_run.specs.Checking.{EndsBy, HoldFirst, IsOfRows, IsRefusalOf}
@@ -26,7 +26,7 @@ use Rattle.cal_script.specs.declared.script.Script.{Script}
 
 -- ---- the shape
 
-is_start : RowName → Bool
+abbrev is_start : RowName → Bool
 is_start r = r.start
 
 map-start-written : (text : JournalText) (row : ℕ) (starts : List Bool) → map is_start (written_from text row starts) ≡ starts
@@ -73,20 +73,9 @@ written-shape script text same =
 -- ---- rules on rows, and on lines
 
 module _ (script : Script) (journal : Journal) (Q : Row → Type 0) where
-  all-tail : (x : Row) (xs : List Row) → All Q (x ∷ xs) → All Q xs
-  all-tail x xs all k d l = all (suc k) d (omega (arith, l))
-
-  all-left : (xs ys : List Row) → All Q (xs ++ ys) → All Q xs
-  all-left [] ys all = All-nil Q
-  all-left (x ∷ xs) ys all = All-cons Q x xs (all 0 x (omega arith)) (all-left xs ys (all-tail x (xs ++ ys) all))
-
-  all-right : (xs ys : List Row) → All Q (xs ++ ys) → All Q ys
-  all-right [] ys all = all
-  all-right (x ∷ xs) ys all = all-right xs ys (all-tail x (xs ++ ys) all)
-
   all-lines : (ns : List NotedLine) → All Q (map Noted ns) → All (λ (n : NotedLine). Q (Noted n)) ns
   all-lines [] all = All-nil (λ (n : NotedLine). Q (Noted n))
-  all-lines (n ∷ ns) all = All-cons (λ (n : NotedLine). Q (Noted n)) n ns (all 0 (Noted n) (omega arith)) (all-lines ns (all-tail (Noted n) (map Noted ns) all))
+  all-lines (n ∷ ns) all = All-cons (λ (n : NotedLine). Q (Noted n)) n ns (all 0 (Noted n) (omega arith)) (all-lines ns (all-rest Q (Noted n) (map Noted ns) all))
 
   pub all-noted : (k : ℕ) (ts : List (List Line × ThreadNote))
       → All Q (flat_map (thread_rows script journal) (enumerate_from k ts))
@@ -96,8 +85,8 @@ module _ (script : Script) (journal : Journal) (Q : Row → Type 0) where
       let one : List NotedLine = noted_of script journal.ops (k, t) in
       let more : List Row = flat_map (thread_rows script journal) (enumerate_from (k + 1) ts) in
       All-append (λ (n : NotedLine). Q (Noted n)) one (flat_map (noted_of script journal.ops) (enumerate_from (k + 1) ts))
-      (all-lines one (all-tail (Start t.1) (map Noted one) (all-left (Start t.1 ∷ map Noted one) more all)))
-      (all-noted (k + 1) ts (all-right (Start t.1 ∷ map Noted one) more all))
+      (all-lines one (all-rest Q (Start t.1) (map Noted one) (all-front Q (Start t.1 ∷ map Noted one) more all)))
+      (all-noted (k + 1) ts (all-back Q (Start t.1 ∷ map Noted one) more all))
 
   pub all-starts : (k : ℕ) (threads : List (List Line)) (notes : List ThreadNote)
       → AllZip (λ (thread : List Line) (note : ThreadNote). length note.lines ≡ length thread) threads notes
@@ -110,7 +99,7 @@ module _ (script : Script) (journal : Journal) (Q : Row → Type 0) where
       let one : List NotedLine = noted_of script journal.ops (k, (ls, n)) in
       let more : List Row = flat_map (thread_rows script journal) (enumerate_from (k + 1) (zip threads ns)) in
       All-cons (λ (note : ThreadNote). Q (Start note)) n ns (all 0 (Start n) (omega arith))
-      (all-starts (k + 1) threads ns shape.1 (all-right (Start n ∷ map Noted one) more all))
+      (all-starts (k + 1) threads ns shape.1 (all-back Q (Start n ∷ map Noted one) more all))
 
 -- what a rule on rows says of the lines
 pub kept-lines : (script : Script) (journal : Journal) (rule : JournalKind) → AllKeep script journal rule (all_rows script journal)
@@ -198,3 +187,9 @@ module _ (script : Script) (text : JournalText) where
     here = subst (λ (k : JournalKind). BreaksRule script text k line) (sym broken.0) broken.1;
   }
   ends-refusal rule place is before end.OutOfMemory broken = tt
+
+-- ---- an error that is handed on
+
+pub handed-on : {T E : Type 0} (P : E → Type 0) (r : Result T E) (e : E) → IsErrAnd r (λ y. y ≡ e) → P e → IfErr r P
+handed-on P (Ok x) e is holds = tt
+handed-on P (Err y) e is holds = subst P (sym is) holds

@@ -36,7 +36,9 @@ impl Merged {
             → AreMerged (front ++ Noted n ∷ []) self.new.marks.items }
     {
         if let Some(channel) = merged_channel(line, note.reply) {
-            self.marks[thread * MOST_CHANNELS + channel as usize] = true;
+            if let Some(mark) = self.marks.get_mut(thread * MOST_CHANNELS + channel as usize) {
+                *mark = true;
+            }
         }
     }
 
