@@ -1,13 +1,17 @@
 -- The first item that breaks a rule, while a list is gone through.
-use Rattle.std.proofs.Common.{◌≡◌, ℕ, suc, zero, ◌+◌, ◌-◌, ◌<◌, ◌≤◌, List, [], ◌∷◌, ◌++◌, Bool, true, false, length, get_or, take, drop, map, ap, subst, sym, refl, ◌∙◌, append_assoc, append-nil, add-one, arith, length-append, inl, inr}
-use Rattle.std.specs.Prelude.{Option, Some, None, slice_get, ◌↔◌, ◌≢◌}
+use Rattle.std.proofs.Common.{◌≡◌, ℕ, suc, zero, ◌+◌, ◌-◌, ◌<◌, ◌≤◌, List, [], ◌∷◌, ◌++◌, Bool}
+use Rattle.std.proofs.Common.{true, false, length, get_or, take, drop, map, ap, subst, sym, refl}
+use Rattle.std.proofs.Common.{◌∙◌, add-one, arith, length-append, inl, inr}
+use Rattle.std.specs.Prelude.{Option, Some, None, slice_get, ◌↔◌}
 use Rattle.std.specs.List.{All}
-use Rattle.std.proofs.lemmas.List.{get_or_append_left, take_more, take_all, take-append-le, take-append-drop, length-take-le, get_or-take, get_or-append_right, take_more_same}
+use Rattle.std.proofs.lemmas.List.{take_more, take_all, take-append-le, take-append-drop}
+use Rattle.std.proofs.lemmas.List.{length-take-le, get_or-take, get_or-append_right, take_more_same}
 use Rattle.std.proofs.lemmas.List.Elements.{All-push}
 use Rattle.std.proofs.lemmas.Option.{get_or_from_slice_get, slice_get-get_or, slice_get_within}
 use Rattle.cal_context.specs.Lists.{IsFront}
-use Rattle.cal_context.proofs.ListLemmas.{length-IsFront, slice_get-IsFront}
-use Rattle.cal_run.specs.Broken.{BreaksAt, BreaksShape, line_rows, row_line, starts_of, wanted_rows, written_from, written_row, written_rows}
+use Rattle.cal_context.proofs.ListLemmas.{slice_get-IsFront}
+use Rattle.cal_run.specs.Broken.{BreaksAt, BreaksShape, line_rows, row_line, starts_of, wanted_rows}
+use Rattle.cal_run.specs.Broken.{written_from, written_row, written_rows}
 use Rattle.cal_run.specs.Checking.{Tells, next_first}
 use Rattle.cal_run.specs.declared.shape.RowName.{RowName}
 use Rattle.cal_script.specs.declared.journal.JournalText.{JournalText}
@@ -25,34 +29,44 @@ module _ {A : Type 0} (P : A → Type 0) where
       by n = omega arith
 
   -- the item of a place breaks the rule, and none before it
-  pub breaks-all : (xs : List A) (i : ℕ) (d : A) → i < length xs → All P (take i xs) → ¬ P (get_or xs i d)
+  pub breaks-all : (xs : List A) (i : ℕ) (d : A) → i < length xs → All P (take i xs)
+      → ¬ P (get_or xs i d)
       → BreaksAt (All P) xs i
   breaks-all xs i d below kept not = record {
     within = below;
     kept = kept;
-    broken = λ all. not (all-last (take i xs) (get_or xs i d) (subst (All P) (take_more xs i d below) all));
+    broken = λ all. not (all-last (take i xs) (get_or xs i d)
+        (subst (All P) (take_more xs i d below) all));
   }
 
   -- one item more is tested
-  pub tells-more : (first : Option ℕ) (xs : List A) (x : A) (row : ℕ) (kept : Bool) → row ≡ length xs
+  pub tells-more : (first : Option ℕ) (xs : List A) (x : A) (row : ℕ) (kept : Bool)
+      → row ≡ length xs
       → (kept ≡ true ↔ P x) → Tells P first xs → Tells P (next_first first row kept) (xs ++ x ∷ [])
   tells-more (Some p) xs x row kept at is told = record {
-    within = (let within = told.within in let long = length-append xs (x ∷ []) in omega (arith, within, long));
-    kept = subst (All P) (sym (take-append-le p xs (x ∷ []) (let within = told.within in omega (arith, within)))) told.kept;
-    broken = λ all. told.broken (subst (All P) (take-append-le (p + 1) xs (x ∷ []) (let within = told.within in omega (arith, within))) all);
+    within = (let within = told.within in let long = length-append xs (x ∷ []) in omega
+        (arith, within, long));
+    kept = subst (All P) (sym (take-append-le p xs (x ∷ [])
+        (let within = told.within in omega (arith, within)))) told.kept;
+    broken = λ all. told.broken (subst (All P) (take-append-le (p + 1) xs (x ∷ [])
+        (let within = told.within in omega (arith, within))) all);
   }
   tells-more None xs x row true at is told = All-push P xs x told (is.0 refl)
   tells-more None xs x row false at is told = record {
     within = (let long = length-append xs (x ∷ []) in omega (arith, at, long));
-    kept = subst (All P) (sym (take-append-le row xs (x ∷ []) (omega (arith, at)) ∙ take_all row xs (omega (arith, at)))) told;
+    kept = subst (All P) (sym (take-append-le row xs (x ∷ []) (omega (arith, at))
+        ∙ take_all row xs (omega (arith, at)))) told;
     broken = λ all.
-        let no : false ≡ true = is.1 (all-last xs x (subst (All P) (take_all (row + 1) (xs ++ x ∷ []) (let long = length-append xs (x ∷ []) in omega (arith, at, long))) all)) in
+        let no : false ≡ true = is.1 (all-last xs x
+            (subst (All P) (take_all (row + 1) (xs ++ x ∷ [])
+            (let long = length-append xs (x ∷ []) in omega (arith, at, long))) all)) in
         cc;
   }
 
 module _ {A : Type 0} where
   front-take : (xs ys : List A) (i : ℕ) → take i xs ≡ take i ys → IsFront (take i xs) ys
-  front-take xs ys i same = (drop i ys, sym (take-append-drop i ys) ∙ ap (λ zs. zs ++ drop i ys) (sym same))
+  front-take xs ys i same = (drop i ys, sym (take-append-drop i ys)
+      ∙ ap (λ zs. zs ++ drop i ys) (sym same))
 
   -- the first place at which a list isn't the front of another
   pub breaks-front : (xs ys : List A) (i : ℕ) (d : A) → i < length xs → take i xs ≡ take i ys
@@ -61,9 +75,11 @@ module _ {A : Type 0} where
     within = below;
     kept = front-take xs ys i same;
     broken = λ front.
-        let long : length (take (i + 1) xs) ≡ i + 1 = length-take-le (i + 1) xs (omega (arith, below)) in
+        let long : length (take (i + 1) xs) ≡ i + 1 = length-take-le (i + 1) xs
+            (omega (arith, below)) in
         not (slice_get-IsFront (take (i + 1) xs) ys i (get_or xs i d) front
-        (slice_get-get_or (take (i + 1) xs) i d (omega (arith, long)) ∙ ap (λ x. Some x) (get_or-take (i + 1) xs i d (omega arith))));
+        (slice_get-get_or (take (i + 1) xs) i d (omega (arith, long))
+        ∙ ap (λ x. Some x) (get_or-take (i + 1) xs i d (omega arith))));
   }
 
 -- ---- rows as they are written
@@ -71,15 +87,18 @@ module _ {A : Type 0} where
 -- the row of one line of a thread, and those behind it
 pub line_rows-drop : (thread number i : ℕ) (ls : List Line) → i < length ls
     → line_rows thread number (drop i ls)
-    ≡ record { start = false; thread = thread; number = number } ∷ line_rows thread (number + 1) (drop (i + 1) ls)
+    ≡ record { start = false; thread = thread; number = number } ∷ line_rows thread (number + 1)
+    (drop (i + 1) ls)
 line_rows-drop thread number i ls below =
     subst (λ k. line_rows thread number (drop i ls)
-    ≡ record { start = false; thread = thread; number = number } ∷ line_rows thread (number + 1) (drop k ls))
+    ≡ record { start = false; thread = thread; number = number } ∷ line_rows thread (number + 1)
+    (drop k ls))
     (sym (add-one i)) (by i ls below)
   where
     by : (i : ℕ) (ls : List Line) → i < length ls
         → line_rows thread number (drop i ls)
-        ≡ record { start = false; thread = thread; number = number } ∷ line_rows thread (number + 1) (drop (suc i) ls)
+        ≡ record { start = false; thread = thread; number = number } ∷ line_rows thread (number + 1)
+        (drop (suc i) ls)
     by i [] l = absurd (omega (arith, l))
     by zero (x ∷ ls) l = refl
     by (suc i) (x ∷ ls) l = by i ls (omega (arith, l))
@@ -89,7 +108,8 @@ pub falses-more : {A : Type 0} (xs : List A) (i : ℕ) → i < length xs
     → map (λ _. false) (take (i + 1) xs) ≡ map (λ _. false) (take i xs) ++ false ∷ []
 falses-more {A} xs i below = rw add-one (by xs i below)
   where
-    by : (xs : List A) (i : ℕ) → i < length xs → map (λ _. false) (take (suc i) xs) ≡ map (λ _. false) (take i xs) ++ false ∷ []
+    by : (xs : List A) (i : ℕ) → i < length xs → map (λ _. false) (take (suc i) xs) ≡ map
+        (λ _. false) (take i xs) ++ false ∷ []
     by [] i l = absurd (omega (arith, l))
     by (x ∷ xs) zero l = refl
     by (x ∷ xs) (suc i) l = ap (λ bs. false ∷ bs) (by xs i (omega (arith, l)))
@@ -100,10 +120,12 @@ length-written_from text row [] = refl
 length-written_from text row (start ∷ starts) =
     let rest = length-written_from text (row + 1) starts in omega (arith, rest)
 
-pub get_or-written_from : (text : JournalText) (row : ℕ) (starts : List Bool) (i : ℕ) (d : RowName) (b : Bool) → i < length starts
+pub get_or-written_from : (text : JournalText) (row : ℕ) (starts : List Bool) (i : ℕ) (d : RowName)
+    (b : Bool) → i < length starts
     → get_or (written_from text row starts) i d ≡ written_row text (row + i) (get_or starts i b)
 get_or-written_from text row [] i d b below = absurd (omega (arith, below))
-get_or-written_from text row (start ∷ starts) zero d b below = ap (λ r. written_row text r start) (by row)
+get_or-written_from text row (start ∷ starts) zero d b below = ap (λ r. written_row text r start)
+    (by row)
   where
     by : (n : ℕ) → n ≡ n + 0
     by n = omega arith
@@ -115,50 +137,66 @@ get_or-written_from text row (start ∷ starts) (suc i) d b below =
     by n i = omega arith
 
 module _ (script : Script) (text : JournalText) (starts : List Bool) (wanted : List RowName)
-    (starts-are : starts ≡ starts_of text.journal.threads) (wanted-are : wanted ≡ wanted_rows script) where
+    (starts-are : starts ≡ starts_of text.journal.threads)
+    (wanted-are : wanted ≡ wanted_rows script) where
   abbrev written : List RowName
   written = written_from text 0 starts
 
   written-are : written ≡ written_rows text
   written-are = ap (written_from text 0) starts-are
 
-  written-at : (row : ℕ) (d : RowName) (b : Bool) → row < length starts → get_or written row d ≡ written_row text row (get_or starts row b)
+  written-at : (row : ℕ) (d : RowName) (b : Bool) → row < length starts
+      → get_or written row d ≡ written_row text row (get_or starts row b)
   written-at row d b below =
-      get_or-written_from text 0 starts row d b below ∙ ap (λ r. written_row text r (get_or starts row b)) (by row)
+      get_or-written_from text 0 starts row d b below
+          ∙ ap (λ r. written_row text r (get_or starts row b)) (by row)
     where
       by : (n : ℕ) → 0 + n ≡ n
       by n = omega arith
 
   -- a row that stands where another belongs
-  pub strange-row : (row line : ℕ) (b : Bool) → row < length starts → take row written ≡ take row wanted
-      → ¬ (slice_get wanted row ≡ Some (written_row text row (get_or starts row b))) → line ≡ row_line text row
+  pub strange-row : (row line : ℕ) (b : Bool) → row < length starts
+      → take row written ≡ take row wanted
+      → ¬ (slice_get wanted row ≡ Some (written_row text row (get_or starts row b)))
+      → line ≡ row_line text row
       → BreaksShape text (written_rows text) (wanted_rows script) line
   strange-row row line b below same not is =
       let d : RowName = written_row text row b in
       let breaks : BreaksAt (λ zs. IsFront zs wanted) written row =
-          breaks-front written wanted row d (let long = length-written_from text 0 starts in omega (arith, long, below)) same
+          breaks-front written wanted row d (let long = length-written_from text 0 starts in omega
+              (arith, long, below)) same
           (λ next. not (next ∙ ap (λ x. Some x) (written-at row d b below))) in
-      inl (row, subst (λ zs. BreaksAt (λ rows. IsFront rows (wanted_rows script)) zs row) written-are
+      inl (row, subst (λ zs. BreaksAt (λ rows. IsFront rows (wanted_rows script)) zs row)
+          written-are
       (subst (λ ws. BreaksAt (λ rows. IsFront rows ws) written row) wanted-are breaks), is)
 
   -- rows are missing at the end
-  pub missing-rows : (row line : ℕ) → row ≡ length starts → take row written ≡ take row wanted → length starts < length wanted
+  pub missing-rows : (row line : ℕ) → row ≡ length starts → take row written ≡ take row wanted
+      → length starts < length wanted
       → line ≡ text.marks.end → BreaksShape text (written_rows text) (wanted_rows script) line
   missing-rows row line whole-row so_far few is =
-      let same : take (length starts) written ≡ take (length starts) wanted = subst (λ n. take n written ≡ take n wanted) whole-row so_far in
+      let same : take (length starts) written ≡ take (length starts) wanted = subst
+          (λ n. take n written ≡ take n wanted) whole-row so_far in
       let long : length written ≡ length starts = length-written_from text 0 starts in
-      let whole : take (length starts) written ≡ written = take_all (length starts) written (omega (arith, long)) in
-      let front : IsFront written wanted = subst (λ zs. IsFront zs wanted) whole (front-take written wanted (length starts) same) in
-      inr (subst (λ zs. IsFront zs (wanted_rows script)) written-are (subst (IsFront written) wanted-are front),
-      (λ e. let same-long : length written ≡ length wanted = ap length (written-are ∙ e ∙ sym wanted-are) in omega (arith, same-long, long, few)), is)
+      let whole : take (length starts) written ≡ written = take_all (length starts) written
+          (omega (arith, long)) in
+      let front : IsFront written wanted = subst (λ zs. IsFront zs wanted) whole
+          (front-take written wanted (length starts) same) in
+      inr (subst (λ zs. IsFront zs (wanted_rows script)) written-are
+          (subst (IsFront written) wanted-are front),
+      (λ e. let same-long : length written ≡ length wanted = ap length (written-are ∙ e
+      ∙ sym wanted-are) in omega (arith, same-long, long, few)), is)
 
   -- all rows are the wanted ones
-  pub all-wanted : (row : ℕ) → row ≡ length starts → take row written ≡ take row wanted → length wanted ≤ length starts
+  pub all-wanted : (row : ℕ) → row ≡ length starts → take row written ≡ take row wanted
+      → length wanted ≤ length starts
       → written_rows text ≡ wanted_rows script
   all-wanted row whole so_far enough =
-      let same : take (length starts) written ≡ take (length starts) wanted = subst (λ n. take n written ≡ take n wanted) whole so_far in
+      let same : take (length starts) written ≡ take (length starts) wanted = subst
+          (λ n. take n written ≡ take n wanted) whole so_far in
       let long : length written ≡ length starts = length-written_from text 0 starts in
-      sym written-are ∙ sym (take_all (length starts) written (omega (arith, long))) ∙ same ∙ take_all (length starts) wanted enough ∙ wanted-are
+      sym written-are ∙ sym (take_all (length starts) written (omega (arith, long))) ∙ same
+          ∙ take_all (length starts) wanted enough ∙ wanted-are
 
   -- one row more is the wanted one
   pub more-wanted : (row : ℕ) (b : Bool) → row < length starts → take row written ≡ take row wanted
@@ -167,5 +205,7 @@ module _ (script : Script) (text : JournalText) (starts : List Bool) (wanted : L
   more-wanted row b below same is =
       let d : RowName = written_row text row b in
       let long : length written ≡ length starts = length-written_from text 0 starts in
-      take_more_same written wanted row d (omega (arith, long, below)) (slice_get_within wanted row (written_row text row (get_or starts row b)) is) same
-      (written-at row d b below ∙ sym (get_or_from_slice_get wanted row (written_row text row (get_or starts row b)) d is))
+      take_more_same written wanted row d (omega (arith, long, below))
+          (slice_get_within wanted row (written_row text row (get_or starts row b)) is) same
+      (written-at row d b below ∙ sym (get_or_from_slice_get wanted row
+      (written_row text row (get_or starts row b)) d is))

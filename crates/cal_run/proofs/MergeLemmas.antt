@@ -1,13 +1,15 @@
 -- Which flushes were merged: the marks of the rows so far.
-use Rattle.std.proofs.Common.{◌≡◌, ℕ, suc, zero, ◌+◌, ◌*◌, ◌-◌, ◌<◌, ◌≤◌, List, [], ◌∷◌, ◌++◌, Bool, true, false, length, get_or, set, map, ap, subst, sym, refl, ◌∙◌, arith, replicate, ◌&&◌, ◌||◌}
-use Rattle.std.specs.Prelude.{Option, Some, None, slice_index_or, ◌==◌, nat_lt, flat_map, zip, Any, ◌↔◌}
-use Rattle.std.specs.List.{All, enumerate_from, list_any}
+use Rattle.std.proofs.Common.{◌≡◌, ℕ, suc, zero, ◌+◌, ◌*◌, ◌-◌, ◌<◌, List, [], ◌∷◌, ◌++◌, Bool}
+use Rattle.std.proofs.Common.{true, false, length, get_or, set, map, ap, subst, sym, refl, ◌∙◌}
+use Rattle.std.proofs.Common.{arith, replicate, ◌&&◌, ◌||◌}
+use Rattle.std.specs.Prelude.{Option, Some, None, ◌==◌, nat_lt, flat_map, zip, Any, ◌↔◌}
+use Rattle.std.specs.List.{enumerate_from, list_any}
 use Rattle.std.proofs.Math.Bool.{and-false, or-false}
 use Rattle.std.proofs.lemmas.Bool.{eqb-true, eqb-false, eq-eqb, lt-ltb, ltb-true}
 use Rattle.std.proofs.lemmas.List.{get_or-set_other, get_or-set_same, length-replicate, length-set}
 use Rattle.std.proofs.lemmas.List.Folds.{Any-from_list_any, list_any-append, list_any-from_Any}
 use Rattle.cal_run.specs.Broken.{Row, all_rows, thread_rows}
-use Rattle.cal_run.specs.Broken.{Noted, Start}
+use Rattle.cal_run.specs.Broken.{Noted}
 use Rattle.cal_run.specs.Checking.{AreMerged, has_merged, is_channel, merged_channel, merges}
 use Rattle.cal_run.specs.Lawful.{IsMerged, NotedLine, noted_lines, noted_of}
 use Rattle.cal_script.specs.declared.journal.Journal.{Journal}
@@ -24,17 +26,21 @@ all-false (suc n) zero = refl
 all-false (suc n) (suc i) = all-false n i
 
 -- nothing is marked at first
-pub none-merged : (n : ℕ) (marks : List Bool) → n ≡ 1024 → marks ≡ replicate n false → AreMerged [] marks
+pub none-merged : (n : ℕ) (marks : List Bool) → n ≡ 1024 → marks ≡ replicate n false
+    → AreMerged [] marks
 none-merged n marks long none = record {
   long = ap length none ∙ length-replicate n false ∙ long;
   marked = λ thread channel.
-      ap (λ (b : Bool). nat_lt thread 64 && nat_lt channel 16 && b) (ap (λ (xs : List Bool). get_or xs (thread * 16 + channel) false) none ∙ all-false n (thread * 16 + channel))
+      ap (λ (b : Bool). nat_lt thread 64 && nat_lt channel 16 && b)
+          (ap (λ (xs : List Bool). get_or xs (thread * 16 + channel) false) none
+          ∙ all-false n (thread * 16 + channel))
       ∙ and-false (nat_lt thread 64 && nat_lt channel 16);
 }
 
 module _ (front : List Row) (n : NotedLine) (marks : List Bool) (is : AreMerged front marks) where
   -- a line without a merged flush marks nothing
-  pub merged-none : merged_channel n.line n.note.reply ≡ None → AreMerged (front ++ Noted n ∷ []) marks
+  pub merged-none : merged_channel n.line n.note.reply ≡ None
+      → AreMerged (front ++ Noted n ∷ []) marks
   merged-none none = record {
     long = is.long;
     marked = λ thread channel.
@@ -51,18 +57,21 @@ module _ (front : List Row) (n : NotedLine) (marks : List Bool) (is : AreMerged 
           ∙ and-false (n.thread == thread)
 
   -- and one with a merged flush its own thread and channel
-  module _ (thread channel : ℕ) (own : n.thread ≡ thread) (in_threads : thread < 64) (in_channels : channel < 16)
+  module _ (thread channel : ℕ) (own : n.thread ≡ thread) (in_threads : thread < 64)
+      (in_channels : channel < 16)
       (merged : merged_channel n.line n.note.reply ≡ Some channel) where
     keep : (t c : ℕ) → ¬ ((t ≡ thread) × (c ≡ channel))
         → has_merged (set marks (thread * 16 + channel) true) t c ≡ has_merged marks t c
     keep t c not = by (nat_lt t 64) refl (nat_lt c 16) refl
       where
         by : (a : Bool) → nat_lt t 64 ≡ a → (b : Bool) → nat_lt c 16 ≡ b
-            → (a && b && get_or (set marks (thread * 16 + channel) true) (t * 16 + c) false) ≡ (a && b && get_or marks (t * 16 + c) false)
+            → (a && b && get_or (set marks (thread * 16 + channel) true) (t * 16 + c) false) ≡
+            (a && b && get_or marks (t * 16 + c) false)
         by false e b f = refl
         by true e false f = refl
         by true e true f = get_or-set_other marks (thread * 16 + channel) (t * 16 + c) true false
-            (λ same. let small : c < 16 = ltb-true c 16 f in not (omega (arith, same, small, in_channels), omega (arith, same, small, in_channels)))
+            (λ same. let small : c < 16 = ltb-true c 16 f in not
+            (omega (arith, same, small, in_channels), omega (arith, same, small, in_channels)))
 
     row-is : (t c : ℕ) → list_any (merges t c) (Noted n ∷ []) ≡ ((thread == t) && (channel == c))
     row-is t c =
@@ -83,32 +92,45 @@ module _ (front : List Row) (n : NotedLine) (marks : List Bool) (is : AreMerged 
         or-true false = refl
 
         unmarked : (t c : ℕ) → ¬ ((t ≡ thread) × (c ≡ channel))
-            → has_merged (set marks (thread * 16 + channel) true) t c ≡ (list_any (merges t c) front || false)
-        unmarked t c not = keep t c not ∙ is.marked t c ∙ sym (or-false (list_any (merges t c) front))
+            → has_merged (set marks (thread * 16 + channel) true) t c ≡
+            (list_any (merges t c) front || false)
+        unmarked t c not = keep t c not ∙ is.marked t c
+            ∙ sym (or-false (list_any (merges t c) front))
 
         here : has_merged (set marks (thread * 16 + channel) true) thread channel ≡ true
         here =
-            ap (λ (a : Bool). a && nat_lt channel 16 && get_or (set marks (thread * 16 + channel) true) (thread * 16 + channel) false) (lt-ltb thread 64 in_threads)
-            ∙ ap (λ (b : Bool). b && get_or (set marks (thread * 16 + channel) true) (thread * 16 + channel) false) (lt-ltb channel 16 in_channels)
-            ∙ get_or-set_same marks (thread * 16 + channel) true false (let long = is.long in omega (arith, long, in_threads, in_channels))
+            ap (λ (a : Bool). a && nat_lt channel 16 && get_or
+                (set marks (thread * 16 + channel) true) (thread * 16 + channel) false)
+                (lt-ltb thread 64 in_threads)
+            ∙ ap (λ (b : Bool). b && get_or (set marks (thread * 16 + channel) true)
+            (thread * 16 + channel) false) (lt-ltb channel 16 in_channels)
+            ∙ get_or-set_same marks (thread * 16 + channel) true false
+            (let long = is.long in omega (arith, long, in_threads, in_channels))
 
         by : (t c : ℕ) → (a : Bool) → (thread == t) ≡ a → (b : Bool) → (channel == c) ≡ b
-            → has_merged (set marks (thread * 16 + channel) true) t c ≡ (list_any (merges t c) front || ((thread == t) && (channel == c)))
+            → has_merged (set marks (thread * 16 + channel) true) t c ≡
+            (list_any (merges t c) front || ((thread == t) && (channel == c)))
         by t c true e true f =
-            subst (λ u. has_merged (set marks (thread * 16 + channel) true) u c ≡ true) (eqb-true thread t e)
-            (subst (λ v. has_merged (set marks (thread * 16 + channel) true) thread v ≡ true) (eqb-true channel c f) here)
+            subst (λ u. has_merged (set marks (thread * 16 + channel) true) u c ≡ true)
+                (eqb-true thread t e)
+            (subst (λ v. has_merged (set marks (thread * 16 + channel) true) thread v ≡ true)
+            (eqb-true channel c f) here)
             ∙ sym (or-true (list_any (merges t c) front))
-            ∙ ap (λ (b : Bool). list_any (merges t c) front || b) (sym (ap (λ (b : Bool). b && (channel == c)) e ∙ f))
+            ∙ ap (λ (b : Bool). list_any (merges t c) front || b)
+            (sym (ap (λ (b : Bool). b && (channel == c)) e ∙ f))
         by t c true e false f =
             unmarked t c (λ both. eqb-false channel c f (sym both.1))
-            ∙ ap (λ (b : Bool). list_any (merges t c) front || b) (sym (ap (λ (b : Bool). b && (channel == c)) e ∙ f))
+            ∙ ap (λ (b : Bool). list_any (merges t c) front || b)
+            (sym (ap (λ (b : Bool). b && (channel == c)) e ∙ f))
         by t c false e b f =
             unmarked t c (λ both. eqb-false thread t e (sym both.0))
-            ∙ ap (λ (b : Bool). list_any (merges t c) front || b) (sym (ap (λ (b : Bool). b && (channel == c)) e))
+            ∙ ap (λ (b : Bool). list_any (merges t c) front || b)
+            (sym (ap (λ (b : Bool). b && (channel == c)) e))
 
 -- ---- the lines of all rows
 
-any-lines : (p : Row → Bool) (ns : List NotedLine) → list_any p (map Noted ns) ≡ list_any (λ (n : NotedLine). p (Noted n)) ns
+any-lines : (p : Row → Bool) (ns : List NotedLine) → list_any p (map Noted ns) ≡ list_any
+    (λ (n : NotedLine). p (Noted n)) ns
 any-lines p [] = refl
 any-lines p (n ∷ ns) = ap (λ (b : Bool). p (Noted n) || b) (any-lines p ns)
 
@@ -121,16 +143,22 @@ module _ (script : Script) (journal : Journal) (t c : ℕ) where
       ≡ list_any merges-line (flat_map (noted_of script journal.ops) (enumerate_from k ts))
   any-threads k [] = refl
   any-threads k (x ∷ xs) =
-      list_any-append (merges t c) (thread_rows script journal (k, x)) (flat_map (thread_rows script journal) (enumerate_from (k + 1) xs))
-      ∙ ap (λ (b : Bool). b || list_any (merges t c) (flat_map (thread_rows script journal) (enumerate_from (k + 1) xs))) (any-lines (merges t c) (noted_of script journal.ops (k, x)))
-      ∙ ap (λ (b : Bool). list_any merges-line (noted_of script journal.ops (k, x)) || b) (any-threads (k + 1) xs)
-      ∙ sym (list_any-append merges-line (noted_of script journal.ops (k, x)) (flat_map (noted_of script journal.ops) (enumerate_from (k + 1) xs)))
+      list_any-append (merges t c) (thread_rows script journal (k, x))
+          (flat_map (thread_rows script journal) (enumerate_from (k + 1) xs))
+      ∙ ap (λ (b : Bool). b || list_any (merges t c)
+      (flat_map (thread_rows script journal) (enumerate_from (k + 1) xs)))
+      (any-lines (merges t c) (noted_of script journal.ops (k, x)))
+      ∙ ap (λ (b : Bool). list_any merges-line (noted_of script journal.ops (k, x)) || b)
+      (any-threads (k + 1) xs)
+      ∙ sym (list_any-append merges-line (noted_of script journal.ops (k, x))
+      (flat_map (noted_of script journal.ops) (enumerate_from (k + 1) xs)))
 
   and-parts : (a b : Bool) → (a && b) ≡ true → (a ≡ true) × (b ≡ true)
   and-parts true b e = (refl, e)
   and-parts false b e = absurd (let no : false ≡ true = e in cc)
 
-  flush-of : (l : lines.Line) (r : replies.Reply) → is_channel c (merged_channel l r) ≡ true → (l ≡ line.Flush c) × (r ≡ reply.Merged)
+  flush-of : (l : lines.Line) (r : replies.Reply) → is_channel c (merged_channel l r) ≡ true
+      → (l ≡ line.Flush c) × (r ≡ reply.Merged)
   flush-of (line.Flush d) reply.Merged e = (ap line.Flush (eqb-true d c e), refl)
   flush-of (line.Flush d) reply.Done e = absurd (let no : false ≡ true = e in cc)
   flush-of (line.Flush d) (reply.Mismatch top) e = absurd (let no : false ≡ true = e in cc)
@@ -152,18 +180,23 @@ module _ (script : Script) (journal : Journal) (t c : ℕ) where
 
   is-merges : (n : NotedLine) → IsMerged script journal t c n → merges-line n ≡ true
   is-merges n m =
-      ap (λ (b : Bool). b && is_channel c (merged_channel n.line n.note.reply)) (eq-eqb n.thread t m.0)
+      ap (λ (b : Bool). b && is_channel c (merged_channel n.line n.note.reply))
+          (eq-eqb n.thread t m.0)
       ∙ ap (λ (l : lines.Line). is_channel c (merged_channel l n.note.reply)) m.1
       ∙ ap (λ (r : replies.Reply). is_channel c (merged_channel (line.Flush c) r)) m.2
       ∙ eq-eqb c c refl
 
   -- the marks say whether a flush was merged
   pub merged-any : (marks : List Bool) → AreMerged (all_rows script journal) marks
-      → (has_merged marks t c ≡ true ↔ Any (IsMerged script journal t c) (noted_lines script journal))
+      → (has_merged marks t c ≡ true ↔ Any (IsMerged script journal t c)
+      (noted_lines script journal))
   merged-any marks is =
-      ((λ h. let found = Any-from_list_any merges-line (noted_lines script journal) (sym same ∙ sym (is.marked t c) ∙ h) in
+      ((λ h. let found = Any-from_list_any merges-line (noted_lines script journal) (sym same
+      ∙ sym (is.marked t c) ∙ h) in
       (found.0, found.1, found.2, found.3, merges-is found.1 found.4)),
-      (λ a. is.marked t c ∙ same ∙ list_any-from_Any merges-line (noted_lines script journal) (a.0, a.1, a.2, a.3, is-merges a.1 a.4)))
+      (λ a. is.marked t c ∙ same ∙ list_any-from_Any merges-line (noted_lines script journal)
+      (a.0, a.1, a.2, a.3, is-merges a.1 a.4)))
     where
-      same : list_any (merges t c) (all_rows script journal) ≡ list_any merges-line (noted_lines script journal)
+      same : list_any (merges t c) (all_rows script journal) ≡ list_any merges-line
+          (noted_lines script journal)
       same = any-threads 0 (zip script.threads journal.threads)

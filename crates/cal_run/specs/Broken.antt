@@ -1,5 +1,5 @@
--- Which rule a journal breaks first, and on which of the input's lines. (Giltmoth's rule.) The rules
--- are tried one after another, each on the whole journal.
+-- Which rule a journal breaks first, and on which of the input's lines. (Giltmoth's rule.) The
+-- rules are tried one after another, each on the whole journal.
 use Rattle.std.specs.Prelude.{◌≡◌, ◌≢◌, ℕ, ◌+◌, ◌<◌, Bool, true, false, List, [], ◌∷◌, ◌++◌, ◌⊎◌}
 use Rattle.std.specs.Prelude.{length, map, take, zip, flat_map, All, slice_index_or}
 use Rattle.std.specs.List.{enumerate_from}

@@ -1,15 +1,14 @@
 -- What the parts of the check of a journal answer.
-use Rattle.std.specs.Prelude.{◌≡◌, ℕ, ◌<◌, ◌+◌, ◌*◌, Bool, false, List, length, slice_index_or, Option}
-use Rattle.std.specs.Prelude.{Some, None, All, if◌then◌else◌, not, ◌&&◌, ◌==◌, nat_lt, take}
+use Rattle.std.specs.Prelude.{◌≡◌, ℕ, ◌<◌, ◌+◌, ◌*◌, Bool, false, List, length, slice_index_or}
+use Rattle.std.specs.Prelude.{Option, Some, None, All, if◌then◌else◌, not, ◌&&◌, ◌==◌, nat_lt, take}
 use Rattle.std.specs.List.{AllZip, list_any}
 use Rattle.std.specs.declared.vec.Vec.{Vec}
 use Rattle.cal_board.specs.Blackboard.{Blackboard}
 use Rattle.cal_context.specs.Tree.{Tree}
 use Rattle.cal_journal.specs.declared.kind.JournalKind.{JournalKind}
 use Rattle.cal_journal.specs.declared.kind.JournalKind.TheVariants as kind
-use Rattle.cal_run.specs.Broken.{BreaksAt, BreaksRule, HasBegun, HoldAll, IsFirstBroken, KeepsRow, Row}
-use Rattle.cal_run.specs.Broken.{rules}
-use Rattle.cal_run.specs.Broken.{Noted, Start}
+use Rattle.cal_run.specs.Broken.{BreaksAt, BreaksRule, HasBegun, HoldAll, IsFirstBroken, KeepsRow}
+use Rattle.cal_run.specs.Broken.{Noted, Row, Start, rules}
 use Rattle.cal_run.specs.Held.{Holds, IsProcess}
 use Rattle.cal_run.specs.Lawful.{NotedLine, placed_of, process_lines}
 use Rattle.cal_run.specs.Lines.{is_process_line, takes}
@@ -34,7 +33,8 @@ use Rattle.cal_script.specs.declared.script.Script.{Script}
 
 -- a check ends by a fault only of this rule
 abbrev pub EndsBy : Script → JournalText → JournalKind → ends.CoreEnd → Type 0
-EndsBy script text rule (end.JournalFault line kind) = (kind ≡ rule) × BreaksRule script text rule line
+EndsBy script text rule (end.JournalFault line kind) =
+    (kind ≡ rule) × BreaksRule script text rule line
 EndsBy script text rule end.OutOfMemory = Unit {0}
 
 -- the first rules hold, in their order

@@ -5,4 +5,5 @@ pub returns-clause-lawful : goal.returns-clause-lawful
 returns-clause-lawful c = λ script text rule line is. lawful-unbroken script text is rule line
 
 pub returns-clause-one : goal.returns-clause-one
-returns-clause-one c = λ script text rule other line place. broken-once script text rule other line place
+returns-clause-one c = λ script text rule other line place. broken-once script text rule other line
+    place
