@@ -58,15 +58,18 @@ module _ {A : Type 0} (P : A → Type 0) where
         ∙ take_all row xs (omega (arith, at)))) told;
     broken = λ all.
         let no : false ≡ true = is.1 (all-last xs x
-            (subst (All P) (take_all (row + 1) (xs ++ x ∷ [])
-            (let long = length-append xs (x ∷ []) in omega (arith, at, long))) all)) in
+        (subst (All P) (take_all (row + 1) (xs ++ x ∷ [])
+        (let long = length-append xs (x ∷ []) in omega (arith, at, long))) all)) in
         cc;
   }
 
 module _ {A : Type 0} where
   front-take : (xs ys : List A) (i : ℕ) → take i xs ≡ take i ys → IsFront (take i xs) ys
-  front-take xs ys i same = (drop i ys, sym (take-append-drop i ys)
-      ∙ ap (λ zs. zs ++ drop i ys) (sym same))
+  front-take xs ys i same = (
+    drop i ys,
+    sym (take-append-drop i ys)
+        ∙ ap (λ zs. zs ++ drop i ys) (sym same),
+  )
 
   -- the first place at which a list isn't the front of another
   pub breaks-front : (xs ys : List A) (i : ℕ) (d : A) → i < length xs → take i xs ≡ take i ys
@@ -76,7 +79,7 @@ module _ {A : Type 0} where
     kept = front-take xs ys i same;
     broken = λ front.
         let long : length (take (i + 1) xs) ≡ i + 1 = length-take-le (i + 1) xs
-            (omega (arith, below)) in
+        (omega (arith, below)) in
         not (slice_get-IsFront (take (i + 1) xs) ys i (get_or xs i d) front
         (slice_get-get_or (take (i + 1) xs) i d (omega (arith, long))
         ∙ ap (λ x. Some x) (get_or-take (i + 1) xs i d (omega arith))));
@@ -149,7 +152,7 @@ module _ (script : Script) (text : JournalText) (starts : List Bool) (wanted : L
       → get_or written row d ≡ written_row text row (get_or starts row b)
   written-at row d b below =
       get_or-written_from text 0 starts row d b below
-          ∙ ap (λ r. written_row text r (get_or starts row b)) (by row)
+      ∙ ap (λ r. written_row text r (get_or starts row b)) (by row)
     where
       by : (n : ℕ) → 0 + n ≡ n
       by n = omega arith
@@ -163,12 +166,16 @@ module _ (script : Script) (text : JournalText) (starts : List Bool) (wanted : L
   strange-row row line b below same not is =
       let d : RowName = written_row text row b in
       let breaks : BreaksAt (λ zs. IsFront zs wanted) written row =
-          breaks-front written wanted row d (let long = length-written_from text 0 starts in omega
-              (arith, long, below)) same
-          (λ next. not (next ∙ ap (λ x. Some x) (written-at row d b below))) in
-      inl (row, subst (λ zs. BreaksAt (λ rows. IsFront rows (wanted_rows script)) zs row)
-          written-are
-      (subst (λ ws. BreaksAt (λ rows. IsFront rows ws) written row) wanted-are breaks), is)
+      breaks-front written wanted row d (let long = length-written_from text 0 starts in omega
+      (arith, long, below)) same
+      (λ next. not (next ∙ ap (λ x. Some x) (written-at row d b below))) in
+      inl (
+        row,
+        subst (λ zs. BreaksAt (λ rows. IsFront rows (wanted_rows script)) zs row)
+            written-are
+            (subst (λ ws. BreaksAt (λ rows. IsFront rows ws) written row) wanted-are breaks),
+        is,
+      )
 
   -- rows are missing at the end
   pub missing-rows : (row line : ℕ) → row ≡ length starts → take row written ≡ take row wanted
@@ -176,16 +183,19 @@ module _ (script : Script) (text : JournalText) (starts : List Bool) (wanted : L
       → line ≡ text.marks.end → BreaksShape text (written_rows text) (wanted_rows script) line
   missing-rows row line whole-row so_far few is =
       let same : take (length starts) written ≡ take (length starts) wanted = subst
-          (λ n. take n written ≡ take n wanted) whole-row so_far in
+      (λ n. take n written ≡ take n wanted) whole-row so_far in
       let long : length written ≡ length starts = length-written_from text 0 starts in
       let whole : take (length starts) written ≡ written = take_all (length starts) written
-          (omega (arith, long)) in
+      (omega (arith, long)) in
       let front : IsFront written wanted = subst (λ zs. IsFront zs wanted) whole
-          (front-take written wanted (length starts) same) in
-      inr (subst (λ zs. IsFront zs (wanted_rows script)) written-are
-          (subst (IsFront written) wanted-are front),
-      (λ e. let same-long : length written ≡ length wanted = ap length (written-are ∙ e
-      ∙ sym wanted-are) in omega (arith, same-long, long, few)), is)
+      (front-take written wanted (length starts) same) in
+      inr (
+        subst (λ zs. IsFront zs (wanted_rows script)) written-are
+            (subst (IsFront written) wanted-are front),
+        (λ e. let same-long : length written ≡ length wanted = ap length (written-are ∙ e
+            ∙ sym wanted-are) in omega (arith, same-long, long, few)),
+        is,
+      )
 
   -- all rows are the wanted ones
   pub all-wanted : (row : ℕ) → row ≡ length starts → take row written ≡ take row wanted
@@ -193,10 +203,10 @@ module _ (script : Script) (text : JournalText) (starts : List Bool) (wanted : L
       → written_rows text ≡ wanted_rows script
   all-wanted row whole so_far enough =
       let same : take (length starts) written ≡ take (length starts) wanted = subst
-          (λ n. take n written ≡ take n wanted) whole so_far in
+      (λ n. take n written ≡ take n wanted) whole so_far in
       let long : length written ≡ length starts = length-written_from text 0 starts in
       sym written-are ∙ sym (take_all (length starts) written (omega (arith, long))) ∙ same
-          ∙ take_all (length starts) wanted enough ∙ wanted-are
+      ∙ take_all (length starts) wanted enough ∙ wanted-are
 
   -- one row more is the wanted one
   pub more-wanted : (row : ℕ) (b : Bool) → row < length starts → take row written ≡ take row wanted
@@ -206,6 +216,6 @@ module _ (script : Script) (text : JournalText) (starts : List Bool) (wanted : L
       let d : RowName = written_row text row b in
       let long : length written ≡ length starts = length-written_from text 0 starts in
       take_more_same written wanted row d (omega (arith, long, below))
-          (slice_get_within wanted row (written_row text row (get_or starts row b)) is) same
+      (slice_get_within wanted row (written_row text row (get_or starts row b)) is) same
       (written-at row d b below ∙ sym (get_or_from_slice_get wanted row
       (written_row text row (get_or starts row b)) d is))

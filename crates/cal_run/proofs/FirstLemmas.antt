@@ -54,12 +54,12 @@ module _ {A : Type 0} (Keeps : List A → Type 0) (fronts : OfFronts Keeps) wher
   breaks-whole : (xs : List A) (i : ℕ) → BreaksAt Keeps xs i → ¬ Keeps xs
   breaks-whole xs i breaks whole =
       breaks.broken (fronts (take (i + 1) xs) (drop (i + 1) xs)
-          (subst Keeps (sym (take-append-drop (i + 1) xs)) whole))
+      (subst Keeps (sym (take-append-drop (i + 1) xs)) whole))
 
   breaks-before : (xs : List A) (i j : ℕ) → BreaksAt Keeps xs i → BreaksAt Keeps xs j → ¬ (i < j)
   breaks-before xs i j one other before =
       let front : IsFront (take (i + 1) xs) (take j xs) = take-front xs (i + 1) j
-          (omega (arith, before)) in
+      (omega (arith, before)) in
       one.broken (fronts (take (i + 1) xs) front.0 (subst Keeps front.1 other.kept))
 
   breaks-once : (xs : List A) (i j : ℕ) → BreaksAt Keeps xs i → BreaksAt Keeps xs j → i ≡ j
@@ -96,7 +96,7 @@ module _ (script : Script) (text : JournalText) where
       → ¬ (written_rows text ≡ wanted_rows script)
   shape-broken line (inl at) same =
       breaks-whole (λ rows. IsFront rows (wanted_rows script)) (front-less (wanted_rows script))
-          (written_rows text) at.0 at.1
+      (written_rows text) at.0 at.1
       ([], sym same ∙ sym (append-nil (written_rows text)))
   shape-broken line (inr missing) same = missing.1 same
 
@@ -104,22 +104,22 @@ module _ (script : Script) (text : JournalText) where
       → BreaksShape text (written_rows text) (wanted_rows script) m → l ≡ m
   shape-once l m (inl one) (inl other) =
       line-once (λ rows. IsFront rows (wanted_rows script)) (front-less (wanted_rows script))
-          (written_rows text) (row_line text) l m
+      (written_rows text) (row_line text) l m
       one other
   shape-once l m (inl one) (inr missing) =
       absurd (breaks-whole (λ rows. IsFront rows (wanted_rows script))
-          (front-less (wanted_rows script)) (written_rows text)
+      (front-less (wanted_rows script)) (written_rows text)
       one.0 one.1 missing.0)
   shape-once l m (inr missing) (inl other) =
       absurd (breaks-whole (λ rows. IsFront rows (wanted_rows script))
-          (front-less (wanted_rows script)) (written_rows text)
+      (front-less (wanted_rows script)) (written_rows text)
       other.0 other.1 missing.0)
   shape-once l m (inr missing) (inr also) = missing.2 ∙ sym also.2
 
   order-broken : (line : ℕ) → BreaksOrder script text line → ¬ HasOrder script text.journal.ops
   order-broken line (inl at) order =
       breaks-whole (HasBegun script) (begun-less script) text.journal.ops at.0 at.1
-          (order-begun script text.journal.ops order)
+      (order-begun script text.journal.ops order)
   order-broken line (inr missing) order = missing.1 order
 
   order-once : (l m : ℕ) → BreaksOrder script text l → BreaksOrder script text m → l ≡ m
@@ -127,10 +127,10 @@ module _ (script : Script) (text : JournalText) where
       line-once (HasBegun script) (begun-less script) text.journal.ops (op_line text) l m one other
   order-once l m (inl one) (inr missing) =
       absurd (breaks-whole (HasBegun script) (begun-less script) text.journal.ops one.0 one.1
-          missing.0)
+      missing.0)
   order-once l m (inr missing) (inl other) =
       absurd (breaks-whole (HasBegun script) (begun-less script) text.journal.ops other.0 other.1
-          missing.0)
+      missing.0)
   order-once l m (inr missing) (inr also) = missing.2 ∙ sym also.2
 
   -- a rule that some item breaks
@@ -218,18 +218,20 @@ module _ (script : Script) (text : JournalText) where
       (other : IsFirstBroken script text second m) → ¬ (one.place < other.place)
   not-before first second l m one other before =
       broken-rule first l one.here (holds-at rules one.place other.place first before one.is
-          other.before)
+      other.before)
 
   pub broken-once : (first second : JournalKind) (l m : ℕ) → IsFirstBroken script text first l
       → IsFirstBroken script text second m → (first ≡ second) × (l ≡ m)
   broken-once first second l m one other =
       let place : one.place ≡ other.place =
-          neither one.place other.place (not-before first second l m one other)
-              (not-before second first m l other one) in
+      neither one.place other.place (not-before first second l m one other)
+      (not-before second first m l other one) in
       let at : Some first ≡ Some second = sym one.is ∙ ap (slice_get rules) place ∙ other.is in
-      let same : first ≡ second = cc in
-      (same, rule-once first l m one.here (subst (λ rule. BreaksRule script text rule m)
-      (sym same) other.here))
+      let same : first ≡ second = cc in (
+        same,
+        rule-once first l m one.here (subst (λ rule. BreaksRule script text rule m)
+            (sym same) other.here),
+      )
 
 -- ---- a lawful journal breaks none
 
@@ -251,9 +253,9 @@ module _ (script : Script) (journal : Journal) (Q : Row → Type 0) where
   rows-all k (ls ∷ threads) (note ∷ notes) starts lines =
       let one : List NotedLine = noted_of script journal.ops (k, (ls, note)) in
       let more : List NotedLine = flat_map (noted_of script journal.ops)
-          (enumerate_from (k + 1) (zip threads notes)) in
+      (enumerate_from (k + 1) (zip threads notes)) in
       let rest : List Row = flat_map (thread_rows script journal)
-          (enumerate_from (k + 1) (zip threads notes)) in
+      (enumerate_from (k + 1) (zip threads notes)) in
       All-cons Q (Start note) (map Noted one ++ rest) (starts 0 note (omega arith))
       (All-append Q (map Noted one) rest
       (noted-all one (all-front (λ (n : NotedLine). Q (Noted n)) one more lines))
@@ -270,7 +272,7 @@ module _ (script : Script) (text : JournalText) (is : IsLawfulText script text) 
       → All (KeepsRow script journal rule) (all_rows script journal)
   by-rows rule starts lines =
       rows-all script journal (KeepsRow script journal rule) 0 script.threads journal.threads starts
-          lines
+      lines
 
   every-rule : (rule : JournalKind) → HoldsRule script text rule
   every-rule kind.Form = by-rows kind.Form (λ k d l. tt) (λ k d l. tt)

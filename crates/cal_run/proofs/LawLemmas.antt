@@ -35,8 +35,15 @@ module _ (script : Script) (journal : Journal) where
       → SeesInOrder script journal.ops before ls
   order_from thread number before state [] all = tt
   order_from thread number before state (l ∷ ls) all =
-      let n : NotedLine = record { thread = thread; number = number; line = l.0; note = l.1; before
-          = before; state = state } in
+      let n : NotedLine = record {
+        thread = thread;
+        number = number;
+        line = l.0;
+        note = l.1;
+        before
+            = before;
+        state = state;
+      } in
       let here : Rule n = all 0 n (omega arith) in
       let may : MaySee script journal.ops before l.0 l.1 = record {
         rises = here.0;
@@ -44,7 +51,7 @@ module _ (script : Script) (journal : Journal) where
         within = here.1;
       } in
       let rest = order_from thread (number + 1) l.1.seen
-          (state_after script journal.ops l.0 l.1 state) ls
+      (state_after script journal.ops l.0 l.1 state) ls
       (all-rest Rule n (noted_from script journal.ops thread (number + 1) l.1.seen
       (state_after script journal.ops l.0 l.1 state) ls) all) in
       (may, rest)
@@ -58,7 +65,7 @@ module _ (script : Script) (journal : Journal) where
   threads_in_order k (t ∷ ts) all =
       let one : List NotedLine = noted_of script journal.ops (k, t) in
       let more : List NotedLine = flat_map (noted_of script journal.ops)
-          (enumerate_from (k + 1) ts) in
+      (enumerate_from (k + 1) ts) in
       All-cons InOrder t ts
       (order_from k 1 0 at_start (zip t.0 t.1.lines) (all-front Rule one more all))
       (threads_in_order (k + 1) ts (all-back Rule one more all))

@@ -32,8 +32,8 @@ none-merged n marks long none = record {
   long = ap length none ∙ length-replicate n false ∙ long;
   marked = λ thread channel.
       ap (λ (b : Bool). nat_lt thread 64 && nat_lt channel 16 && b)
-          (ap (λ (xs : List Bool). get_or xs (thread * 16 + channel) false) none
-          ∙ all-false n (thread * 16 + channel))
+      (ap (λ (xs : List Bool). get_or xs (thread * 16 + channel) false) none
+      ∙ all-false n (thread * 16 + channel))
       ∙ and-false (nat_lt thread 64 && nat_lt channel 16);
 }
 
@@ -100,8 +100,8 @@ module _ (front : List Row) (n : NotedLine) (marks : List Bool) (is : AreMerged 
         here : has_merged (set marks (thread * 16 + channel) true) thread channel ≡ true
         here =
             ap (λ (a : Bool). a && nat_lt channel 16 && get_or
-                (set marks (thread * 16 + channel) true) (thread * 16 + channel) false)
-                (lt-ltb thread 64 in_threads)
+            (set marks (thread * 16 + channel) true) (thread * 16 + channel) false)
+            (lt-ltb thread 64 in_threads)
             ∙ ap (λ (b : Bool). b && get_or (set marks (thread * 16 + channel) true)
             (thread * 16 + channel) false) (lt-ltb channel 16 in_channels)
             ∙ get_or-set_same marks (thread * 16 + channel) true false
@@ -112,7 +112,7 @@ module _ (front : List Row) (n : NotedLine) (marks : List Bool) (is : AreMerged 
             (list_any (merges t c) front || ((thread == t) && (channel == c)))
         by t c true e true f =
             subst (λ u. has_merged (set marks (thread * 16 + channel) true) u c ≡ true)
-                (eqb-true thread t e)
+            (eqb-true thread t e)
             (subst (λ v. has_merged (set marks (thread * 16 + channel) true) thread v ≡ true)
             (eqb-true channel c f) here)
             ∙ sym (or-true (list_any (merges t c) front))
@@ -144,7 +144,7 @@ module _ (script : Script) (journal : Journal) (t c : ℕ) where
   any-threads k [] = refl
   any-threads k (x ∷ xs) =
       list_any-append (merges t c) (thread_rows script journal (k, x))
-          (flat_map (thread_rows script journal) (enumerate_from (k + 1) xs))
+      (flat_map (thread_rows script journal) (enumerate_from (k + 1) xs))
       ∙ ap (λ (b : Bool). b || list_any (merges t c)
       (flat_map (thread_rows script journal) (enumerate_from (k + 1) xs)))
       (any-lines (merges t c) (noted_of script journal.ops (k, x)))
@@ -181,7 +181,7 @@ module _ (script : Script) (journal : Journal) (t c : ℕ) where
   is-merges : (n : NotedLine) → IsMerged script journal t c n → merges-line n ≡ true
   is-merges n m =
       ap (λ (b : Bool). b && is_channel c (merged_channel n.line n.note.reply))
-          (eq-eqb n.thread t m.0)
+      (eq-eqb n.thread t m.0)
       ∙ ap (λ (l : lines.Line). is_channel c (merged_channel l n.note.reply)) m.1
       ∙ ap (λ (r : replies.Reply). is_channel c (merged_channel (line.Flush c) r)) m.2
       ∙ eq-eqb c c refl
@@ -190,12 +190,13 @@ module _ (script : Script) (journal : Journal) (t c : ℕ) where
   pub merged-any : (marks : List Bool) → AreMerged (all_rows script journal) marks
       → (has_merged marks t c ≡ true ↔ Any (IsMerged script journal t c)
       (noted_lines script journal))
-  merged-any marks is =
-      ((λ h. let found = Any-from_list_any merges-line (noted_lines script journal) (sym same
-      ∙ sym (is.marked t c) ∙ h) in
-      (found.0, found.1, found.2, found.3, merges-is found.1 found.4)),
-      (λ a. is.marked t c ∙ same ∙ list_any-from_Any merges-line (noted_lines script journal)
-      (a.0, a.1, a.2, a.3, is-merges a.1 a.4)))
+  merged-any marks is = (
+    (λ h. let found = Any-from_list_any merges-line (noted_lines script journal) (sym same
+        ∙ sym (is.marked t c) ∙ h) in
+        (found.0, found.1, found.2, found.3, merges-is found.1 found.4)),
+    (λ a. is.marked t c ∙ same ∙ list_any-from_Any merges-line (noted_lines script journal)
+        (a.0, a.1, a.2, a.3, is-merges a.1 a.4)),
+  )
     where
       same : list_any (merges t c) (all_rows script journal) ≡ list_any merges-line
           (noted_lines script journal)

@@ -82,7 +82,7 @@ module _ (script : Script) (history : List Placed) (op : Placed) where
       ≡ (if op.thread == t then placed_of t history ++ op.line ∷ [] else placed_of t history)
   placed_of-push t =
       filter_map-append (λ (o : Placed). if o.thread == t then Some o.line else None) history
-          (op ∷ [])
+      (op ∷ [])
       ∙ by (op.thread == t)
     where
       by : (b : Bool) → placed_of t history ++ filter_map
@@ -150,14 +150,14 @@ module _ (script : Script) {Z : Type 0} (lists : List (Vec ℕ Z))
         front t ls is true e =
             let same : op.thread ≡ t = eqb-true op.thread t e in
             let list : (get_or lists t d).items ≡ process_lines script ls = list-is t ls d is
-                (subst (λ u. u < length lists) same in_lists) in
+            (subst (λ u. u < length lists) same in_lists) in
             let count : get_or counts t 0 ≡ length (placed_of t history) = counted.counted t
-                (subst (λ u. u < length counts) same in_counts) in
+            (subst (λ u. u < length counts) same in_counts) in
             let here : slice_get (get_or lists t d).items (get_or counts t 0) ≡ Some op.line =
-                subst (λ u. slice_get (get_or lists u d).items (get_or counts u 0) ≡ Some op.line)
-                    same next in
+            subst (λ u. slice_get (get_or lists u d).items (get_or counts u 0) ≡ Some op.line)
+            same next in
             front-next (placed_of t history) (process_lines script ls) op.line
-                (counted.begun t ls is)
+            (counted.begun t ls is)
             (subst (λ n. slice_get (process_lines script ls) n ≡ Some op.line) count
             (subst (λ xs. slice_get xs (get_or counts t 0) ≡ Some op.line) list here))
         front t ls is false e = counted.begun t ls is
@@ -170,14 +170,14 @@ module _ (script : Script) {Z : Type 0} (lists : List (Vec ℕ Z))
             let more = length-append (placed_of t history) (op.line ∷ []) in
             let was : get_or counts t 0 ≡ length (placed_of t history) = counted.counted t below in
             let now : get_or (set counts op.thread (get_or counts op.thread 0 + 1)) t 0
-                ≡ get_or counts t 0 + 1 =
-                subst (λ u. get_or (set counts op.thread (get_or counts op.thread 0 + 1)) u 0
-                    ≡ get_or counts u 0 + 1) same
-                (get_or-set_same counts op.thread (get_or counts op.thread 0 + 1) 0 in_counts) in
+            ≡ get_or counts t 0 + 1 =
+            subst (λ u. get_or (set counts op.thread (get_or counts op.thread 0 + 1)) u 0
+            ≡ get_or counts u 0 + 1) same
+            (get_or-set_same counts op.thread (get_or counts op.thread 0 + 1) 0 in_counts) in
             omega (arith, more, was, now)
         count t below false e =
             get_or-set_other counts op.thread t (get_or counts op.thread 0 + 1) 0
-                (λ s. eqb-false op.thread t e (sym s)) ∙ counted.counted t below
+            (λ s. eqb-false op.thread t e (sym s)) ∙ counted.counted t below
 
     -- any other operation is out of order
     pub not-next : ¬ (slice_get (get_or lists op.thread d).items
@@ -187,21 +187,21 @@ module _ (script : Script) {Z : Type 0} (lists : List (Vec ℕ Z))
         let long : length lists ≡ length script.threads = lists-long in
         let ls : List Line = get_or script.threads op.thread [] in
         let is : slice_get script.threads op.thread ≡ Some (get_or script.threads op.thread []) =
-            slice_get-get_or script.threads op.thread [] (omega (arith, long, in_lists)) in
+        slice_get-get_or script.threads op.thread [] (omega (arith, long, in_lists)) in
         let front : IsFront (placed_of op.thread history ++ op.line ∷ [])
-            (process_lines script ls) =
-            subst (λ ns. IsFront ns (process_lines script ls))
-            (placed_of-push script history op op.thread
-            ∙ ap (λ (b : Bool). if b then placed_of op.thread history ++ op.line ∷ [] else placed_of
-            op.thread history) (eq-eqb op.thread op.thread refl))
-            (begun op.thread ls is) in
+        (process_lines script ls) =
+        subst (λ ns. IsFront ns (process_lines script ls))
+        (placed_of-push script history op op.thread
+        ∙ ap (λ (b : Bool). if b then placed_of op.thread history ++ op.line ∷ [] else placed_of
+        op.thread history) (eq-eqb op.thread op.thread refl))
+        (begun op.thread ls is) in
         let next : slice_get (process_lines script ls)
-            (length (placed_of op.thread history)) ≡ Some op.line =
-            front-next-is (placed_of op.thread history) (process_lines script ls) op.line front in
+        (length (placed_of op.thread history)) ≡ Some op.line =
+        front-next-is (placed_of op.thread history) (process_lines script ls) op.line front in
         let list : (get_or lists op.thread d).items
-            ≡ process_lines script ls = list-is op.thread ls d is in_lists in
+        ≡ process_lines script ls = list-is op.thread ls d is in_lists in
         let count : get_or counts op.thread 0 ≡ length
-            (placed_of op.thread history) = counted.counted op.thread in_counts in
+        (placed_of op.thread history) = counted.counted op.thread in_counts in
         not (subst (λ xs. slice_get xs (get_or counts op.thread 0) ≡ Some op.line) (sym list)
         (subst (λ n. slice_get (process_lines script ls) n ≡ Some op.line) (sym count) next))
 
@@ -216,17 +216,17 @@ module _ (script : Script) {Z : Type 0} (lists : List (Vec ℕ Z))
         let below : t < length script.threads = slice_get_within script.threads t ls is in
         let in_lists : t < length lists = omega (arith, long, below) in
         let in_counts : t < length counts = (let long2 = counted.long in omega
-            (arith, long2, below)) in
+        (arith, long2, below)) in
         let d : Vec ℕ Z = an-item lists (λ none. let no = ap length none in omega
-            (arith, no, in_lists)) in
+        (arith, no, in_lists)) in
         let list : (get_or lists t d).items ≡ process_lines script ls = list-is t ls d is in_lists
-            in
+        in
         let long3 : length (get_or lists t d).items ≡ length
-            (process_lines script ls) = ap length list in
+        (process_lines script ls) = ap length list in
         let most = enough t d in_lists in
         let count = counted.counted t in_counts in
         front-whole (placed_of t history) (process_lines script ls) (counted.begun t ls is)
-            (omega (arith, long3, most, count))
+        (omega (arith, long3, most, count))
 
     pub lacks-order : (t : ℕ) (d : Vec ℕ Z) → t < length lists
         → get_or counts t 0 < length (get_or lists t d).items
@@ -236,13 +236,13 @@ module _ (script : Script) {Z : Type 0} (lists : List (Vec ℕ Z))
         let long2 : length counts ≡ length script.threads = counted.long in
         let ls : List Line = get_or script.threads t [] in
         let is : slice_get script.threads t ≡ Some (get_or script.threads t []) =
-            slice_get-get_or script.threads t [] (omega (arith, long, in_lists)) in
+        slice_get-get_or script.threads t [] (omega (arith, long, in_lists)) in
         let same : length (placed_of t history) ≡ length (process_lines script ls) = ap length
-            (order t ls is) in
+        (order t ls is) in
         let list : length (get_or lists t d).items ≡ length (process_lines script ls) = ap length
-            (list-is t ls d is in_lists) in
+        (list-is t ls d is in_lists) in
         let count : get_or counts t 0 ≡ length (placed_of t history) = counted.counted t
-            (omega (arith, long, long2, in_lists)) in
+        (omega (arith, long, long2, in_lists)) in
         omega (arith, same, list, count, lacks)
 
 -- ---- an operation at a place
@@ -284,7 +284,7 @@ pub listed-more : (script : Script) {Z : Type 0} (lists : List (Vec ℕ Z))
     (take (i + 1) threads)
 listed-more script lists threads i ls list below is lines listed =
     subst (AreListed script (lists ++ list ∷ [])) (sym (take_more threads i ls below
-        ∙ ap (λ (t : List Line). take i threads ++ t ∷ []) (sym is)))
+    ∙ ap (λ (t : List Line). take i threads ++ t ∷ []) (sym is)))
     (all_zip-push (ListIs script) lists (take i threads) list ls listed lines)
 
 -- a thread has no more lines than all

@@ -55,7 +55,7 @@ lines-same t number u [] (l ∷ ls) notes threads e = absurd (no-starts notes _ 
 lines-same t number u (x ∷ xs) [] notes threads e = absurd (no-rows u threads _ e)
 lines-same t number u (x ∷ xs) (l ∷ ls) notes threads e =
     let rest : (length xs ≡ length ls) × (starts_of notes ≡ map is_start (rows_from u threads)) =
-        lines-same t (number + 1) u xs ls notes threads cc in
+    lines-same t (number + 1) u xs ls notes threads cc in
     (ap suc rest.0, rest.1)
 
 -- rows of one shape are of threads of one shape
@@ -69,10 +69,10 @@ same-shape t (ls ∷ threads) [] e = absurd cc
 same-shape t (ls ∷ threads) (n ∷ ns) e =
     let both = map-append is_start (line_rows t 1 ls) (rows_from (t + 1) threads) in
     let rest : map (λ _. false) n.lines ++ starts_of ns ≡ map is_start
-        (line_rows t 1 ls ++ rows_from (t + 1) threads) = cc in
+    (line_rows t 1 ls ++ rows_from (t + 1) threads) = cc in
     let same : (length n.lines ≡ length ls) × (starts_of ns ≡ map is_start
-        (rows_from (t + 1) threads)) =
-        lines-same t 1 (t + 1) n.lines ls ns threads (rest ∙ both) in
+    (rows_from (t + 1) threads)) =
+    lines-same t 1 (t + 1) n.lines ls ns threads (rest ∙ both) in
     (same.0, same-shape (t + 1) threads ns same.1)
 
 pub written-shape : (script : Script) (text : JournalText) → written_rows text ≡ wanted_rows script
@@ -98,7 +98,7 @@ module _ (script : Script) (journal : Journal) (Q : Row → Type 0) where
       let one : List NotedLine = noted_of script journal.ops (k, t) in
       let more : List Row = flat_map (thread_rows script journal) (enumerate_from (k + 1) ts) in
       All-append (λ (n : NotedLine). Q (Noted n)) one
-          (flat_map (noted_of script journal.ops) (enumerate_from (k + 1) ts))
+      (flat_map (noted_of script journal.ops) (enumerate_from (k + 1) ts))
       (all-lines one (all-rest Q (Start t.1) (map Noted one)
       (all-front Q (Start t.1 ∷ map Noted one) more all)))
       (all-noted (k + 1) ts (all-back Q (Start t.1 ∷ map Noted one) more all))
@@ -114,7 +114,7 @@ module _ (script : Script) (journal : Journal) (Q : Row → Type 0) where
   all-starts k (ls ∷ threads) (n ∷ ns) shape all =
       let one : List NotedLine = noted_of script journal.ops (k, (ls, n)) in
       let more : List Row = flat_map (thread_rows script journal)
-          (enumerate_from (k + 1) (zip threads ns)) in
+      (enumerate_from (k + 1) (zip threads ns)) in
       All-cons (λ (note : ThreadNote). Q (Start note)) n ns (all 0 (Start n) (omega arith))
       (all-starts (k + 1) threads ns shape.1 (all-back Q (Start n ∷ map Noted one) more all))
 
@@ -124,7 +124,7 @@ pub kept-lines : (script : Script) (journal : Journal) (rule : JournalKind)
     → All (KeepsLine script journal rule) (noted_lines script journal)
 kept-lines script journal rule all =
     all-noted script journal (KeepsRow script journal rule) 0
-        (zip script.threads journal.threads) all
+    (zip script.threads journal.threads) all
 
 -- where the rules on what lines have seen hold, a run can be read off the journal
 pub seen-read : (script : Script) (text : JournalText) → HoldFirst script text 6

@@ -130,7 +130,7 @@ room-drop threads t ls row most below is room =
     let cons : drop t threads ≡ get_or threads t ls ∷ drop (suc t) threads = drop-cons threads t ls below in
     let more = sum_by-cons length (get_or threads t ls) (drop (suc t) threads) in
     let sum : sum_by length (drop t threads) ≡ length ls + sum_by length (drop (suc t) threads) =
-        ap (sum_by length) cons ∙ more ∙ ap (λ (xs : List lines.Line). length xs + sum_by length (drop (suc t) threads)) (sym is) in
+    ap (sum_by length) cons ∙ more ∙ ap (λ (xs : List lines.Line). length xs + sum_by length (drop (suc t) threads)) (sym is) in
     let long : length (drop t threads) ≡ suc (length (drop (suc t) threads)) = ap length cons in
     subst (λ u. row + 1 + length ls + sum_by length (drop u threads) + length (drop u threads) ≤ most) (by t)
     (omega (arith, room, sum, long))

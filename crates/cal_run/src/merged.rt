@@ -10,6 +10,7 @@ use std::alloc::Global;
 
 /// The most threads and channels that a script has.
 const MOST_THREADS: usize = 64;
+
 const MOST_CHANNELS: usize = 16;
 
 /// Of which thread and channel a flush was merged, thread by thread.
@@ -36,7 +37,10 @@ impl Merged {
             → AreMerged (front ++ Noted n ∷ []) self.new.marks.items }
     {
         if let Some(channel) = merged_channel(line, note.reply) {
-            if let Some(mark) = self.marks.get_mut(thread * MOST_CHANNELS + channel as usize) {
+            if let Some(mark) = self
+                .marks
+                .get_mut(thread * MOST_CHANNELS + channel as usize)
+            {
                 *mark = true;
             }
         }
@@ -48,7 +52,11 @@ impl Merged {
     {
         thread < MOST_THREADS
             && channel < MOST_CHANNELS
-            && self.marks.get(thread * MOST_CHANNELS + channel).copied().unwrap_or(false)
+            && self
+                .marks
+                .get(thread * MOST_CHANNELS + channel)
+                .copied()
+                .unwrap_or(false)
     }
 }
 

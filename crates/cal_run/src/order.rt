@@ -29,11 +29,7 @@ pub(crate) fn check_known(script: &Script, text: &JournalText) -> Result<(), Cor
 }
 
 /// Tests that the history has the process lines of each thread, in line order, and each once.
-pub(crate) fn check_order(
-    alloc: Global,
-    script: &Script,
-    text: &JournalText,
-) -> Result<(), CoreEnd>
+pub(crate) fn check_order(alloc: Global, script: &Script, text: &JournalText) -> Result<(), CoreEnd>
     requires runnable { IsRunnable script.now }
     requires known { All (IsKnown script.now) text.now.journal.ops }
     ensures held { OnOk result (HasOrder script.now text.now.journal.ops) }

@@ -21,11 +21,7 @@ pub struct RowName {
 }
 
 /// Tests that a journal has the rows of its script, in their order.
-pub(crate) fn check_shape(
-    alloc: Global,
-    script: &Script,
-    text: &JournalText,
-) -> Result<(), CoreEnd>
+pub(crate) fn check_shape(alloc: Global, script: &Script, text: &JournalText) -> Result<(), CoreEnd>
     ensures held { OnOk result (written_rows text.now ≡ wanted_rows script.now) }
     ensures broken { IfErr result (EndsBy script.now text.now kind.Shape) }
 {
@@ -71,11 +67,7 @@ fn wanted_rows(alloc: Global, script: &Script) -> Result<Vec<RowName>, OutOfMemo
     Ok(rows)
 }
 
-fn push_line_rows(
-    thread: u64,
-    lines: &[Line],
-    rows: &mut Vec<RowName>,
-) -> Result<(), OutOfMemory>
+fn push_line_rows(thread: u64, lines: &[Line], rows: &mut Vec<RowName>) -> Result<(), OutOfMemory>
     ensures { OnOk result (rows.new.items ≡ rows.old.items ++ line_rows thread 1 lines.now) }
 {
     for place in 0..lines.len() {

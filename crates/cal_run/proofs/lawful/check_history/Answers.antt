@@ -7,14 +7,14 @@ use Rattle.cal_run.proofs.lawful.check_history.Goals as goal
 pub returns-in_err-check_shape-clause-fault : goal.returns-in_err-check_shape-clause-fault
 returns-in_err-check_shape-clause-fault c =
     handed-on (IsRefusalOf c.args.script.now c.args.text.now) c.from_residual.result _
-        c.from_residual.ensures.1
+    c.from_residual.ensures.1
     (ends-refusal c.args.script.now c.args.text.now kind.Shape 0 refl tt
     c.in_err-check_shape.field-0.0 c.in_err-check_shape.ensures.broken)
 
 pub returns-in_err-check_known-clause-fault : goal.returns-in_err-check_known-clause-fault
 returns-in_err-check_known-clause-fault c =
     handed-on (IsRefusalOf c.args.script.now c.args.text.now)
-        c.from_residual-in_err-check_known.result _
+    c.from_residual-in_err-check_known.result _
     c.from_residual-in_err-check_known.ensures.1
     (ends-refusal c.args.script.now c.args.text.now kind.OpStranger 1 refl
     (c.in_ok-check_shape.ensures.held, tt)
@@ -23,7 +23,7 @@ returns-in_err-check_known-clause-fault c =
 pub returns-in_err-check_order-clause-fault : goal.returns-in_err-check_order-clause-fault
 returns-in_err-check_order-clause-fault c =
     handed-on (IsRefusalOf c.args.script.now c.args.text.now)
-        c.from_residual-in_err-check_order.result _
+    c.from_residual-in_err-check_order.result _
     c.from_residual-in_err-check_order.ensures.1
     (ends-refusal c.args.script.now c.args.text.now kind.OpOrder 2 refl
     (c.in_ok-check_shape.ensures.held, (c.in_ok-check_known.ensures.held, tt))

@@ -16,8 +16,10 @@ returns-in-None-clause-held c =
 pub returns-in-Some-clause-broken : goal.returns-in-Some-clause-broken
 returns-in-Some-clause-broken c =
     let script = c.args.script.now in
-    let journal = c.args.text.now.journal in
-    (refl, rows-broken script c.args.text.now c.args.kind c.requires.rows c.in-Some.row _
-    (subst (λ (first : Option ℕ). TellsRule script journal c.args.kind first
-    (all_rows script journal)) c.in-Some.is c.requires.told)
-    (ap (λ (m : RowMark). m.line) c.mark_at.ensures))
+    let journal = c.args.text.now.journal in (
+      refl,
+      rows-broken script c.args.text.now c.args.kind c.requires.rows c.in-Some.row _
+          (subst (λ (first : Option ℕ). TellsRule script journal c.args.kind first
+          (all_rows script journal)) c.in-Some.is c.requires.told)
+          (ap (λ (m : RowMark). m.line) c.mark_at.ensures),
+    )

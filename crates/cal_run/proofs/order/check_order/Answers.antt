@@ -9,7 +9,7 @@ use Rattle.cal_run.proofs.order.check_order.Goals as goal
 pub first_out_of_order-requires-clause-none : goal.first_out_of_order-requires-clause-none
 first_out_of_order-requires-clause-none c =
     none-counted c.args.script.now c.in_ok-lists.lists.items c.in_ok-lists.ensures
-        c.deref_mut.result.now
+    c.deref_mut.result.now
     (c.deref_mut.ensures.value ∙ c.in_ok-counts.ensures
     ∙ ap (λ (lists : List (Vec ℕ Global)). replicate (length lists) 0) c.deref.ensures.value)
 
@@ -19,7 +19,12 @@ returns-then-not-are_all_placed-clause-broken c =
     let script = c.args.script.now in
     let ops : c.as_slice-ops.result.now ≡ c.args.text.now.journal.ops = c.as_slice-ops.ensures in
     let counted : AreCounted script c.as_slice-ops.result.now c.first_out_of_order.new.counts =
-        c.in_default.ensures in
-    (refl, inr (subst (HasBegun script) ops counted.begun,
-    (λ order. let no : false ≡ true = c.if-not-are_all_placed.ensures.1
-    (subst (HasOrder script) (sym ops) order) in cc), refl))
+    c.in_default.ensures in (
+      refl,
+      inr (
+        subst (HasBegun script) ops counted.begun,
+        (λ order. let no : false ≡ true = c.if-not-are_all_placed.ensures.1
+            (subst (HasOrder script) (sym ops) order) in cc),
+        refl,
+      ),
+    )

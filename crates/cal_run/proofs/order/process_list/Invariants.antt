@@ -10,5 +10,5 @@ use Rattle.cal_run.proofs.order.process_list.Given as goal
 abbrev pub invariant-loop-place : goal.invariant-loop-place
 invariant-loop-place l = l.list.items
     ++ filter_map (λ (e : ℕ × Line). if is_process_line l.script e.1 then Some e.0 else None)
-        (enumerate_from (l.place + 1) (drop l.place l.lines))
+    (enumerate_from (l.place + 1) (drop l.place l.lines))
     ≡ process_lines l.script l.lines

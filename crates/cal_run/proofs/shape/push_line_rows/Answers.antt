@@ -6,5 +6,5 @@ use Rattle.cal_run.proofs.shape.push_line_rows.Goals as goal
 pub loop-place-preserved : goal.loop-place-preserved
 loop-place-preserved c =
     let next = line_rows-drop c.args.thread (c.loop-place.place + 1) c.loop-place.place
-        c.args.lines.now c.loop-place-test.true in
+    c.args.lines.now c.loop-place-test.true in
     grind (arith, common_steps, next)

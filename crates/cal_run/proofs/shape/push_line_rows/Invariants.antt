@@ -6,4 +6,4 @@ use Rattle.cal_run.proofs.shape.push_line_rows.Given as goal
 abbrev pub invariant-loop-place : goal.invariant-loop-place
 invariant-loop-place l =
     l.rows.items ++ line_rows l.thread (l.place + 1)
-        (drop l.place l.lines) ≡ l.fn.rows.items ++ line_rows l.thread 1 l.lines
+    (drop l.place l.lines) ≡ l.fn.rows.items ++ line_rows l.thread 1 l.lines
