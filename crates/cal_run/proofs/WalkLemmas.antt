@@ -38,12 +38,12 @@ pub found-made : {V : Type 0} (script : Script) (b : Blackboard V) (l : Line) (c
     → record { reply = reply; looks = looks; due = due; clock = clock } ≡ found_on script b l clock
 found-made script b l clock reply accepted looks due reply-is accepted-is looks-is due-is =
     let looks-so = looks-is ∙ ap (λ (a : Bool). list_any (λ (c : Channel). a && takes script c l)
-        script.channels && not (is_process_line script l)) accepted-is in
+    script.channels && not (is_process_line script l)) accepted-is in
     let due-so = due-is ∙ ap (λ (a : Bool). list_any (λ (c : Channel).
-        c.timer && (a && takes script c l)) script.channels) accepted-is in
+    c.timer && (a && takes script c l)) script.channels) accepted-is in
     let made : record { reply = reply; looks = looks; due = due; clock = clock }
-        ≡ found_with script reply l clock =
-        λ j. record { reply = reply; looks = looks-so j; due = due-so j; clock = clock } in
+    ≡ found_with script reply l clock =
+    λ j. record { reply = reply; looks = looks-so j; due = due-so j; clock = clock } in
     made ∙ ap (λ (r : Option replies.Reply). found_with script r l clock) reply-is
 
 -- a flush is busy with another thread, of which a flush of the channel was merged
@@ -57,7 +57,7 @@ busy-is script journal marks are thread holder channel l r has l-is r-is other h
     let merged = merged-any script journal holder channel marks are in
     subst (λ (x : Line). IsTrue has ↔ IsFlushReply script journal thread x r) (sym l-is)
     (subst (λ (x : replies.Reply). IsTrue has
-        ↔ IsFlushReply script journal thread (line.Flush channel) x) (sym r-is)
+    ↔ IsFlushReply script journal thread (line.Flush channel) x) (sym r-is)
     ((λ (h : IsTrue has). (other, merged.0 (sym has-is ∙ h))), (λ f. has-is ∙ merged.1 f.1)))
 
 -- a line whose finds are known

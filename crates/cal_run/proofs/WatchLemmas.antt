@@ -74,55 +74,55 @@ module _ {t0 t1 : Tree} (grows : Grows t0 t1) (script : Script) (history : List 
     (shared : IsProcess t1 script history process) (p : Bool) (p-is : p ≡ is_process_line script l)
     (seen : process.count ≡ (if p then note.seen - 1 else note.seen)) (found : Found)
     (by_nodes : found ≡ found_on script (if p then process.board else watch.board) l watch.clock)
-    where
-  still : Holds t1 script watch.board state.board
-  still = Holds-Grows grows script watch.board state.board is.mine
+  where
+    still : Holds t1 script watch.board state.board
+    still = Holds-Grows grows script watch.board state.board is.mine
 
-  seen-is : process.count ≡ seen_before script history l note
-  seen-is = seen ∙ ap (λ (q : Bool). if q then note.seen - 1 else note.seen) p-is
+    seen-is : process.count ≡ seen_before script history l note
+    seen-is = seen ∙ ap (λ (q : Bool). if q then note.seen - 1 else note.seen) p-is
 
-  pub found-of : found ≡ found_of script history l note state
-  found-of = by_nodes
-      ∙ found-is t1 script history l note state watch.board process watch.clock still shared seen-is
-      is.clock p p-is
+    pub found-of : found ≡ found_of script history l note state
+    found-of = by_nodes
+        ∙ found-is t1 script history l note state watch.board process watch.clock still shared
+        seen-is is.clock p p-is
 
-  accepts : (is_accepted found.reply && not p)
-      ≡ (is_accepted (found_reply script history l note state) && not (is_process_line script l))
-  accepts =
-      ap (λ (f : Found). is_accepted f.reply && not p) found-of
-      ∙ ap (λ (q : Bool). is_accepted (found_reply script history l note state) && not q) p-is
+    accepts : (is_accepted found.reply && not p)
+        ≡ (is_accepted (found_reply script history l note state) && not (is_process_line script l))
+    accepts =
+        ap (λ (f : Found). is_accepted f.reply && not p) found-of
+        ∙ ap (λ (q : Bool). is_accepted (found_reply script history l note state) && not q) p-is
 
-  -- the thread by whether the line changes it
-  kept-by : {t : Tree} (b : Bool) → (is_accepted found.reply && not p) ≡ b → (new : Watch)
-      → IsWatched t script history new (if b then changed script history l note state else state)
-      → IsWatched t script history new (state_after script history l note state)
-  kept-by {t} b so new kept =
-      subst (λ (b : Bool). IsWatched t script history new
-      (if b then changed script history l note state else state)) (sym so ∙ accepts) kept
+    -- the thread by whether the line changes it
+    kept-by : {t : Tree} (b : Bool) → (is_accepted found.reply && not p) ≡ b → (new : Watch)
+        → IsWatched t script history new (if b then changed script history l note state else state)
+        → IsWatched t script history new (state_after script history l note state)
+    kept-by {t} b so new kept =
+        subst (λ (b : Bool). IsWatched t script history new
+        (if b then changed script history l note state else state)) (sym so ∙ accepts) kept
 
-  -- a line that isn't accepted, or is the process's, leaves the thread
-  pub refused-watch : (is_accepted found.reply && not p) ≡ false → (new : Watch)
-      → new.board ≡ watch.board → new.process ≡ process → new.clock ≡ watch.clock
-      → IsWatched t1 script history new (state_after script history l note state)
-  refused-watch refused new board seen-board clock = kept-by false refused new (record {
-    mine = subst (λ b. Holds t1 script b state.board) (sym board) still;
-    process = subst (IsProcess t1 script history) (sym seen-board) shared;
-    clock = clock ∙ is.clock;
-  })
+    -- a line that isn't accepted, or is the process's, leaves the thread
+    pub refused-watch : (is_accepted found.reply && not p) ≡ false → (new : Watch)
+        → new.board ≡ watch.board → new.process ≡ process → new.clock ≡ watch.clock
+        → IsWatched t1 script history new (state_after script history l note state)
+    refused-watch refused new board seen-board clock = kept-by false refused new (record {
+      mine = subst (λ b. Holds t1 script b state.board) (sym board) still;
+      process = subst (IsProcess t1 script history) (sym seen-board) shared;
+      clock = clock ∙ is.clock;
+    })
 
-  -- and another changes it
-  pub accepted-watch : (is_accepted found.reply && not p) ≡ true → {t2 : Tree} → Grows t1 t2
-      → (new : Watch)
-      → HoldsThen t1 t2 script watch.board new.board (λ b. board_placed script b (operation_of l))
-      → new.process ≡ process → new.clock ≡ clock_after watch.clock l
-      → IsWatched t2 script history new (state_after script history l note state)
-  accepted-watch accepted {t2} more new becomes seen-board clock =
-      kept-by true accepted new (record {
-        mine = becomes state.board still;
-        process = subst (IsProcess t2 script history) (sym seen-board) (record {
-          holds = Holds-Grows more script process.board
-              (process_board script history process.count) shared.holds;
-          within = shared.within;
-        });
-        clock = clock ∙ ap (λ n. clock_after n l) is.clock;
-      })
+    -- and another changes it
+    pub accepted-watch : (is_accepted found.reply && not p) ≡ true → {t2 : Tree} → Grows t1 t2
+        → (new : Watch)
+        → HoldsThen t1 t2 script watch.board new.board (λ b. board_placed script b (operation_of l))
+        → new.process ≡ process → new.clock ≡ clock_after watch.clock l
+        → IsWatched t2 script history new (state_after script history l note state)
+    accepted-watch accepted {t2} more new becomes seen-board clock =
+        kept-by true accepted new (record {
+          mine = becomes state.board still;
+          process = subst (IsProcess t2 script history) (sym seen-board) (record {
+            holds = Holds-Grows more script process.board
+                (process_board script history process.count) shared.holds;
+            within = shared.within;
+          });
+          clock = clock ∙ ap (λ n. clock_after n l) is.clock;
+        })

@@ -20,12 +20,7 @@ pub(crate) struct Found {
 }
 
 /// What a line finds by the board that it acts on.
-pub(crate) fn found_on(
-    script: &Script,
-    board: &Board<NodeNumber>,
-    line: Line,
-    clock: u64,
-) -> Found
+pub(crate) fn found_on(script: &Script, board: &Board<NodeNumber>, line: Line, clock: u64) -> Found
     ensures { result ≡ found_on script.now board.now line clock }
 {
     let reply = reply_to_line(script, line, board);

@@ -114,7 +114,11 @@ fn test_line(
     let length = journal.ops.as_slice().len() as u64;
     tests.falls = first_of(tests.falls, row, spot.before <= note.seen);
     tests.past = first_of(tests.past, row, note.seen <= length);
-    tests.own = first_of(tests.own, row, is_seen_own(script, journal, spot, line, note));
+    tests.own = first_of(
+        tests.own,
+        row,
+        is_seen_own(script, journal, spot, line, note),
+    );
     tests.merged.mark(spot.thread, line, note);
     tests.row = row + 1;
 }
@@ -125,13 +129,7 @@ pub(crate) fn first_of(first: Option<usize>, row: usize, kept: bool) -> Option<u
 {
     match first {
         Some(_) => first,
-        None => {
-            if kept {
-                None
-            } else {
-                Some(row)
-            }
-        }
+        None => { if kept { None } else { Some(row) } }
     }
 }
 
