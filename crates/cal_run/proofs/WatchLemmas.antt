@@ -83,8 +83,8 @@ module _ {t0 t1 : Tree} (grows : Grows t0 t1) (script : Script) (history : List 
 
     pub found-of : found ≡ found_of script history l note state
     found-of = by_nodes
-        ∙ found-is t1 script history l note state watch.board process watch.clock still shared seen-is
-        is.clock p p-is
+        ∙ found-is t1 script history l note state watch.board process watch.clock still shared
+        seen-is is.clock p p-is
 
     accepts : (is_accepted found.reply && not p)
         ≡ (is_accepted (found_reply script history l note state) && not (is_process_line script l))
@@ -116,12 +116,13 @@ module _ {t0 t1 : Tree} (grows : Grows t0 t1) (script : Script) (history : List 
         → HoldsThen t1 t2 script watch.board new.board (λ b. board_placed script b (operation_of l))
         → new.process ≡ process → new.clock ≡ clock_after watch.clock l
         → IsWatched t2 script history new (state_after script history l note state)
-    accepted-watch accepted {t2} more new becomes seen-board clock = kept-by true accepted new (record {
-      mine = becomes state.board still;
-      process = subst (IsProcess t2 script history) (sym seen-board) (record {
-        holds = Holds-Grows more script process.board (process_board script history process.count)
-            shared.holds;
-        within = shared.within;
-      });
-      clock = clock ∙ ap (λ n. clock_after n l) is.clock;
-    })
+    accepted-watch accepted {t2} more new becomes seen-board clock =
+        kept-by true accepted new (record {
+          mine = becomes state.board still;
+          process = subst (IsProcess t2 script history) (sym seen-board) (record {
+            holds = Holds-Grows more script process.board
+                (process_board script history process.count) shared.holds;
+            within = shared.within;
+          });
+          clock = clock ∙ ap (λ n. clock_after n l) is.clock;
+        })

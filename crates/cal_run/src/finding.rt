@@ -1,5 +1,5 @@
-ghost use Rattle.std.specs.Prelude.{◌≡◌, ◌<◌, ◌≤◌, ◌+◌, ◌∷◌, [], ◌++◌, length, map, zip, All, IfOk};
-ghost use Rattle.std.specs.Prelude.{List, OnOk, slice_index_or};
+ghost use Rattle.std.specs.Prelude.{◌≡◌, ◌<◌, ◌≤◌, ◌+◌, ◌∷◌, [], ◌++◌, length, map, zip, All};
+ghost use Rattle.std.specs.Prelude.{IfOk, List, OnOk, slice_index_or};
 ghost use Rattle.cal_context.specs.Tree.{Grows};
 ghost use Rattle.cal_run.specs.Broken.{Row, all_rows};
 ghost use Rattle.cal_run.specs.Broken.{Noted, Start};
@@ -25,8 +25,8 @@ use cal_script::{Journal, Line, LineNote, Script};
 use cal_value::OutOfMemory;
 use std::alloc::Global;
 
-/// What the rows so far say of the rules on what lines find: how many rows they are, and the first of
-/// them that breaks each rule.
+/// What the rows so far say of the rules on what lines find: how many rows they are, and the first
+/// of them that breaks each rule.
 #[derive(Clone, Copy, Debug, PartialEq, Eq)]
 pub(crate) struct FoundTests {
     pub row: usize,
@@ -120,7 +120,8 @@ fn test_thread(
     requires noted { length notes.now ≡ length lines.now }
     requires order { SeesInOrder script.now journal.now.ops 0 (zip lines.now notes.now) }
     requires room { tests.old.row + length lines.now ≤ 2000000 }
-    ensures told { OnOk result ((front : List Row) → FoundTell script.now journal.now tests.old front
+    ensures told { OnOk result ((front : List Row)
+        → FoundTell script.now journal.now tests.old front
         → FoundTell script.now journal.now tests.new (front ++ map Noted
         (noted_from script.now journal.now.ops thread 1 0 at_start (zip lines.now notes.now)))) }
     ensures row { OnOk result (tests.new.row ≡ tests.old.row + length lines.now) }
@@ -158,7 +159,8 @@ fn test_line(
     ensures told { (front : List Row) (state : ThreadState)
         → found ≡ found_of script.now journal.now.ops line note state
         → FoundTell script.now journal.now tests.old front
-        → FoundTell script.now journal.now tests.new (front ++ Noted (noted spot line note state) ∷ []) }
+        → FoundTell script.now journal.now tests.new
+        (front ++ Noted (noted spot line note state) ∷ []) }
     ensures row { tests.new.row ≡ tests.old.row + 1 }
 {
     let row = tests.row;

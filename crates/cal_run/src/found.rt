@@ -9,8 +9,8 @@ use cal_board::Board;
 use cal_context::NodeNumber;
 use cal_script::{Line, Reply, Script};
 
-/// What a line finds: its reply, but for a flush; whether it looks; whether a reading is due; and the
-/// script clock.
+/// What a line finds: its reply, but for a flush; whether it looks; whether a reading is due; and
+/// the script clock.
 #[derive(Clone, Copy, Debug, PartialEq, Eq)]
 pub(crate) struct Found {
     pub reply: Option<Reply>,

@@ -1,5 +1,5 @@
-ghost use Rattle.std.specs.Prelude.{◌≡◌, ◌<◌, ◌≤◌, ◌+◌, ◌↔◌, ◌∷◌, [], ◌++◌, length, map, zip, All, IsTrue};
-ghost use Rattle.std.specs.Prelude.{IfOk, List, Some, slice_get};
+ghost use Rattle.std.specs.Prelude.{◌≡◌, ◌<◌, ◌≤◌, ◌+◌, ◌↔◌, ◌∷◌, [], ◌++◌, length, map, zip};
+ghost use Rattle.std.specs.Prelude.{All, IfOk, IsTrue, List, Some, slice_get};
 ghost use Rattle.cal_run.specs.Broken.{Row, all_rows};
 ghost use Rattle.cal_run.specs.Broken.{Noted};
 ghost use Rattle.cal_run.specs.Checking.{IsChannel, SeenTell, merged_channel, next_first, noted};
@@ -106,7 +106,8 @@ fn test_line(
     requires room { tests.old.row < 2000000 }
     ensures told { (front : List Row) (state : ThreadState)
         → SeenTell script.now journal.now tests.old front
-        → SeenTell script.now journal.now tests.new (front ++ Noted (noted spot line note state) ∷ []) }
+        → SeenTell script.now journal.now tests.new
+        (front ++ Noted (noted spot line note state) ∷ []) }
     ensures row { tests.new.row ≡ tests.old.row + 1 }
 {
     let row = tests.row;

@@ -60,7 +60,8 @@ impl Watch {
     ) -> Result<Found, OutOfMemory>
         requires runnable { IsRunnable script.now }
         requires numbered { AreNumbered context.old script.now numbers.now }
-        requires placed { IsPlaced script.now.attributes script.now.channels script.now.values line }
+        requires placed { IsPlaced script.now.attributes script.now.channels script.now.values
+            line }
         requires watched { (state : ThreadState)
             × IsWatched context.old script.now history.now self.old state }
         requires may { MaySee script.now history.now self.old.process.count line note }

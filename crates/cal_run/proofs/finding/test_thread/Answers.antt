@@ -1,4 +1,5 @@
-use Rattle.std.proofs.Common.{◌≡◌, ◌+◌, [], ◌∷◌, ◌++◌, subst, sym, refl, append-nil, append_assoc, arith}
+use Rattle.std.proofs.Common.{◌≡◌, ◌+◌, [], ◌∷◌, ◌++◌, subst, sym, refl, arith}
+use Rattle.std.proofs.Common.{append-nil, append_assoc}
 use Rattle.cal_context.proofs.CallerLemmas.{Grows-refl, Grows-trans}
 use Rattle.cal_run.proofs.NumberLemmas.{AreNumbered-Grows}
 use Rattle.cal_run.proofs.RunLemmas.{order-drop}

@@ -1,4 +1,5 @@
-use Rattle.std.proofs.Common.{◌≡◌, ◌<◌, ◌≤◌, List, [], ◌∷◌, ◌++◌, length, map, get_or, subst, refl, arith}
+use Rattle.std.proofs.Common.{◌<◌, ◌≤◌, List, [], ◌∷◌, ◌++◌, length, map, get_or}
+use Rattle.std.proofs.Common.{subst, refl, arith}
 use Rattle.std.specs.Prelude.{zip}
 use Rattle.cal_run.proofs.TellLemmas.{room-drop, rows-done, seen-start}
 use Rattle.cal_run.proofs.WalkLemmas.{no_note, notes-long, rows-next}

@@ -13,5 +13,6 @@ invariant-loop-thread l = record {
       (enumerate_from l.thread (drop l.thread (zip l.script.threads l.journal.threads)))
       ≡ all_rows l.script l.journal)
       × SeenTell l.script l.journal l.tests rows;
-  room : l.tests.row + sum_by length (drop l.thread l.script.threads) + length (drop l.thread l.script.threads) ≤ 2000000;
+  room : l.tests.row + sum_by length (drop l.thread l.script.threads)
+      + length (drop l.thread l.script.threads) ≤ 2000000;
 }

@@ -1,4 +1,4 @@
-use Rattle.std.proofs.Common.{◌≡◌, ℕ, ◌+◌, ◌++◌, List, drop, map}
+use Rattle.std.proofs.Common.{◌≡◌, ◌+◌, ◌++◌, List, drop, map}
 use Rattle.std.specs.Prelude.{zip}
 use Rattle.cal_run.specs.Broken.{Row}
 use Rattle.cal_run.specs.Broken.{Noted}
@@ -11,8 +11,10 @@ use Rattle.cal_run.proofs.seen.test_thread.Given as goal
 abbrev pub invariant-loop-place : goal.invariant-loop-place
 invariant-loop-place l = record {
   so_far : (rows : List Row) × (state : ThreadState)
-      × (rows ++ map Noted (noted_from l.script l.journal.ops l.thread (l.place + 1) l.before state (drop l.place (zip l.lines l.notes)))
+      × (rows ++ map Noted (noted_from l.script l.journal.ops l.thread (l.place + 1) l.before state
+      (drop l.place (zip l.lines l.notes)))
       ≡ map Noted (noted_from l.script l.journal.ops l.thread 1 0 at_start (zip l.lines l.notes)))
-      × ((front : List Row) → SeenTell l.script l.journal l.fn.tests front → SeenTell l.script l.journal l.tests (front ++ rows));
+      × ((front : List Row) → SeenTell l.script l.journal l.fn.tests front
+      → SeenTell l.script l.journal l.tests (front ++ rows));
   row : l.tests.row ≡ l.fn.tests.row + l.place;
 }
