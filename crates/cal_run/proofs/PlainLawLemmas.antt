@@ -208,7 +208,7 @@ if-false false x y e = refl
 -- ---- a line
 
 -- every rule of a line at once
-record Keeps (script : Script) (n : NotedLine) : Type 0 where
+pub record Keeps (script : Script) (n : NotedLine) : Type 0 where
   pub rises : SeenRises script (plain script) n
   pub within : SeenWithin script (plain script) n
   pub own : SeenOwn script (plain script) n
