@@ -1,4 +1,5 @@
-ghost use Rattle.std.specs.Prelude.{◌≡◌, ◌<◌, ◌≤◌, [], ◌∷◌, ◌++◌, length, map, sum, IfOk, OnOk, Some};
+ghost use Rattle.std.specs.Prelude.{◌≡◌, ◌<◌, ◌≤◌, [], ◌∷◌, ◌++◌, length, map, sum};
+ghost use Rattle.std.specs.Prelude.{IfOk, OnOk, Some};
 ghost use Rattle.cal_context.specs.Tree.{attribute_at};
 ghost use Rattle.cal_run.specs.Adding.{AddsEntries, AddsShown, MayHavePlaces, ShowsSome};
 ghost use Rattle.cal_run.specs.Held.{HasPlaces, Shows};
@@ -178,8 +179,27 @@ fn add_inclusive(
     }
 }
 
-/// Adds what the probes answer on the thread's board.
+/// Adds what the probes answer on the thread's board, which is walked only where there are some.
 fn add_probes(
+    script: &Script,
+    numbers: &Numbers,
+    probes: &[ProbeKind],
+    moment: &Moment,
+    context: &Context,
+    out: &mut Vec<Immediate>,
+) -> Result<(), OutOfMemory>
+    requires numbered { AreNumbered context.now script.now numbers.now }
+    ensures { OnOk result (AddsShown context.now script.now moment.now out.old.items out.new.items
+        (λ s. probe_entries script.now s probes.now)) }
+{
+    if probes.is_empty() {
+        Ok(())
+    } else {
+        add_answers(script, numbers, probes, moment, context, out)
+    }
+}
+
+fn add_answers(
     script: &Script,
     numbers: &Numbers,
     probes: &[ProbeKind],
