@@ -1,16 +1,15 @@
 -- The threads of a lawful journal see in order.
-use Rattle.std.proofs.Common.{◌≡◌, ℕ, suc, zero, ◌+◌, ◌-◌, ◌<◌, ◌≤◌, List, [], ◌∷◌, ◌++◌, true, length, get_or, subst, sym, refl, arith}
+use Rattle.std.proofs.Common.{ℕ, suc, ◌+◌, List, [], ◌∷◌, ◌++◌, subst, arith}
 use Rattle.std.specs.Prelude.{zip, flat_map}
 use Rattle.std.specs.List.{All, enumerate_from}
 use Rattle.std.proofs.lemmas.List.{get_or_append_left, length-append}
 use Rattle.std.proofs.lemmas.List.Elements.{All-cons, All-nil}
-use Rattle.cal_run.specs.Lawful.{Lawful, NotedLine, SeenOwn, SeenRises, SeenWithin, noted_from, noted_of}
-use Rattle.cal_run.specs.Lines.{is_process_line}
+use Rattle.cal_run.specs.Lawful.{Lawful, NotedLine, SeenOwn, SeenRises, SeenWithin, noted_from}
+use Rattle.cal_run.specs.Lawful.{noted_of}
 use Rattle.cal_run.specs.Seeing.{CanBeRead, MaySee, SeesInOrder}
 use Rattle.cal_run.specs.Steps.{ThreadState, at_start, state_after}
 use Rattle.cal_script.specs.declared.journal.Journal.{Journal}
 use Rattle.cal_script.specs.declared.journal.LineNote.{LineNote}
-use Rattle.cal_script.specs.declared.journal.Placed.{Placed}
 use Rattle.cal_script.specs.declared.journal.ThreadNote.{ThreadNote}
 use Rattle.cal_script.specs.declared.script.Line.{Line}
 use Rattle.cal_script.specs.declared.script.Script.{Script}
@@ -36,15 +35,24 @@ module _ (script : Script) (journal : Journal) where
       → SeesInOrder script journal.ops before ls
   order_from thread number before state [] all = tt
   order_from thread number before state (l ∷ ls) all =
-      let n : NotedLine = record { thread = thread; number = number; line = l.0; note = l.1; before = before; state = state } in
+      let n : NotedLine = record {
+        thread = thread;
+        number = number;
+        line = l.0;
+        note = l.1;
+        before = before;
+        state = state;
+      } in
       let here : Rule n = all 0 n (omega arith) in
       let may : MaySee script journal.ops before l.0 l.1 = record {
         rises = here.0;
         own = λ is. (here.2 is).before;
         within = here.1;
       } in
-      let rest = order_from thread (number + 1) l.1.seen (state_after script journal.ops l.0 l.1 state) ls
-      (all-rest Rule n (noted_from script journal.ops thread (number + 1) l.1.seen (state_after script journal.ops l.0 l.1 state) ls) all) in
+      let rest = order_from thread (number + 1) l.1.seen
+      (state_after script journal.ops l.0 l.1 state) ls
+      (all-rest Rule n (noted_from script journal.ops thread (number + 1) l.1.seen
+      (state_after script journal.ops l.0 l.1 state) ls) all) in
       (may, rest)
 
   abbrev InOrder : List Line × ThreadNote → Type 0
@@ -55,7 +63,8 @@ module _ (script : Script) (journal : Journal) where
   threads_in_order k [] all = All-nil InOrder
   threads_in_order k (t ∷ ts) all =
       let one : List NotedLine = noted_of script journal.ops (k, t) in
-      let more : List NotedLine = flat_map (noted_of script journal.ops) (enumerate_from (k + 1) ts) in
+      let more : List NotedLine =
+      flat_map (noted_of script journal.ops) (enumerate_from (k + 1) ts) in
       All-cons InOrder t ts
       (order_from k 1 0 at_start (zip t.0 t.1.lines) (all-front Rule one more all))
       (threads_in_order (k + 1) ts (all-back Rule one more all))

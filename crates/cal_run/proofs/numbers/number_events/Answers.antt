@@ -10,8 +10,10 @@ loop-attribute-preserved c =
     let old = c.loop-attribute.invariant in
     let grows = c.number_events_of.ensures.grows in
     record {
-      numbered = subst (λ ns. AllZip (EventsStand c.number_events_of.new.context) ns (take (c.loop-attribute.attribute-index + 1) c.args.attributes.now))
+      numbered = subst (λ ns. AllZip (EventsStand c.number_events_of.new.context) ns
+          (take (c.loop-attribute.attribute-index + 1) c.args.attributes.now))
           (sym c.in_ok-push.ensures.items)
-          (events_more grows _ _ _ _ _ old.numbered c.in_ok-number_events_of.ensures.numbered c.attribute-item.is c.loop-attribute-test.true);
+          (events_more grows _ _ _ _ _ old.numbered c.in_ok-number_events_of.ensures.numbered
+          c.attribute-item.is c.loop-attribute-test.true);
       grows = Grows-trans _ _ _ old.grows grows;
     }

@@ -14,5 +14,6 @@ returns c =
     on_ok_weaker c.push_probes.result (λ added s shows.
     subst (λ (ds : List ℕ). AddsEntries t c.args.out.now.items c.push_probes.new.out.items
     (map (λ p. numbered (probe_of p) (probe_value p ds)) c.args.probes.now))
-    (c.depths-count.ensures.depths ∙ depths-Stand (NodeStands t) held s.mine shows.mine.stands) added)
+    (c.depths-count.ensures.depths ∙ depths-Stand (NodeStands t) held s.mine shows.mine.stands)
+    added)
     c.push_probes.ensures
