@@ -5,7 +5,7 @@ use Rattle.cal_run.specs.Adding.{AddsEntries}
 use Rattle.cal_run.specs.Snapshots.{numbered, probe_of, probe_value}
 use Rattle.cal_run.proofs.ServiceLemmas.{depths-Stand}
 use Rattle.cal_board.specs.Contexts.{NodeStands}
-use Rattle.cal_run.proofs.services.add_answers.Goals as goal
+use Rattle.cal_run.proofs.probes.add_answers.Goals as goal
 
 pub returns : goal.returns
 returns c =

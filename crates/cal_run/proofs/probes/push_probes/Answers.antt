@@ -4,7 +4,7 @@ use Rattle.cal_run.specs.Adding.{AddsEntries}
 use Rattle.cal_run.specs.Snapshots.{numbered, probe_of, probe_value}
 use Rattle.cal_run.proofs.FillLemmas.{adds-next, adds-number}
 use Rattle.cal_script.specs.declared.script.ProbeKind.{ProbeKind}
-use Rattle.cal_run.proofs.services.push_probes.Goals as goal
+use Rattle.cal_run.proofs.probes.push_probes.Goals as goal
 
 pub loop-probe-preserved : goal.loop-probe-preserved
 loop-probe-preserved c =
