@@ -1,6 +1,5 @@
 use Rattle.std.proofs.Common.{ℕ, List, map, subst, ◌∙◌}
 use Rattle.std.proofs.lemmas.Result.{on_ok_weaker}
-use Rattle.cal_board.specs.Blackboard.{depths}
 use Rattle.cal_run.specs.Adding.{AddsEntries}
 use Rattle.cal_run.specs.Snapshots.{numbered, probe_of, probe_value}
 use Rattle.cal_run.proofs.ServiceLemmas.{depths-Stand}
