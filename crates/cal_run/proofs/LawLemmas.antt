@@ -1,5 +1,5 @@
 -- The threads of a lawful journal see in order.
-use Rattle.std.proofs.Common.{ℕ, suc, ◌+◌, ◌-◌, List, [], ◌∷◌, ◌++◌, subst, arith}
+use Rattle.std.proofs.Common.{ℕ, suc, ◌+◌, List, [], ◌∷◌, ◌++◌, subst, arith}
 use Rattle.std.specs.Prelude.{zip, flat_map}
 use Rattle.std.specs.List.{All, enumerate_from}
 use Rattle.std.proofs.lemmas.List.{get_or_append_left, length-append}
@@ -40,8 +40,7 @@ module _ (script : Script) (journal : Journal) where
         number = number;
         line = l.0;
         note = l.1;
-        before
-            = before;
+        before = before;
         state = state;
       } in
       let here : Rule n = all 0 n (omega arith) in
@@ -64,8 +63,8 @@ module _ (script : Script) (journal : Journal) where
   threads_in_order k [] all = All-nil InOrder
   threads_in_order k (t ∷ ts) all =
       let one : List NotedLine = noted_of script journal.ops (k, t) in
-      let more : List NotedLine = flat_map (noted_of script journal.ops)
-      (enumerate_from (k + 1) ts) in
+      let more : List NotedLine =
+      flat_map (noted_of script journal.ops) (enumerate_from (k + 1) ts) in
       All-cons InOrder t ts
       (order_from k 1 0 at_start (zip t.0 t.1.lines) (all-front Rule one more all))
       (threads_in_order (k + 1) ts (all-back Rule one more all))

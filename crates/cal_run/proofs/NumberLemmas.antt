@@ -1,5 +1,6 @@
 -- Numbers stay what they are while the context grows, and one more is added to a list.
-use Rattle.std.proofs.Common.{◌≡◌, ℕ, suc, zero, ◌+◌, ◌<◌, ◌≤◌, List, [], ◌∷◌, ◌++◌, length, get_or, map, take, sym, ap, subst, ◌∙◌, inl, inr, arith}
+use Rattle.std.proofs.Common.{◌≡◌, ℕ, suc, zero, ◌+◌, ◌<◌, List, [], ◌∷◌, ◌++◌, length, get_or}
+use Rattle.std.proofs.Common.{take, sym, ap, subst, ◌∙◌, inl, inr, arith}
 use Rattle.std.specs.List.{AllZip}
 use Rattle.std.proofs.lemmas.List.{length-take, map-append, take_more}
 use Rattle.std.proofs.lemmas.List.Elements.{All-push}
@@ -7,7 +8,8 @@ use Rattle.std.proofs.lemmas.Slice.Zip.{AllZip-long}
 use Rattle.std.proofs.lemmas.Option.{get_or_from_slice_get, slice_get_within}
 use Rattle.cal_board.proofs.StandingLemmas.{AllZip-append, AllZip-weaken}
 use Rattle.cal_context.proofs.ListLemmas.{IsFront-trans, map-alike}
-use Rattle.cal_context.proofs.CallerLemmas.{attribute_at-Grows, value_at-Grows, within_attributes, within_values}
+use Rattle.cal_context.proofs.CallerLemmas.{attribute_at-Grows, value_at-Grows, within_attributes}
+use Rattle.cal_context.proofs.CallerLemmas.{within_values}
 use Rattle.cal_context.specs.Children.{AddsAttribute, AddsValue}
 use Rattle.cal_context.specs.Lists.{Adds}
 use Rattle.cal_context.specs.Tree.{Tree, Grows, no_attribute, no_value, value_at}
@@ -22,7 +24,8 @@ use Rattle.cal_value.specs.declared.attribute.Attribute.{Attribute}
 use Rattle.cal_value.specs.declared.variant.Variant.{Variant}
 
 -- what was added has its number
-pub IsNumber-added : (old new : Tree) (n : AttributeNumber) (a : Attribute) → AddsAttribute old a new n → IsNumber new n a
+pub IsNumber-added : (old new : Tree) (n : AttributeNumber) (a : Attribute)
+    → AddsAttribute old a new n → IsNumber new n a
 IsNumber-added old new n a added = record {
   within = slice_get_within new.attributes n.0 a added.attributes.number;
   is = get_or_from_slice_get new.attributes n.0 a no_attribute added.attributes.number;
@@ -35,24 +38,30 @@ module _ {old new : Tree} (grows : Grows old new) where
     is = attribute_at-Grows grows n is.within ∙ is.is;
   }
 
-  pub EventsStand-Grows : (ns : EventNumbers) (a : Attribute) → EventsStand old ns a → EventsStand new ns a
+  pub EventsStand-Grows : (ns : EventNumbers) (a : Attribute) → EventsStand old ns a
+      → EventsStand new ns a
   EventsStand-Grows ns a is = record {
     begin = IsNumber-Grows ns.begin _ is.begin;
     end = IsNumber-Grows ns.end _ is.end;
     set = IsNumber-Grows ns.set _ is.set;
   }
 
-  pub ValuesStand-Grows : (ns : List ValueNumber) (xs : List Variant) → ValuesStand old ns xs → ValuesStand new ns xs
+  pub ValuesStand-Grows : (ns : List ValueNumber) (xs : List Variant) → ValuesStand old ns xs
+      → ValuesStand new ns xs
   ValuesStand-Grows ns xs is = record {
-    values = map-alike (value_at new) (value_at old) ns (λ k d l. value_at-Grows grows (get_or ns k d) (is.within k d l)) ∙ is.values;
+    values = map-alike (value_at new) (value_at old) ns
+        (λ k d l. value_at-Grows grows (get_or ns k d) (is.within k d l)) ∙ is.values;
     within = λ k d l. within_values grows _ (is.within k d l);
   }
 
-  pub AreNumbered-Grows : (script : Script) (ns : Numbers) → AreNumbered old script ns → AreNumbered new script ns
+  pub AreNumbered-Grows : (script : Script) (ns : Numbers) → AreNumbered old script ns
+      → AreNumbered new script ns
   AreNumbered-Grows script ns is = record {
-    attributes = IsFront-trans script.attributes old.attributes new.attributes is.attributes grows.attributes;
+    attributes = IsFront-trans script.attributes old.attributes new.attributes is.attributes
+        grows.attributes;
     values = ValuesStand-Grows ns.values.items script.values is.values;
-    events = AllZip-weaken (EventsStand old) (EventsStand new) EventsStand-Grows ns.events.items script.attributes is.events;
+    events = AllZip-weaken (EventsStand old) (EventsStand new) EventsStand-Grows ns.events.items
+        script.attributes is.events;
     duration = IsNumber-Grows ns.duration _ is.duration;
     inclusive = IsNumber-Grows ns.inclusive _ is.inclusive;
     depth = IsNumber-Grows ns.depth _ is.depth;
@@ -60,20 +69,26 @@ module _ {old new : Tree} (grows : Grows old new) where
   }
 
   -- one value more
-  pub values_more : (ns : List ValueNumber) (n : ValueNumber) (v : Variant) (xs : List Variant) (i : ℕ)
+  pub values_more : (ns : List ValueNumber) (n : ValueNumber) (v : Variant) (xs : List Variant)
+      (i : ℕ)
       → ValuesStand old ns (take i xs) → AddsValue old v new n → v ≡ get_or xs i v → i < length xs
       → ValuesStand new (ns ++ n ∷ []) (take (i + 1) xs)
   values_more ns n v xs i is added at below =
       let still = ValuesStand-Grows ns (take i xs) is in
-      let next : value_at new n ≡ get_or xs i v = get_or_from_slice_get new.values n.0 v no_value added.values.number ∙ at in
+      let next : value_at new n ≡ get_or xs i v =
+      get_or_from_slice_get new.values n.0 v no_value added.values.number ∙ at in
       record {
-        values = map-append (value_at new) ns (n ∷ []) ∙ (λ j. still.values j ++ next j ∷ []) ∙ sym (take_more xs i v below);
-        within = All-push (λ (m : ValueNumber). m.0 < length new.values) ns n still.within (slice_get_within new.values n.0 v added.values.number);
+        values = map-append (value_at new) ns (n ∷ []) ∙ (λ j. still.values j ++ next j ∷ [])
+            ∙ sym (take_more xs i v below);
+        within = All-push (λ (m : ValueNumber). m.0 < length new.values) ns n still.within
+            (slice_get_within new.values n.0 v added.values.number);
       }
 
   -- the events of one attribute more
-  pub events_more : (ns : List EventNumbers) (n : EventNumbers) (a : Attribute) (xs : List Attribute) (i : ℕ)
-      → AllZip (EventsStand old) ns (take i xs) → EventsStand new n a → a ≡ get_or xs i a → i < length xs
+  pub events_more : (ns : List EventNumbers) (n : EventNumbers) (a : Attribute)
+      (xs : List Attribute) (i : ℕ)
+      → AllZip (EventsStand old) ns (take i xs) → EventsStand new n a → a ≡ get_or xs i a
+      → i < length xs
       → AllZip (EventsStand new) (ns ++ n ∷ []) (take (i + 1) xs)
   events_more ns n a xs i is made at below =
       subst (AllZip (EventsStand new) (ns ++ n ∷ [])) (sym (take_more xs i a below))
@@ -82,8 +97,10 @@ module _ {old new : Tree} (grows : Grows old new) where
       (subst (EventsStand new n) at made, tt))
 
 -- one attribute more has its place as its number
-pub placed_more : (old new : Tree) (n : AttributeNumber) (a : Attribute) (xs : List Attribute) (i : ℕ)
-    → old.attributes ≡ take i xs → AddsAttribute old a new n → n.0 ≡ i → a ≡ get_or xs i a → i < length xs
+pub placed_more : (old new : Tree) (n : AttributeNumber) (a : Attribute) (xs : List Attribute)
+    (i : ℕ)
+    → old.attributes ≡ take i xs → AddsAttribute old a new n → n.0 ≡ i → a ≡ get_or xs i a
+    → i < length xs
     → new.attributes ≡ take (i + 1) xs
 placed_more old new n a xs i is added number at below = by added.attributes.adds
   where
@@ -99,7 +116,8 @@ placed_more old new n a xs i is added number at below = by added.attributes.adds
 
 -- what holds of two lists place by place holds at a place
 module _ {A B : Type 0} where
-  pub all_zip-at : (R : A → B → Type 0) (xs : List A) (ys : List B) (i : ℕ) (d : A) (e : B) → AllZip R xs ys
+  pub all_zip-at : (R : A → B → Type 0) (xs : List A) (ys : List B) (i : ℕ) (d : A) (e : B)
+      → AllZip R xs ys
       → i < length xs → R (get_or xs i d) (get_or ys i e)
   all_zip-at R [] ys i d e z l = absurd (omega (arith, l))
   all_zip-at R (x ∷ xs) [] i d e z l = absurd z
@@ -107,8 +125,11 @@ module _ {A B : Type 0} where
   all_zip-at R (x ∷ xs) (y ∷ ys) (suc i) d e z l = all_zip-at R xs ys i d e z.1 (omega (arith, l))
 
 -- the attributes of an attribute's events
-pub events-at : (t : Tree) (script : Script) (ns : Numbers) (i : ℕ) (e : EventNumbers) → AreNumbered t script ns
-    → i < length script.attributes → EventsStand t (get_or ns.events.items i e) (attribute_of script i)
+pub events-at : (t : Tree) (script : Script) (ns : Numbers) (i : ℕ) (e : EventNumbers)
+    → AreNumbered t script ns
+    → i < length script.attributes
+    → EventsStand t (get_or ns.events.items i e) (attribute_of script i)
 events-at t script ns i e is below =
     let long = AllZip-long (EventsStand t) ns.events.items script.attributes is.events in
-    all_zip-at (EventsStand t) ns.events.items script.attributes i e no_attribute is.events (omega (arith, below, long))
+    all_zip-at (EventsStand t) ns.events.items script.attributes i e no_attribute is.events
+    (omega (arith, below, long))

@@ -1,5 +1,7 @@
 -- Lines and threads are run one after another, each with its note.
-use Rattle.std.proofs.Common.{◌≡◌, ℕ, suc, zero, ◌+◌, ◌-◌, ◌<◌, ◌≤◌, List, [], ◌∷◌, ◌++◌, Bool, true, false, if◌then◌else◌, length, get_or, take, drop, ap, subst, sym, refl, ◌∙◌, append_assoc, append-nil, add-one, arith}
+use Rattle.std.proofs.Common.{◌≡◌, ℕ, suc, zero, ◌+◌, ◌-◌, ◌<◌, ◌≤◌, List, [], ◌∷◌, ◌++◌, Bool}
+use Rattle.std.proofs.Common.{true, false, if◌then◌else◌, length, get_or, take, drop, ap, subst}
+use Rattle.std.proofs.Common.{sym, refl, ◌∙◌, append_assoc, append-nil, add-one, arith}
 use Rattle.std.specs.Prelude.{flat_map, zip}
 use Rattle.std.specs.List.{All}
 use Rattle.std.proofs.lemmas.Grind.{flat_map-append}
@@ -23,7 +25,8 @@ use Rattle.cal_value.specs.declared.record.Rec.{Rec}
 
 module _ {A B : Type 0} where
   -- the rest of two lists, with the items of a place first
-  pub zip_drop : (xs : List A) (ys : List B) (i : ℕ) (d : A) (e : B) → i < length xs → length ys ≡ length xs
+  pub zip_drop : (xs : List A) (ys : List B) (i : ℕ) (d : A) (e : B) → i < length xs
+      → length ys ≡ length xs
       → drop i (zip xs ys) ≡ (get_or xs i d, get_or ys i e) ∷ drop (i + 1) (zip xs ys)
   zip_drop xs ys i d e l long = rw add-one (by xs ys i l long)
     where
@@ -35,13 +38,17 @@ module _ {A B : Type 0} where
       by (x ∷ xs) (y ∷ ys) (suc i) l long = by xs ys i (omega (arith, l)) (omega (arith, long))
 
   -- the same, with the items by name
-  pub zip_next : (xs : List A) (ys : List B) (i : ℕ) (x : A) (y : B) → x ≡ get_or xs i x → y ≡ get_or ys i y → i < length xs
+  pub zip_next : (xs : List A) (ys : List B) (i : ℕ) (x : A) (y : B) → x ≡ get_or xs i x
+      → y ≡ get_or ys i y → i < length xs
       → length ys ≡ length xs → drop i (zip xs ys) ≡ (x, y) ∷ drop (i + 1) (zip xs ys)
-  zip_next xs ys i x y ex ey l long = zip_drop xs ys i x y l long ∙ (λ j. (sym ex j, sym ey j) ∷ drop (i + 1) (zip xs ys))
+  zip_next xs ys i x y ex ey l long = zip_drop xs ys i x y l long
+      ∙ (λ j. (sym ex j, sym ey j) ∷ drop (i + 1) (zip xs ys))
 
 -- what the items of a list so far give was taken, and so was what the next one gives
-pub taken_more : {A : Type 0} (f : A → List Rec) (had mid has : List Rec → Type 0) (xs : List A) (i : ℕ) (d : A)
-    → i < length xs → TakesMore had mid (flat_map f (take i xs)) → TakesMore mid has (f (get_or xs i d))
+pub taken_more : {A : Type 0} (f : A → List Rec) (had mid has : List Rec
+    → Type 0) (xs : List A) (i : ℕ) (d : A)
+    → i < length xs → TakesMore had mid (flat_map f (take i xs))
+    → TakesMore mid has (f (get_or xs i d))
     → TakesMore had has (flat_map f (take (i + 1) xs))
 taken_more f had mid has xs i d below so_far next =
     let more : flat_map f (take (i + 1) xs) ≡ flat_map f (take i xs) ++ f (get_or xs i d) =
@@ -52,11 +59,14 @@ taken_more f had mid has xs i d below so_far next =
 
 -- ---- the threads of a run
 
-module _ (threads : List (List Line)) (notes : List ThreadNote) (i : ℕ) (ls : List Line) (note : ThreadNote)
-    (lines : ls ≡ get_or threads i ls) (noted : note ≡ get_or notes i note) (below : i < length threads)
+module _ (threads : List (List Line)) (notes : List ThreadNote) (i : ℕ) (ls : List Line)
+    (note : ThreadNote)
+    (lines : ls ≡ get_or threads i ls) (noted : note ≡ get_or notes i note)
+    (below : i < length threads)
     (long : length notes ≡ length threads) where
   thread-at : get_or (zip threads notes) i (ls, note) ≡ (ls, note)
-  thread-at = get_or-zip threads notes i (ls, note) below (omega (arith, below, long)) ∙ (λ j. (sym lines j, sym noted j))
+  thread-at = get_or-zip threads notes i (ls, note) below (omega (arith, below, long))
+      ∙ (λ j. (sym lines j, sym noted j))
 
   within : i < length (zip threads notes)
   within = (let both = length-zip threads notes in omega (arith, both, below, long))
@@ -67,28 +77,35 @@ module _ (threads : List (List Line)) (notes : List ThreadNote) (i : ℕ) (ls : 
 
   -- what the threads so far take was taken, and so was what this one takes
   pub thread-more : (f : List Line × ThreadNote → List Rec) (had mid has : List Rec → Type 0)
-      → TakesMore had mid (flat_map f (take i (zip threads notes))) → TakesMore mid has (f (ls, note))
+      → TakesMore had mid (flat_map f (take i (zip threads notes)))
+      → TakesMore mid has (f (ls, note))
       → TakesMore had has (flat_map f (take (i + 1) (zip threads notes)))
   thread-more f had mid has so_far next =
       taken_more f had mid has (zip threads notes) i (ls, note) within so_far
       (subst (λ t. TakesMore mid has (f t)) (sym thread-at) next)
 
 -- no thread is left
-pub threads-end : (threads : List (List Line)) (notes : List ThreadNote) (i : ℕ) (f : List Line × ThreadNote → List Rec)
-    (had has : List Rec → Type 0) → length threads ≤ i → TakesMore had has (flat_map f (take i (zip threads notes)))
+pub threads-end : (threads : List (List Line)) (notes : List ThreadNote) (i : ℕ)
+    (f : List Line × ThreadNote → List Rec)
+    (had has : List Rec → Type 0) → length threads ≤ i
+    → TakesMore had has (flat_map f (take i (zip threads notes)))
     → TakesMore had has (flat_map f (zip threads notes))
 threads-end threads notes i f had has past taken =
     let long = length-zip threads notes in
-    let all : take i (zip threads notes) ≡ zip threads notes = take_all i (zip threads notes) (omega (arith, past, long)) in
+    let all : take i (zip threads notes) ≡ zip threads notes =
+    take_all i (zip threads notes) (omega (arith, past, long)) in
     subst (λ ts. TakesMore had has (flat_map f ts)) all taken
 
 -- ---- the lines of a thread
 
 module _ (script : Script) (history : List Placed) where
-  module _ (lines : List Line) (notes : List LineNote) (i : ℕ) (l : Line) (n : LineNote) (line : l ≡ get_or lines i l)
-      (note : n ≡ get_or notes i n) (below : i < length lines) (long : length notes ≡ length lines) where
+  module _ (lines : List Line) (notes : List LineNote) (i : ℕ) (l : Line) (n : LineNote)
+      (line : l ≡ get_or lines i l)
+      (note : n ≡ get_or notes i n) (below : i < length lines)
+      (long : length notes ≡ length lines) where
     -- one line more is taken off those that are left
-    pub taken_from-drop : (channel : Channel) (state : ThreadState) (previous : ℕ) (taken all : List Rec)
+    pub taken_from-drop : (channel : Channel) (state : ThreadState) (previous : ℕ)
+        (taken all : List Rec)
         → taken ++ taken_from script history channel state previous (drop i (zip lines notes)) ≡ all
         → (taken ++ taken_in script history l n state channel previous)
         ++ taken_from script history channel (state_after script history l n state)
@@ -96,23 +113,30 @@ module _ (script : Script) (history : List Placed) where
         ≡ all
     taken_from-drop channel state previous taken all so_far =
         append_assoc taken _ _
-        ∙ ap (λ ls. taken ++ taken_from script history channel state previous ls) (sym (zip_next lines notes i l n line note below long))
+        ∙ ap (λ ls. taken ++ taken_from script history channel state previous ls)
+        (sym (zip_next lines notes i l n line note below long))
         ∙ so_far
 
     pub order-drop : (before : ℕ) → SeesInOrder script history before (drop i (zip lines notes))
-        → MaySee script history before l n × SeesInOrder script history n.seen (drop (i + 1) (zip lines notes))
-    order-drop before order = subst (SeesInOrder script history before) (zip_next lines notes i l n line note below long) order
+        → MaySee script history before l n
+        × SeesInOrder script history n.seen (drop (i + 1) (zip lines notes))
+    order-drop before order =
+        subst (SeesInOrder script history before) (zip_next lines notes i l n line note below long)
+        order
 
   -- no line is left
-  pub taken_from-end : (lines : List Line) (notes : List LineNote) (i : ℕ) (channel : Channel) (state : ThreadState) (previous : ℕ)
+  pub taken_from-end : (lines : List Line) (notes : List LineNote) (i : ℕ) (channel : Channel)
+      (state : ThreadState) (previous : ℕ)
       (had has : List Rec → Type 0) (taken all : List Rec) → length lines ≤ i
       → taken ++ taken_from script history channel state previous (drop i (zip lines notes)) ≡ all
       → TakesMore had has taken → TakesMore had has all
   taken_from-end lines notes i channel state previous had has taken all past so_far took =
       let long = length-zip lines notes in
-      let none : drop i (zip lines notes) ≡ [] = drop_all i (zip lines notes) (omega (arith, past, long)) in
+      let none : drop i (zip lines notes) ≡ [] =
+      drop_all i (zip lines notes) (omega (arith, past, long)) in
       subst (TakesMore had has)
-      (sym (append-nil taken) ∙ ap (λ ls. taken ++ taken_from script history channel state previous ls) (sym none) ∙ so_far) took
+      (sym (append-nil taken) ∙ ap
+      (λ ls. taken ++ taken_from script history channel state previous ls) (sym none) ∙ so_far) took
 
   seen-before-if : (p : Bool) (seen : ℕ) → (if p then seen - 1 else seen) ≤ seen
   seen-before-if true seen = omega arith
@@ -122,7 +146,8 @@ module _ (script : Script) (history : List Placed) where
   pub seen_before-within : (l : Line) (n : LineNote) → seen_before script history l n ≤ n.seen
   seen_before-within l n = seen-before-if (is_process_line script l) n.seen
 
-  pub can_run : (thread : Thread) (before : ℕ) (l : Line) (n : LineNote) → thread.process.count ≤ before
+  pub can_run : (thread : Thread) (before : ℕ) (l : Line) (n : LineNote)
+      → thread.process.count ≤ before
       → MaySee script history before l n → CanRun script history thread l n
   can_run thread before l n count may = record {
     some = λ is. (let own = may.own is in omega (arith, own));
@@ -130,6 +155,7 @@ module _ (script : Script) (history : List Placed) where
     within = may.within;
   }
     where
-      by : (p : Bool) → (p ≡ true → before < n.seen) → thread.process.count ≤ (if p then n.seen - 1 else n.seen)
+      by : (p : Bool) → (p ≡ true → before < n.seen)
+          → thread.process.count ≤ (if p then n.seen - 1 else n.seen)
       by true own = (let less = own refl in omega (arith, less, count))
       by false own = (let rises = may.rises in omega (arith, rises, count))

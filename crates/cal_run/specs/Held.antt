@@ -34,8 +34,8 @@ pub record IsKnown (script : Script) (b : Blackboard Variant) : Type 0 where
   pub as_values : All (λ (s : Slot Variant). AreKnown script.attributes s.opened) b.as_values
 
 -- A board of nodes stands for this board.
-pub record Holds (t : Tree) (script : Script) (held : Blackboard NodeNumber) (b : Blackboard Variant)
-    : Type 0 where
+pub record Holds (t : Tree) (script : Script) (held : Blackboard NodeNumber)
+    (b : Blackboard Variant) : Type 0 where
   pub stands : Stands (NodeStands t) held b
   pub known : IsKnown script b
 
@@ -50,7 +50,8 @@ HoldsThen was is script old new change =
     (b : Blackboard Variant) → Holds was script old b → Holds is script new (change b)
 
 -- The process's board after so many operations of a history.
-pub record IsProcess (t : Tree) (script : Script) (history : List Placed) (p : Process) : Type 0 where
+pub record IsProcess (t : Tree) (script : Script) (history : List Placed) (p : Process)
+    : Type 0 where
   pub holds : Holds t script p.board (process_board script history p.count)
   pub within : p.count ≤ length history
 

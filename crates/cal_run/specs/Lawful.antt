@@ -1,10 +1,9 @@
 -- When a journal is lawful for a script. (Giltmoth's rules.) The reader has seen to its form; of
 -- the nine rules left, each in its order here, the first that is broken is told.
-use Rattle.std.specs.Prelude.{◌≡◌, ℕ, ◌+◌, ◌-◌, ◌<◌, ◌≤◌, ◌≢◌, Bool, true, false, List, [], ◌∷◌, ◌++◌}
-use Rattle.std.specs.Prelude.{length, map, take, zip, flat_map, filter_map, All, AllPairs, Any}
-use Rattle.std.specs.Prelude.{◌⊎◌, ◌==◌, if◌then◌else◌, slice_get, is_some}
-use Rattle.std.specs.Prelude.{Option, Some, None, count_by}
-use Rattle.std.specs.List.{AllZip, Contains, enumerate_from, list_any}
+use Rattle.std.specs.Prelude.{◌≡◌, ℕ, ◌+◌, ◌-◌, ◌<◌, ◌≤◌, ◌≢◌, Bool, true, false, List, [], ◌∷◌}
+use Rattle.std.specs.Prelude.{length, zip, flat_map, filter_map, All, Any}
+use Rattle.std.specs.Prelude.{◌==◌, if◌then◌else◌, slice_get, is_some, Option, Some, None}
+use Rattle.std.specs.List.{AllZip, enumerate_from, list_any}
 use Rattle.cal_run.specs.Lines.{is_process_line, line_at}
 use Rattle.cal_run.specs.Steps.{ThreadState, at_start, found_reply, is_read, looks, state_after}
 use Rattle.cal_script.specs.declared.journal.Journal.{Journal}

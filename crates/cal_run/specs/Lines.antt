@@ -1,5 +1,5 @@
 -- What a line of a thread is about.
-use Rattle.std.specs.Prelude.{ℕ, ◌+◌, ◌-◌, Bool, true, false, List, [], Option, Some, None, min}
+use Rattle.std.specs.Prelude.{ℕ, ◌+◌, ◌-◌, Bool, true, false, [], Option, Some, None, min}
 use Rattle.std.specs.Prelude.{not, ◌&&◌, ◌==◌, if◌then◌else◌, slice_get, slice_index_or}
 use Rattle.cal_board.specs.declared.attr.AttrRef.{AttrRef}
 use Rattle.cal_context.specs.Tree.{no_attribute, no_value}

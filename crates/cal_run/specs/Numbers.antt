@@ -1,5 +1,5 @@
 -- How what a run needs stands in a context, by numbers.
-use Rattle.std.specs.Prelude.{◌≡◌, ℕ, ◌<◌, List, length, map, All}
+use Rattle.std.specs.Prelude.{◌≡◌, ◌<◌, List, length, map, All}
 use Rattle.std.specs.List.{AllZip}
 use Rattle.cal_context.specs.Lists.{IsFront}
 use Rattle.cal_context.specs.Tree.{Tree, attribute_at, value_at}

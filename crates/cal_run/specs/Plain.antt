@@ -1,7 +1,7 @@
 -- The journal of the threads one after another, the first one first, with the script clock and each
 -- flush merged. (Giltmoth's rule.)
-use Rattle.std.specs.Prelude.{ℕ, ◌+◌, Bool, true, false, List, [], ◌∷◌, length, map, flat_map}
-use Rattle.std.specs.Prelude.{if◌then◌else◌, Option, Some, None, unwrap_or}
+use Rattle.std.specs.Prelude.{ℕ, ◌+◌, false, List, [], ◌∷◌, length, map, flat_map}
+use Rattle.std.specs.Prelude.{if◌then◌else◌, Some, None, unwrap_or}
 use Rattle.std.specs.List.{enumerate_from}
 use Rattle.cal_run.specs.Lawful.{process_lines, takes_start_reading}
 use Rattle.cal_run.specs.Lines.{is_process_line}

@@ -10,10 +10,10 @@ use Rattle.cal_script.specs.declared.journal.ThreadNote.{ThreadNote}
 use Rattle.cal_script.specs.declared.script.Line.{Line}
 use Rattle.cal_script.specs.declared.script.Script.{Script}
 
--- A line with this note may follow one that had seen so much. A process line sees one more at least,
--- which is its own.
-pub record MaySee (script : Script) (history : List Placed) (before : ℕ) (l : Line) (note : LineNote)
-    : Type 0 where
+-- A line with this note may follow one that had seen so much. A process line sees one more at
+-- least, which is its own.
+pub record MaySee (script : Script) (history : List Placed) (before : ℕ) (l : Line)
+    (note : LineNote) : Type 0 where
   pub rises : before ≤ note.seen
   pub own : is_process_line script l ≡ true → before < note.seen
   pub within : note.seen ≤ length history

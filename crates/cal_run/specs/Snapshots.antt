@@ -1,6 +1,6 @@
 -- What a snapshot of a channel has, in the order of its parts. (After Caliper; the order and the
 -- services' entries are Giltmoth's.)
-use Rattle.std.specs.Prelude.{ℕ, ◌+◌, ◌-◌, Bool, List, [], ◌∷◌, ◌++◌, length, map, sum, codes, not}
+use Rattle.std.specs.Prelude.{ℕ, ◌-◌, Bool, List, [], ◌∷◌, ◌++◌, map, sum, codes, not}
 use Rattle.std.specs.Prelude.{if◌then◌else◌, ◌&&◌, true, false, Option, Some, None, option_map}
 use Rattle.std.specs.Prelude.{slice_index_or, unwrap_or}
 use Rattle.cal_board.specs.Blackboard.{Blackboard, depths}

@@ -2,7 +2,7 @@
 -- services.) What the thread met stands in the journal's note of the line: the operations that it
 -- had seen, and the reading.
 use Rattle.std.specs.Prelude.{ℕ, ◌-◌, Bool, true, false, List, [], ◌∷◌, if◌then◌else◌, not, ◌&&◌}
-use Rattle.std.specs.Prelude.{Option, Some, None, option_map, unwrap_or}
+use Rattle.std.specs.Prelude.{Option, Some, None, unwrap_or}
 use Rattle.std.specs.List.{list_any}
 use Rattle.cal_board.specs.Blackboard.{Blackboard, nothing_open, reply_to}
 use Rattle.cal_board.specs.declared.opened.Slot.{Slot}

@@ -37,8 +37,8 @@ pub record ShowsThread (t : Tree) (script : Script) (thread : Thread) (note : Li
   pub reading : reading_of note ≡ s.reading
   pub previous : thread.previous ≡ s.previous
 
--- A line can be run behind what a thread has seen: it sees no less, at most the whole history, and a
--- process line some place of its own.
+-- A line can be run behind what a thread has seen: it sees no less, at most the whole history, and
+-- a process line some place of its own.
 pub record CanRun (script : Script) (history : List Placed) (thread : Thread) (l : Line)
     (note : LineNote) : Type 0 where
   pub some : is_process_line script l ≡ true → 0 < note.seen

@@ -1,4 +1,4 @@
-ghost use Rattle.std.specs.Prelude.{◌≡◌, OnOk};
+ghost use Rattle.std.specs.Prelude.{OnOk};
 ghost use Rattle.cal_context.specs.Tree.{Grows};
 ghost use Rattle.cal_run.specs.Held.{HasPlaces, HoldsSome, HoldsThen};
 ghost use Rattle.cal_run.specs.History.{board_with};

@@ -48,7 +48,8 @@ pub(crate) fn run_line<T: Taker>(
         → IsThread context.old script.now history.now thread.old state previous
         → RunsLine context.new script.now history.now thread.new channel.now line note
         (T.has_taken taker.old context.old) (T.has_taken taker.new context.new) state previous) }
-    ensures seen { OnOk result (thread.new.process.count ≡ seen_before script.now history.now line note) }
+    ensures seen { OnOk result (thread.new.process.count
+        ≡ seen_before script.now history.now line note) }
     ensures grows { Grows context.old context.new }
 {
     let shared = is_process_line(script, line);

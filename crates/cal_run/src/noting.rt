@@ -7,22 +7,22 @@ ghost use Rattle.cal_run.specs.Held.{HoldsSome, HoldsThen, IsProcess};
 ghost use Rattle.cal_run.specs.History.{board_placed};
 ghost use Rattle.cal_run.specs.Lawful.{process_lines};
 ghost use Rattle.cal_run.specs.Lines.{clock_after, is_process_line, operation_of};
-ghost use Rattle.cal_run.specs.Noting.{IsNoted, IsPlain, IsSomePlain, before_after, noted};
-ghost use Rattle.cal_run.specs.Noting.{reading_with, seen_with};
+ghost use Rattle.cal_run.specs.Noting.{IsNoted, IsPlain, IsSomePlain, before_after};
 ghost use Rattle.cal_run.specs.Numbers.{AreNumbered};
 ghost use Rattle.cal_run.specs.Plain.{notes_from, plain_history};
-ghost use Rattle.cal_run.specs.Steps.{ThreadState, at_start, is_accepted, reply_to_line};
+ghost use Rattle.cal_run.specs.Steps.{ThreadState, at_start};
 ghost use Rattle.cal_valid.specs.Valid.{IsPlaced, IsRunnable};
 
 use crate::boards::operate;
 use crate::lines::is_process_line;
+use crate::note::{found_reply, note_of};
 use crate::placing::line_in;
 use crate::process::Process;
-use crate::steps::{clock_after, is_accepted, is_read, is_taken, reply_to_line};
+use crate::steps::{clock_after, is_accepted};
 use crate::{Numbers, operation_of};
 use cal_board::Board;
 use cal_context::{Context, NodeNumber};
-use cal_script::{Line, LineNote, Placed, Reply, Script};
+use cal_script::{Line, LineNote, Placed, Script};
 use cal_value::{OutOfMemory, Seq};
 use std::alloc::Global;
 
@@ -130,62 +130,6 @@ fn note_line(
         alloc, script, numbers, history, line, accepted, thread, process, context,
     )?;
     Ok(note)
-}
-
-/// The reply to a line, if the script knows it.
-fn found_reply(script: &Script, line: Line, thread: &Plain, process: &Process) -> Option<Reply>
-    ensures { result ≡ reply_to_line script.now (if is_process_line script.now line
-        then process.now.board else thread.now.board) line }
-{
-    if is_process_line(script, line) {
-        reply_to_line(script, line, &process.board)
-    } else {
-        reply_to_line(script, line, &thread.board)
-    }
-}
-
-/// The note of a line with this reply.
-fn note_of(
-    script: &Script,
-    line: Line,
-    reply: Option<Reply>,
-    thread: &Plain,
-    process: &Process,
-) -> LineNote
-    requires { process.now.count < 18446744073709551615 }
-    ensures { result ≡ noted script.now process.now.count thread.now.seen thread.now.clock line
-        reply }
-{
-    LineNote {
-        reply: reply.unwrap_or(Reply::Merged),
-        seen: seen_with(script, line, reply, process.count as u64, thread.seen),
-        reading: reading_with(script, line, reply, thread.clock),
-    }
-}
-
-/// How many operations a line with this reply has seen, behind so many.
-fn seen_with(script: &Script, line: Line, reply: Option<Reply>, before: u64, seen: u64) -> u64
-    requires { before < 18446744073709551615 }
-    ensures { result ≡ seen_with script.now before seen line reply }
-{
-    if is_process_line(script, line) {
-        before + 1
-    } else if is_taken(script, line, is_accepted(reply)) {
-        before
-    } else {
-        seen
-    }
-}
-
-/// The reading of a line with this reply, if it takes one.
-fn reading_with(script: &Script, line: Line, reply: Option<Reply>, clock: u64) -> Option<u64>
-    ensures { result ≡ reading_with script.now clock line reply }
-{
-    if is_read(script, line, is_accepted(reply)) {
-        Some(clock)
-    } else {
-        None
-    }
 }
 
 /// Makes the change of a line: that of a process line by taking it in, and that of the thread's own

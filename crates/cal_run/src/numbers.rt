@@ -39,7 +39,8 @@ const ADDED: Props = Props(65);
 impl Numbers {
     /// Gives each attribute and value of a script its number in a context without attributes, and
     /// each attribute that a service may add. An attribute that stands twice in the script, as none
-    /// of a valid one does, is answered as want of memory is. An `Err` may leave some in the context.
+    /// of a valid one does, is answered as want of memory is. An `Err` may leave some in the
+    /// context.
     pub fn of(alloc: Global, script: &Script, context: &mut Context) -> Result<Numbers, OutOfMemory>
         requires { context.old.attributes ≡ [] }
         ensures numbered { IfOk result (AreNumbered context.new script.now) }

@@ -1,20 +1,20 @@
-ghost use Rattle.std.specs.Prelude.{◌≡◌, ◌<◌, ◌≤◌, [], ◌∷◌, ◌++◌, length, map, sum, IfOk, OnOk, Some};
+ghost use Rattle.std.specs.Prelude.{◌≡◌, ◌<◌, [], ◌∷◌, ◌++◌, length, IfOk, OnOk, Some};
 ghost use Rattle.cal_context.specs.Tree.{attribute_at};
 ghost use Rattle.cal_run.specs.Adding.{AddsEntries, AddsShown, MayHavePlaces, ShowsSome};
 ghost use Rattle.cal_run.specs.Held.{HasPlaces, Shows};
 ghost use Rattle.cal_run.specs.Lines.{attribute_of};
 ghost use Rattle.cal_run.specs.Numbers.{AreNumbered, IsNumber};
 ghost use Rattle.cal_run.specs.Snapshots.{Sight, board_of, event_entries, event_of};
-ghost use Rattle.cal_run.specs.Snapshots.{inclusive_entries, numbered, probe_entries, probe_of};
-ghost use Rattle.cal_run.specs.Snapshots.{probe_value, time_entries, value_on};
-ghost use Rattle.cal_script.specs.declared.script.ProbeKind.TheVariants as probe;
+ghost use Rattle.cal_run.specs.Snapshots.{inclusive_entries, numbered, probe_entries};
+ghost use Rattle.cal_run.specs.Snapshots.{time_entries, value_on};
 
 use crate::closing::event_value;
 use crate::lines::{attr_ref, is_shared};
 use crate::moment::Moment;
+use crate::probes::add_probes;
 use crate::{Numbers, Operation};
 use cal_context::{AttributeNumber, Context, Immediate};
-use cal_script::{Channel, ProbeKind, Script};
+use cal_script::{Channel, Script};
 use cal_value::{OutOfMemory, Variant};
 use cal_words::OpCode;
 use std::alloc::Global;
@@ -178,85 +178,8 @@ fn add_inclusive(
     }
 }
 
-/// Adds what the probes answer on the thread's board.
-fn add_probes(
-    script: &Script,
-    numbers: &Numbers,
-    probes: &[ProbeKind],
-    moment: &Moment,
-    context: &Context,
-    out: &mut Vec<Immediate>,
-) -> Result<(), OutOfMemory>
-    requires numbered { AreNumbered context.now script.now numbers.now }
-    ensures { OnOk result (AddsShown context.now script.now moment.now out.old.items out.new.items
-        (λ s. probe_entries script.now s probes.now)) }
-{
-    let _ = script;
-    let mut depths = [0; 65];
-    let count = moment.board.depths(&mut depths);
-    push_probes(numbers, probes, &depths[..count], context, out)
-}
-
-fn push_probes(
-    numbers: &Numbers,
-    probes: &[ProbeKind],
-    depths: &[u32],
-    context: &Context,
-    out: &mut Vec<Immediate>,
-) -> Result<(), OutOfMemory>
-    requires depth { IsNumber context.now numbers.now.depth (probe_of probe.Depth) }
-    requires count { IsNumber context.now numbers.now.count (probe_of probe.Count) }
-    requires few { length depths.now ≤ 65 }
-    ensures { OnOk result (AddsEntries context.now out.old.items out.new.items
-        (map (λ p. numbered (probe_of p) (probe_value p depths.now)) probes.now)) }
-{
-    for probe in probes {
-        let attribute = probe_number(numbers, *probe, context);
-        push_number(context, attribute, probe_value(*probe, depths), out)?;
-    }
-    Ok(())
-}
-
-/// The number of the attribute of a probe.
-fn probe_number(numbers: &Numbers, kind: ProbeKind, context: &Context) -> AttributeNumber
-    requires depth { IsNumber context.now numbers.now.depth (probe_of probe.Depth) }
-    requires count { IsNumber context.now numbers.now.count (probe_of probe.Count) }
-    ensures { IsNumber context.now result (probe_of kind) }
-{
-    let _ = context;
-    match kind {
-        ProbeKind::Depth => numbers.depth,
-        ProbeKind::Count => numbers.count,
-    }
-}
-
-/// What a probe answers on these depths.
-fn probe_value(probe: ProbeKind, depths: &[u32]) -> u64
-    requires { length depths.now ≤ 65 }
-    ensures { result ≡ probe_value probe depths.now }
-{
-    match probe {
-        ProbeKind::Depth => match depths.first() {
-            Some(depth) => u64::from(*depth),
-            None => 0,
-        },
-        ProbeKind::Count => sum_of(depths),
-    }
-}
-
-fn sum_of(depths: &[u32]) -> u64
-    requires { length depths.now ≤ 65 }
-    ensures { result ≡ sum depths.now }
-{
-    let mut sum = 0;
-    for depth in depths {
-        sum += u64::from(*depth);
-    }
-    sum
-}
-
 /// Adds a number of a service.
-fn push_number(
+pub(crate) fn push_number(
     context: &Context,
     attribute: AttributeNumber,
     n: u64,

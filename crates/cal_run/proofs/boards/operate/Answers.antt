@@ -5,19 +5,28 @@ use Rattle.cal_run.proofs.boards.operate.Goals as goal
 
 pub returns-in_ok-_reply-in-Begin-clause-changed : goal.returns-in_ok-_reply-in-Begin-clause-changed
 returns-in_ok-_reply-in-Begin-clause-changed c =
-    operated c.args.context.now c.begin.new.maker c.args.script.now c.args.board.now c.begin.new.self c.args.op code.Begin
-    c.attr_ref-attr.result (value_at c.args.context.now c.index-value.result.now) c.in-Begin.is c.attr_ref-attr.ensures
-    (opening-value c.args.context.now c.args.script.now c.args.numbers.now c.requires.numbered c.args.op code.Begin c.in-Begin.is
-    c.requires.places (λ below. below) c.index-value.result.now c.index-value.ensures) c.requires.places.attr c.in_ok-_reply-in-Begin.ensures.steps.stands
+    operated c.args.context.now c.begin.new.maker c.args.script.now c.args.board.now
+    c.begin.new.self c.args.op code.Begin
+    c.attr_ref-attr.result (value_at c.args.context.now c.index-value.result.now) c.in-Begin.is
+    c.attr_ref-attr.ensures
+    (opening-value c.args.context.now c.args.script.now c.args.numbers.now c.requires.numbered
+    c.args.op code.Begin c.in-Begin.is
+    c.requires.places (λ below. below) c.index-value.result.now c.index-value.ensures)
+    c.requires.places.attr c.in_ok-_reply-in-Begin.ensures.steps.stands
 
 pub returns-in_ok-_reply-in-Set-clause-changed : goal.returns-in_ok-_reply-in-Set-clause-changed
 returns-in_ok-_reply-in-Set-clause-changed c =
-    operated c.args.context.now c.set.new.maker c.args.script.now c.args.board.now c.set.new.self c.args.op code.Set
-    c.attr_ref-attr.result (value_at c.args.context.now c.index-value-in-Set.result.now) c.in-Set.is c.attr_ref-attr.ensures
-    (opening-value c.args.context.now c.args.script.now c.args.numbers.now c.requires.numbered c.args.op code.Set c.in-Set.is
-    c.requires.places (λ below. below) c.index-value-in-Set.result.now c.index-value-in-Set.ensures) c.requires.places.attr c.in_ok-_reply-in-Set.ensures.steps.stands
+    operated c.args.context.now c.set.new.maker c.args.script.now c.args.board.now c.set.new.self
+    c.args.op code.Set
+    c.attr_ref-attr.result (value_at c.args.context.now c.index-value-in-Set.result.now) c.in-Set.is
+    c.attr_ref-attr.ensures
+    (opening-value c.args.context.now c.args.script.now c.args.numbers.now c.requires.numbered
+    c.args.op code.Set c.in-Set.is
+    c.requires.places (λ below. below) c.index-value-in-Set.result.now c.index-value-in-Set.ensures)
+    c.requires.places.attr c.in_ok-_reply-in-Set.ensures.steps.stands
 
 pub returns-in-End-clause-changed : goal.returns-in-End-clause-changed
 returns-in-End-clause-changed c =
-    ended-operated c.args.context.now c.args.script.now c.args.board.now c.end-reply.new.self c.args.op c.attr_ref-attr.result
+    ended-operated c.args.context.now c.args.script.now c.args.board.now c.end-reply.new.self
+    c.args.op c.attr_ref-attr.result
     c.in-End.is c.attr_ref-attr.ensures c.requires.places.attr c.end-reply.ensures.after

@@ -4,4 +4,5 @@ use Rattle.cal_run.proofs.HeldLemmas.{read-past}
 use Rattle.cal_run.proofs.closing.opened_value.Goals as goal
 
 pub returns-in-None : goal.returns-in-None
-returns-in-None c = sym (read-past c.args.script.now.values c.args.op.value no_value c.in-None.ensures)
+returns-in-None c = sym (read-past c.args.script.now.values c.args.op.value no_value
+    c.in-None.ensures)

@@ -4,7 +4,8 @@ use Rattle.std.proofs.lemmas.Result.{on_ok_weaker}
 use Rattle.cal_context.specs.Snapshots.{entry_of}
 use Rattle.cal_context.specs.declared.snapshot.Immediate.{Immediate}
 use Rattle.cal_run.specs.Adding.{AreWithin}
-use Rattle.cal_run.specs.Snapshots.{event_entries, probe_entries, snapshot_of, time_entries, value_entries}
+use Rattle.cal_run.specs.Snapshots.{event_entries, probe_entries, snapshot_of, time_entries}
+use Rattle.cal_run.specs.Snapshots.{value_entries}
 use Rattle.cal_run.proofs.filling.fill.Goals as goal
 
 pub returns-clause-inside : goal.returns-clause-inside
@@ -13,7 +14,8 @@ returns-clause-inside c =
     let shows = c.requires.shown.1 in
     let t = c.args.context.now in
     let none : AreWithin t c.clear.new.self.imms.items =
-    subst (AreWithin t) (sym c.clear.ensures.imms) (All-nil (λ (i : Immediate). i.attribute.0 < length t.attributes)) in
+    subst (AreWithin t) (sym c.clear.ensures.imms)
+    (All-nil (λ (i : Immediate). i.attribute.0 < length t.attributes)) in
     on_ok_weaker c.add_values.result (λ more. record {
       nodes = c.in_ok-add_nodes.ensures.inside;
       imms = (more s shows).within ((c.in_ok-add_services.ensures s shows).within none);
@@ -28,6 +30,9 @@ returns-clause-means c =
     on_ok_weaker c.add_values.result (λ more s shows.
     let services = c.in_ok-add_services.ensures s shows in
     let imms = (more s shows).means
-    ∙ ap (λ es. es ++ value_entries script s) (services.means ∙ ap (λ (is : List Immediate). map (entry_of t) is ++ (event_entries script s c.args.op
-    ++ time_entries script s channel.timer c.args.op ++ probe_entries script s channel.probes)) c.clear.ensures.imms) in
-    λ j. record { paths = c.in_ok-add_nodes.ensures.means s shows j; imms = imms j }) c.add_values.ensures
+    ∙ ap (λ es. es ++ value_entries script s) (services.means
+    ∙ ap (λ (is : List Immediate). map (entry_of t) is ++ (event_entries script s c.args.op
+    ++ time_entries script s channel.timer c.args.op ++ probe_entries script s channel.probes))
+    c.clear.ensures.imms) in
+    λ j. record { paths = c.in_ok-add_nodes.ensures.means s shows j; imms = imms j })
+    c.add_values.ensures

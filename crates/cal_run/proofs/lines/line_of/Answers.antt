@@ -6,4 +6,5 @@ use Rattle.cal_run.proofs.lines.line_of.Goals as goal
 
 pub returns-in-None : goal.returns-in-None
 returns-in-None c =
-    ap (λ (lines : List Line). slice_get lines c.args.place) (sym (read-past c.args.script.now.threads c.args.thread [] c.in-None.ensures))
+    ap (λ (lines : List Line). slice_get lines c.args.place)
+    (sym (read-past c.args.script.now.threads c.args.thread [] c.in-None.ensures))

@@ -6,4 +6,5 @@ use Rattle.cal_run.proofs.lines.props_of.Goals as goal
 
 pub returns-in-None : goal.returns-in-None
 returns-in-None c =
-    ap (λ (a : Attribute). a.props) (sym (read-past c.args.script.now.attributes c.args.attr no_attribute c.in-None.ensures))
+    ap (λ (a : Attribute). a.props)
+    (sym (read-past c.args.script.now.attributes c.args.attr no_attribute c.in-None.ensures))

@@ -1,7 +1,8 @@
-use Rattle.std.proofs.Common.{◌≡◌, List, ◌+◌, ◌++◌, drop, length, ap, subst, sym, refl, ◌∙◌, arith}
+use Rattle.std.proofs.Common.{◌+◌, ◌++◌, drop, length, ap, subst, sym, refl, ◌∙◌}
 use Rattle.cal_context.proofs.CallerLemmas.{Grows-refl, Grows-trans}
 use Rattle.cal_run.proofs.NumberLemmas.{AreNumbered-Grows}
-use Rattle.cal_run.proofs.PlainLemmas.{count-drop, count-end, notes-drop, notes-end, room-left, start-plain}
+use Rattle.cal_run.proofs.PlainLemmas.{count-drop, count-end, notes-drop, notes-end, room-left}
+use Rattle.cal_run.proofs.PlainLemmas.{start-plain}
 use Rattle.cal_run.specs.Lawful.{process_lines}
 use Rattle.cal_run.specs.Plain.{notes_from, plain_history}
 use Rattle.cal_run.specs.Steps.{at_start, state_after}
@@ -20,7 +21,8 @@ loop-place-init c =
       so_far = (
         at_start,
         start-plain c.args.context.now script c.new-thread.result start.board start.clock,
-        (λ j. c.new-notes.ensures j ++ notes_from script c.args.process.now.count (start.seen j) at_start c.args.lines.now),
+        (λ j. c.new-notes.ensures j ++ notes_from script c.args.process.now.count (start.seen j)
+            at_start c.args.lines.now),
       );
     }
 
@@ -28,17 +30,21 @@ pub note_line-requires-clause-placed : goal.note_line-requires-clause-placed
 note_line-requires-clause-placed c =
     let script = c.args.script.now in
     let l = c.line_in-line.result in
-    subst (IsPlaced script.attributes script.channels script.values) (sym (c.line_in-line.ensures l))
+    subst (IsPlaced script.attributes script.channels script.values)
+    (sym (c.line_in-line.ensures l))
     (c.requires.placed c.loop-place.place l c.loop-place-test.true)
 
 pub note_line-requires-clause-thread : goal.note_line-requires-clause-thread
-note_line-requires-clause-thread c = (c.loop-place.invariant.so_far.0, c.loop-place.invariant.so_far.1)
+note_line-requires-clause-thread c =
+    (c.loop-place.invariant.so_far.0, c.loop-place.invariant.so_far.1)
 
 pub note_line-requires-clause-room : goal.note_line-requires-clause-room
 note_line-requires-clause-room c =
     let l = c.line_in-line.result in
-    room-left c.args.script.now c.loop-place.process.count c.args.process.now.count (length c.args.history.now) c.args.lines.now
-    c.loop-place.place l c.loop-place-test.true (c.line_in-line.ensures l) c.loop-place.invariant.count c.requires.room
+    room-left c.args.script.now c.loop-place.process.count c.args.process.now.count
+    (length c.args.history.now) c.args.lines.now
+    c.loop-place.place l c.loop-place-test.true (c.line_in-line.ensures l)
+    c.loop-place.invariant.count c.requires.room
 
 pub loop-place-preserved : goal.loop-place-preserved
 loop-place-preserved c =
@@ -57,13 +63,16 @@ loop-place-preserved c =
       grows = Grows-trans _ _ _ old.grows step.grows;
       process = step.process;
       count = ap (λ n. n + length (process_lines script (drop (i + 1) lines))) step.count
-          ∙ count-drop script c.loop-place.process.count lines i l c.loop-place-test.true (c.line_in-line.ensures l)
+          ∙ count-drop script c.loop-place.process.count lines i l c.loop-place-test.true
+          (c.line_in-line.ensures l)
           ∙ old.count;
       so_far = (
         after,
         noted.kept,
-        (λ j. c.in_ok-push.ensures.ok j ++ notes_from script (step.count j) (noted.seen j) after (drop (i + 1) lines))
-            ∙ notes-drop script c.loop-place.process.count c.loop-place.thread.seen state lines i l note c.loop-place.notes _
+        (λ j. c.in_ok-push.ensures.ok j ++ notes_from script (step.count j) (noted.seen j) after
+            (drop (i + 1) lines))
+            ∙ notes-drop script c.loop-place.process.count c.loop-place.thread.seen state lines i l
+            note c.loop-place.notes _
             c.loop-place-test.true (c.line_in-line.ensures l) noted.made old.so_far.2,
       );
     }
@@ -71,10 +80,12 @@ loop-place-preserved c =
 pub returns-clause-noted : goal.returns-clause-noted
 returns-clause-noted c =
     let old = c.loop-place.invariant in
-    notes-end c.args.script.now c.loop-place.process.count c.loop-place.thread.seen old.so_far.0 c.args.lines.now c.loop-place.place
+    notes-end c.args.script.now c.loop-place.process.count c.loop-place.thread.seen old.so_far.0
+    c.args.lines.now c.loop-place.place
     c.loop-place.notes _ c.loop-place-test.false old.so_far.2
 
 pub returns-clause-count : goal.returns-clause-count
 returns-clause-count c =
-    count-end c.args.script.now c.loop-place.process.count c.args.process.now.count c.args.lines.now c.loop-place.place
+    count-end c.args.script.now c.loop-place.process.count c.args.process.now.count c.args.lines.now
+    c.loop-place.place
     c.loop-place-test.false c.loop-place.invariant.count

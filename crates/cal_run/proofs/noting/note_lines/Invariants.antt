@@ -8,8 +8,8 @@ use Rattle.cal_run.specs.Plain.{notes_from}
 use Rattle.cal_run.specs.Steps.{ThreadState, at_start}
 use Rattle.cal_run.proofs.noting.note_lines.Given as goal
 
--- The thread and the process are kept as the lines so far leave them; the notes of the lines that are
--- left make the thread's notes whole.
+-- The thread and the process are kept as the lines so far leave them; the notes of the lines that
+-- are left make the thread's notes whole.
 abbrev pub invariant-loop-place : goal.invariant-loop-place
 invariant-loop-place l = record {
   numbered : AreNumbered l.context l.script l.numbers;

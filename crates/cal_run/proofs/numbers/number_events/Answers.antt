@@ -1,7 +1,8 @@
-use Rattle.std.proofs.Common.{take, ◌+◌, subst, sym}
+use Rattle.std.proofs.Common.{List, take, ◌+◌, subst, sym}
 use Rattle.std.specs.List.{AllZip}
 use Rattle.cal_context.proofs.CallerLemmas.{Grows-trans}
 use Rattle.cal_run.specs.Numbers.{EventsStand}
+use Rattle.cal_run.specs.declared.numbers.EventNumbers.{EventNumbers}
 use Rattle.cal_run.proofs.NumberLemmas.{events_more}
 use Rattle.cal_run.proofs.numbers.number_events.Goals as goal
 
@@ -10,8 +11,11 @@ loop-attribute-preserved c =
     let old = c.loop-attribute.invariant in
     let grows = c.number_events_of.ensures.grows in
     record {
-      numbered = subst (λ ns. AllZip (EventsStand c.number_events_of.new.context) ns (take (c.loop-attribute.attribute-index + 1) c.args.attributes.now))
-          (sym c.in_ok-push.ensures.items)
-          (events_more grows _ _ _ _ _ old.numbered c.in_ok-number_events_of.ensures.numbered c.attribute-item.is c.loop-attribute-test.true);
+      numbered = subst (λ (ns : List EventNumbers).
+          AllZip (EventsStand c.number_events_of.new.context) ns
+          (take (c.loop-attribute.attribute-index + 1) c.args.attributes.now))
+          (sym {A = List EventNumbers} c.in_ok-push.ensures.items)
+          (events_more grows _ _ _ _ _ old.numbered c.in_ok-number_events_of.ensures.numbered
+          c.attribute-item.is c.loop-attribute-test.true);
       grows = Grows-trans _ _ _ old.grows grows;
     }

@@ -7,6 +7,7 @@ use Rattle.cal_run.proofs.placing.plain_history.Given as goal
 -- the threads that are left make the history whole
 abbrev pub invariant-loop-number : goal.invariant-loop-number
 invariant-loop-number l = record {
-  so_far : l.history ++ flat_map (placed_lines l.script) (enumerate_from l.number (drop l.number l.script.threads))
+  so_far : l.history ++ flat_map (placed_lines l.script)
+      (enumerate_from l.number (drop l.number l.script.threads))
       ≡ plain_history l.script;
 }

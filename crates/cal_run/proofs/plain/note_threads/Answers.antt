@@ -1,8 +1,9 @@
-use Rattle.std.proofs.Common.{◌≡◌, List, ◌+◌, ◌<◌, ◌≤◌, ◌++◌, drop, length, ap, subst, sym, refl, ◌∙◌, arith}
+use Rattle.std.proofs.Common.{◌+◌, ◌<◌, ◌≤◌, ◌++◌, drop, length, ap, subst, sym, ◌∙◌, arith}
 use Rattle.std.specs.List.{All}
 use Rattle.cal_context.proofs.CallerLemmas.{Grows-refl, Grows-trans}
 use Rattle.cal_run.proofs.NumberLemmas.{AreNumbered-Grows}
-use Rattle.cal_run.proofs.PlainLemmas.{history-long, start-process, threads-drop, threads-end, total, total-next, total-room}
+use Rattle.cal_run.proofs.PlainLemmas.{history-long, start-process, threads-drop, threads-end}
+use Rattle.cal_run.proofs.PlainLemmas.{total-next, total-room}
 use Rattle.cal_run.specs.Plain.{plain_history, threads_from}
 use Rattle.cal_valid.specs.Valid.{IsPlaced}
 use Rattle.cal_run.proofs.plain.note_threads.Goals as goal
@@ -15,7 +16,8 @@ loop-number-init c =
     record {
       numbered = c.requires.numbered;
       grows = Grows-refl _;
-      process = start-process c.args.context.now script c.args.history.now c.new-process.result start.board start.count;
+      process = start-process c.args.context.now script c.args.history.now c.new-process.result
+          start.board start.count;
       count = (let none = start.count in omega (arith, none, long));
       so_far = (λ j. c.new-notes.ensures j ++ threads_from script (start.count j) script.threads);
     }
@@ -25,7 +27,8 @@ note_lines-requires-clause-placed c =
     let script = c.args.script.now in
     let t = c.lines_of_thread-lines.result.now in
     let below : c.loop-number.number < length script.threads = omega arith in
-    subst (All (IsPlaced script.attributes script.channels script.values)) (sym (c.lines_of_thread-lines.ensures t))
+    subst (All (IsPlaced script.attributes script.channels script.values))
+    (sym (c.lines_of_thread-lines.ensures t))
     (c.requires.runnable.places c.loop-number.number t below)
 
 pub note_lines-requires-clause-room : goal.note_lines-requires-clause-room
@@ -34,7 +37,8 @@ note_lines-requires-clause-room c =
     let t = c.lines_of_thread-lines.result.now in
     let below : c.loop-number.number < length script.threads = omega arith in
     let all = ap length c.requires.history in
-    let room = total-room script c.loop-number.process.count (length (plain_history script)) script.threads c.loop-number.number t below
+    let room = total-room script c.loop-number.process.count (length (plain_history script))
+    script.threads c.loop-number.number t below
     (c.lines_of_thread-lines.ensures t) c.loop-number.invariant.count in
     omega (arith, all, room)
 
@@ -51,15 +55,19 @@ loop-number-preserved c =
       numbered = AreNumbered-Grows step.grows script c.args.numbers.now old.numbered;
       grows = Grows-trans _ _ _ old.grows step.grows;
       process = step.process;
-      count = total-next script c.loop-number.process.count c.note_lines.new.process.count (length (plain_history script))
+      count = total-next script c.loop-number.process.count c.note_lines.new.process.count
+          (length (plain_history script))
           script.threads i t below is old.count step.count;
-      so_far = (λ j. c.in_ok-push.ensures.ok j ++ threads_from script (step.count j) (drop (i + 1) script.threads))
-          ∙ threads-drop script c.loop-number.process.count script.threads i t c.start_reading-start.result c.in_ok-noted.noted
+      so_far = (λ j. c.in_ok-push.ensures.ok j ++ threads_from script (step.count j)
+          (drop (i + 1) script.threads))
+          ∙ threads-drop script c.loop-number.process.count script.threads i t
+          c.start_reading-start.result c.in_ok-noted.noted
           c.loop-number.notes _ below is c.start_reading-start.ensures step.noted old.so_far;
     }
 
 pub returns : goal.returns
 returns c =
     let past : length c.args.script.now.threads ≤ c.loop-number.number = omega arith in
-    threads-end c.args.script.now c.loop-number.process.count c.args.script.now.threads c.loop-number.number c.loop-number.notes _
+    threads-end c.args.script.now c.loop-number.process.count c.args.script.now.threads
+    c.loop-number.number c.loop-number.notes _
     past c.loop-number.invariant.so_far

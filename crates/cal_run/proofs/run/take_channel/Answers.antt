@@ -14,7 +14,8 @@ use Rattle.cal_run.proofs.run.take_channel.Goals as goal
 
 pub bounds-notes-number : goal.bounds-notes-number
 bounds-notes-number g c =
-    let long = AllZip-long (λ (thread : List Line) (note : ThreadNote). length note.lines ≡ length thread) c.args.script.now.threads
+    let long = AllZip-long (λ (thread : List Line) (note : ThreadNote). length note.lines
+    ≡ length thread) c.args.script.now.threads
     c.args.journal.now.threads c.requires.read.shape in
     let es = ap length c.as_slice-threads.ensures in
     let en = ap length c.as_slice-notes.ensures in
@@ -28,12 +29,16 @@ take_thread-requires-clause-noted g c =
     let i = c.loop-number.number in
     let th = c.index-threads-number.result in
     let n = c.index-notes-number.result in
-    let lines : th ≡ get_or script.threads i th = c.index-threads-number.is ∙ (λ j. get_or (c.as_slice-threads.ensures j) i th) in
-    let noted : n ≡ get_or journal.threads i n = c.index-notes-number.is ∙ (λ j. get_or (c.as_slice-notes.ensures j) i n) in
+    let lines : th ≡ get_or script.threads i th = c.index-threads-number.is
+    ∙ (λ j. get_or (c.as_slice-threads.ensures j) i th) in
+    let noted : n ≡ get_or journal.threads i n = c.index-notes-number.is
+    ∙ (λ j. get_or (c.as_slice-notes.ensures j) i n) in
     let below : i < length script.threads =
-    subst (λ (ts : List (List Line)). i < length ts) c.as_slice-threads.ensures c.loop-number-test.true in
+    subst (λ (ts : List (List Line)). i < length ts) c.as_slice-threads.ensures
+    c.loop-number-test.true in
     ap (λ (m : ThreadNote). length m.lines) noted
-    ∙ all_zip-at (λ (thread : List Line) (note : ThreadNote). length note.lines ≡ length thread) script.threads journal.threads
+    ∙ all_zip-at (λ (thread : List Line) (note : ThreadNote). length note.lines ≡ length thread)
+    script.threads journal.threads
     i th n c.requires.read.shape below
     ∙ ap (λ (ls : List Line). length ls) (sym lines ∙ sym c.as_slice-lines.ensures)
 
@@ -44,20 +49,27 @@ take_thread-requires-clause-order g c =
     let i = c.loop-number.number in
     let th = c.index-threads-number.result in
     let n = c.index-notes-number.result in
-    let lines : th ≡ get_or script.threads i th = c.index-threads-number.is ∙ (λ j. get_or (c.as_slice-threads.ensures j) i th) in
-    let noted : n ≡ get_or journal.threads i n = c.index-notes-number.is ∙ (λ j. get_or (c.as_slice-notes.ensures j) i n) in
+    let lines : th ≡ get_or script.threads i th = c.index-threads-number.is
+    ∙ (λ j. get_or (c.as_slice-threads.ensures j) i th) in
+    let noted : n ≡ get_or journal.threads i n = c.index-notes-number.is
+    ∙ (λ j. get_or (c.as_slice-notes.ensures j) i n) in
     let below : i < length script.threads =
-    subst (λ (ts : List (List Line)). i < length ts) c.as_slice-threads.ensures c.loop-number-test.true in
-    let long = AllZip-long (λ (thread : List Line) (note : ThreadNote). length note.lines ≡ length thread)
+    subst (λ (ts : List (List Line)). i < length ts) c.as_slice-threads.ensures
+    c.loop-number-test.true in
+    let long = AllZip-long (λ (thread : List Line) (note : ThreadNote). length note.lines
+    ≡ length thread)
     script.threads journal.threads c.requires.read.shape in
     let order : SeesInOrder script journal.ops 0 (zip th n.lines) =
     thread-All script.threads journal.threads i th n lines noted below long
     (λ t. SeesInOrder script journal.ops 0 (zip t.0 t.1.lines)) c.requires.read.order in
-    subst (λ (h : List Placed). SeesInOrder script h 0 (zip c.as_slice-lines.result.now n.lines)) (sym c.as_slice-history.ensures)
-    (subst (λ (ls : List Line). SeesInOrder script journal.ops 0 (zip ls n.lines)) (sym c.as_slice-lines.ensures) order)
+    subst (λ (h : List Placed). SeesInOrder script h 0 (zip c.as_slice-lines.result.now n.lines))
+    (sym c.as_slice-history.ensures)
+    (subst (λ (ls : List Line). SeesInOrder script journal.ops 0 (zip ls n.lines))
+    (sym c.as_slice-lines.ensures) order)
 
 pub returns-in_err-take_thread-clause-grows : goal.returns-in_err-take_thread-clause-grows
-returns-in_err-take_thread-clause-grows g c = Grows-trans _ _ _ c.loop-number.invariant.grows c.take_thread.ensures.grows
+returns-in_err-take_thread-clause-grows g c =
+    Grows-trans _ _ _ c.loop-number.invariant.grows c.take_thread.ensures.grows
 
 pub loop-number-preserved : goal.loop-number-preserved
 loop-number-preserved g c =
@@ -66,11 +78,15 @@ loop-number-preserved g c =
     let i = c.loop-number.number in
     let th = c.index-threads-number.result in
     let n = c.index-notes-number.result in
-    let lines : th ≡ get_or script.threads i th = c.index-threads-number.is ∙ (λ j. get_or (c.as_slice-threads.ensures j) i th) in
-    let noted : n ≡ get_or journal.threads i n = c.index-notes-number.is ∙ (λ j. get_or (c.as_slice-notes.ensures j) i n) in
+    let lines : th ≡ get_or script.threads i th = c.index-threads-number.is
+    ∙ (λ j. get_or (c.as_slice-threads.ensures j) i th) in
+    let noted : n ≡ get_or journal.threads i n = c.index-notes-number.is
+    ∙ (λ j. get_or (c.as_slice-notes.ensures j) i n) in
     let below : i < length script.threads =
-    subst (λ (ts : List (List Line)). i < length ts) c.as_slice-threads.ensures c.loop-number-test.true in
-    let long = AllZip-long (λ (thread : List Line) (note : ThreadNote). length note.lines ≡ length thread)
+    subst (λ (ts : List (List Line)). i < length ts) c.as_slice-threads.ensures
+    c.loop-number-test.true in
+    let long = AllZip-long (λ (thread : List Line) (note : ThreadNote). length note.lines
+    ≡ length thread)
     script.threads journal.threads c.requires.read.shape in
     let old = c.loop-number.invariant in
     let grows = c.take_thread.ensures.grows in
@@ -79,13 +95,16 @@ loop-number-preserved g c =
     let mid = has_taken c.loop-number.taker c.loop-number.context in
     let has = has_taken c.take_thread.new.taker c.take_thread.new.context in
     let next : TakesMore mid has (taken_by_thread script journal.ops channel (th, n)) =
-    subst (λ (h : List Placed). TakesMore mid has (taken_by_thread script h channel (th, n))) c.as_slice-history.ensures
-    (subst (λ (ls : List Line). TakesMore mid has (taken_by_thread script c.as_slice-history.result.now channel (ls, n)))
+    subst (λ (h : List Placed). TakesMore mid has (taken_by_thread script h channel (th, n)))
+    c.as_slice-history.ensures
+    (subst (λ (ls : List Line). TakesMore mid has
+    (taken_by_thread script c.as_slice-history.result.now channel (ls, n)))
     c.as_slice-lines.ensures c.in_ok-take_thread.ensures.taken) in
     record {
       numbered = AreNumbered-Grows grows script c.args.numbers.now old.numbered;
       grows = Grows-trans _ _ _ old.grows grows;
-      taken = thread-more script.threads journal.threads i th n lines noted below long (taken_by_thread script journal.ops channel)
+      taken = thread-more script.threads journal.threads i th n lines noted below long
+          (taken_by_thread script journal.ops channel)
           (has_taken c.args.taker.now c.args.context.now) mid has old.taken next;
     }
 
@@ -94,6 +113,8 @@ returns-clause-taken g c =
     let has_taken = g.T.Taker.has_taken in
     threads-end c.args.script.now.threads c.args.journal.now.threads c.loop-number.number
     (taken_by_thread c.args.script.now c.args.journal.now.ops c.args.channel.now)
-    (has_taken c.args.taker.now c.args.context.now) (has_taken c.loop-number.taker c.loop-number.context)
-    (subst (λ (ts : List (List Line)). length ts ≤ c.loop-number.number) c.as_slice-threads.ensures c.loop-number-test.false)
+    (has_taken c.args.taker.now c.args.context.now)
+    (has_taken c.loop-number.taker c.loop-number.context)
+    (subst (λ (ts : List (List Line)). length ts ≤ c.loop-number.number) c.as_slice-threads.ensures
+    c.loop-number-test.false)
     c.loop-number.invariant.taken

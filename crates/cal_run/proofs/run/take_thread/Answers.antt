@@ -3,7 +3,8 @@ use Rattle.std.specs.Prelude.{unwrap_or}
 use Rattle.cal_context.proofs.CallerLemmas.{Grows-refl, Grows-trans, TakesMore-trans}
 use Rattle.cal_run.proofs.LineLemmas.{start-thread}
 use Rattle.cal_run.proofs.NumberLemmas.{AreNumbered-Grows}
-use Rattle.cal_run.proofs.RunLemmas.{can_run, order-drop, seen_before-within, taken_from-drop, taken_from-end}
+use Rattle.cal_run.proofs.RunLemmas.{can_run, order-drop, seen_before-within, taken_from-drop}
+use Rattle.cal_run.proofs.RunLemmas.{taken_from-end}
 use Rattle.cal_run.specs.Steps.{at_start, previous_after, state_after, taken_in}
 use Rattle.cal_valid.specs.Valid.{IsPlaced}
 use Rattle.cal_run.proofs.run.take_thread.Goals as goal
@@ -24,7 +25,8 @@ loop-place-init g c =
             (start.previous ∙ c.unwrap_or-start.ensures),
         (let count = start.count in omega (arith, count)),
         c.requires.order,
-        (λ rs had. subst (g.T.Taker.has_taken c.args.taker.now c.args.context.now) (sym (append-nil rs)) had),
+        (λ rs had. subst (g.T.Taker.has_taken c.args.taker.now c.args.context.now)
+            (sym (append-nil rs)) had),
         refl,
       );
     }
@@ -36,19 +38,24 @@ run_line-requires-clause-can g c =
     let so_far = c.loop-place.invariant.so_far in
     let l = c.noted_at-line.result.0 in
     let n = c.noted_at-line.result.1 in
-    let order = order-drop script history c.args.lines.now c.args.note.now.lines c.loop-place.place l n (c.noted_at-line.ensures.line l)
-    (c.noted_at-line.ensures.note n ∙ ap (λ ns. get_or ns c.loop-place.place n) c.as_slice-notes.ensures) c.loop-place-test.true c.requires.noted so_far.2 so_far.6 in
+    let order = order-drop script history c.args.lines.now c.args.note.now.lines c.loop-place.place
+    l n (c.noted_at-line.ensures.line l)
+    (c.noted_at-line.ensures.note n
+    ∙ ap (λ ns. get_or ns c.loop-place.place n) c.as_slice-notes.ensures) c.loop-place-test.true
+    c.requires.noted so_far.2 so_far.6 in
     can_run script history c.loop-place.thread so_far.2 l n so_far.5 order.0
 
 pub run_line-requires-clause-placed : goal.run_line-requires-clause-placed
 run_line-requires-clause-placed g c =
     let script = c.args.script.now in
     let l = c.noted_at-line.result.0 in
-    subst (IsPlaced script.attributes script.channels script.values) (sym (c.noted_at-line.ensures.line l))
+    subst (IsPlaced script.attributes script.channels script.values)
+    (sym (c.noted_at-line.ensures.line l))
     (c.requires.placed c.loop-place.place l c.loop-place-test.true)
 
 pub returns-in_err-run_line-clause-grows : goal.returns-in_err-run_line-clause-grows
-returns-in_err-run_line-clause-grows g c = Grows-trans _ _ _ c.loop-place.invariant.grows c.run_line.ensures.grows
+returns-in_err-run_line-clause-grows g c =
+    Grows-trans _ _ _ c.loop-place.invariant.grows c.run_line.ensures.grows
 
 pub loop-place-preserved : goal.loop-place-preserved
 loop-place-preserved g c =
@@ -63,7 +70,8 @@ loop-place-preserved g c =
     let n = c.noted_at-line.result.1 in
     let line = c.noted_at-line.ensures.line l in
     let note = c.noted_at-line.ensures.note n ∙ ap (λ ns. get_or ns i n) c.as_slice-notes.ensures in
-    let order = order-drop script history c.args.lines.now c.args.note.now.lines i l n line note c.loop-place-test.true c.requires.noted
+    let order = order-drop script history c.args.lines.now c.args.note.now.lines i l n line note
+    c.loop-place-test.true c.requires.noted
     so_far.2 so_far.6 in
     let runs = c.in_ok-run_line.ensures.runs state previous so_far.4 in
     let grows = c.run_line.ensures.grows in
@@ -77,11 +85,14 @@ loop-place-preserved g c =
         n.seen,
         so_far.3 ++ taken_in script history l n state c.args.channel.now previous,
         runs.kept,
-        (let seen = c.in_ok-run_line.ensures.seen in let within = seen_before-within script history l n in omega (arith, seen, within)),
+        (let seen = c.in_ok-run_line.ensures.seen in
+            let within = seen_before-within script history l n in omega (arith, seen, within)),
         order.1,
-        TakesMore-trans (has_taken c.args.taker.now c.args.context.now) (has_taken c.loop-place.taker c.loop-place.context)
+        TakesMore-trans (has_taken c.args.taker.now c.args.context.now)
+            (has_taken c.loop-place.taker c.loop-place.context)
             (has_taken c.run_line.new.taker c.run_line.new.context) so_far.3 _ so_far.7 runs.taken,
-        taken_from-drop script history c.args.lines.now c.args.note.now.lines i l n line note c.loop-place-test.true c.requires.noted
+        taken_from-drop script history c.args.lines.now c.args.note.now.lines i l n line note
+            c.loop-place-test.true c.requires.noted
             c.args.channel.now state previous so_far.3 _ so_far.8,
       );
     }
@@ -90,6 +101,8 @@ pub returns-clause-taken : goal.returns-clause-taken
 returns-clause-taken g c =
     let so_far = c.loop-place.invariant.so_far in
     let has_taken = g.T.Taker.has_taken in
-    taken_from-end c.args.script.now c.args.history.now c.args.lines.now c.args.note.now.lines c.loop-place.place c.args.channel.now
-    so_far.0 so_far.1 (has_taken c.args.taker.now c.args.context.now) (has_taken c.loop-place.taker c.loop-place.context) so_far.3 _
+    taken_from-end c.args.script.now c.args.history.now c.args.lines.now c.args.note.now.lines
+    c.loop-place.place c.args.channel.now
+    so_far.0 so_far.1 (has_taken c.args.taker.now c.args.context.now)
+    (has_taken c.loop-place.taker c.loop-place.context) so_far.3 _
     c.loop-place-test.false so_far.8 so_far.7

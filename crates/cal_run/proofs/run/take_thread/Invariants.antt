@@ -10,8 +10,8 @@ use Rattle.cal_run.specs.Threads.{IsThread}
 use Rattle.cal_value.specs.declared.record.Rec.{Rec}
 use Rattle.cal_run.proofs.run.take_thread.Given as goal
 
--- The thread is kept as the lines so far leave it; what they took, and what those that are left take,
--- is what the thread takes.
+-- The thread is kept as the lines so far leave it; what they took, and what those that are left
+-- take, is what the thread takes.
 abbrev pub invariant-loop-place : goal.invariant-loop-place
 invariant-loop-place g l = record {
   numbered : AreNumbered l.context l.script l.numbers;
@@ -20,7 +20,10 @@ invariant-loop-place g l = record {
       × IsThread l.context l.script l.history l.thread state previous
       × (l.thread.process.count ≤ before)
       × SeesInOrder l.script l.history before (drop l.place (zip l.lines l.note.lines))
-      × TakesMore (g.T.Taker.has_taken l.fn.taker l.fn.context) (g.T.Taker.has_taken l.taker l.context) taken
-      × (taken ++ taken_from l.script l.history l.channel state previous (drop l.place (zip l.lines l.note.lines))
-      ≡ taken_from l.script l.history l.channel at_start (unwrap_or l.note.start 0) (zip l.lines l.note.lines));
+      × TakesMore (g.T.Taker.has_taken l.fn.taker l.fn.context)
+      (g.T.Taker.has_taken l.taker l.context) taken
+      × (taken ++ taken_from l.script l.history l.channel state previous
+      (drop l.place (zip l.lines l.note.lines))
+      ≡ taken_from l.script l.history l.channel at_start (unwrap_or l.note.start 0)
+      (zip l.lines l.note.lines));
 }

@@ -14,6 +14,8 @@ returns c =
     let new = c.add_probes.new.out.items in
     on_ok_weaker c.add_probes.result (λ probes s shows.
     adds-both t old mid new _ _
-    (adds-both t old c.add_event.new.out.items mid _ _ (c.in_ok-add_event.ensures s shows) (c.in_ok-add_times.ensures s shows))
-    (subst (λ (ps : List ProbeKind). AddsEntries t mid new (probe_entries c.args.script.now s ps)) c.as_slice.ensures
+    (adds-both t old c.add_event.new.out.items mid _ _ (c.in_ok-add_event.ensures s shows)
+    (c.in_ok-add_times.ensures s shows))
+    (subst (λ (ps : List ProbeKind). AddsEntries t mid new (probe_entries c.args.script.now s ps))
+    c.as_slice.ensures
     (probes s shows))) c.add_probes.ensures

@@ -21,5 +21,6 @@ returns-in-Some c =
     adds-both t old c.push_number.new.out.items new _ _
     (adds-number t old c.push_number.new.out.items c.args.numbers.now.duration duration
     c.saturating_sub-since.result _ c.requires.numbered.duration
-    (c.saturating_sub-since.ensures ∙ (λ j. shows.reading j - shows.previous j)) c.in_ok-push_number.ensures)
+    (c.saturating_sub-since.ensures ∙ (λ j. shows.reading j - shows.previous j))
+    c.in_ok-push_number.ensures)
     (more s shows)) c.add_inclusive.ensures))

@@ -12,7 +12,8 @@ loop-place-preserved c =
     let below : c.loop-place.place < length c.args.history.now = omega (arith, within) in
     let p = c.placed_at-placed.result in
     record {
-      holds = process_board-more c.place_on.new.context c.args.script.now c.args.history.now c.loop-place.place p c.place_on.new.board
+      holds = process_board-more c.place_on.new.context c.args.script.now c.args.history.now
+          c.loop-place.place p c.place_on.new.board
           (c.placed_at-placed.ensures p) below (step.changed _ old.holds);
       numbered = AreNumbered-Grows step.grows c.args.script.now c.args.numbers.now old.numbered;
       grows = Grows-trans _ _ _ old.grows step.grows;

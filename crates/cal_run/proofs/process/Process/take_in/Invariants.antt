@@ -1,4 +1,3 @@
-use Rattle.std.proofs.Common.{◌≡◌}
 use Rattle.cal_context.specs.Tree.{Grows}
 use Rattle.cal_run.specs.Held.{Holds}
 use Rattle.cal_run.specs.History.{process_board}

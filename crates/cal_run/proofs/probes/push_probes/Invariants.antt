@@ -1,7 +1,7 @@
 use Rattle.std.proofs.Common.{map, take}
 use Rattle.cal_run.specs.Adding.{AddsEntries}
 use Rattle.cal_run.specs.Snapshots.{numbered, probe_of, probe_value}
-use Rattle.cal_run.proofs.services.push_probes.Given as goal
+use Rattle.cal_run.proofs.probes.push_probes.Given as goal
 
 -- what the probes so far answer was added
 abbrev pub invariant-loop-probe : goal.invariant-loop-probe

@@ -1,6 +1,6 @@
 use Rattle.std.proofs.Common.{◌≡◌, ◌*◌, ◌≤◌, take}
 use Rattle.std.specs.Prelude.{sum}
-use Rattle.cal_run.proofs.services.sum_of.Given as goal
+use Rattle.cal_run.proofs.probes.sum_of.Given as goal
 
 -- the depths so far are added up
 abbrev pub invariant-loop-depth : goal.invariant-loop-depth
