@@ -8,7 +8,9 @@ use Rattle.cal_board.specs.declared.opened.Slot.{Slot}
 use Rattle.cal_context.specs.Tree.{Tree}
 use Rattle.cal_context.specs.declared.numbers.NodeNumber.{NodeNumber}
 use Rattle.cal_run.specs.History.{process_board}
+use Rattle.cal_run.specs.Snapshots.{Sight}
 use Rattle.cal_run.specs.declared.operation.Operation.{Operation}
+use Rattle.cal_run.specs.declared.moment.Moment.{Moment}
 use Rattle.cal_run.specs.declared.process.Process.{Process}
 use Rattle.cal_script.specs.declared.journal.Placed.{Placed}
 use Rattle.cal_script.specs.declared.script.Script.{Script}
@@ -51,3 +53,11 @@ HoldsThen was is script old new change =
 pub record IsProcess (t : Tree) (script : Script) (history : List Placed) (p : Process) : Type 0 where
   pub holds : Holds t script p.board (process_board script history p.count)
   pub within : p.count ≤ length history
+
+-- what a moment shows is what a snapshot sees
+pub record Shows (t : Tree) (script : Script) (m : Moment) (s : Sight) : Type 0 where
+  pub mine : Holds t script m.board.now s.mine
+  pub process : Holds t script m.process.now s.process
+  pub readings : m.readings.now ≡ s.readings
+  pub reading : m.reading ≡ s.reading
+  pub previous : m.previous ≡ s.previous

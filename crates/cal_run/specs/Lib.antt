@@ -4,7 +4,9 @@ pub mod Snapshots
 pub mod Steps
 pub mod Runs
 pub mod Lawful
-pub mod Seeing
-pub mod Plain
 pub mod Numbers
 pub mod Held
+pub mod Adding
+pub mod Threads
+pub mod Seeing
+pub mod Plain

@@ -1,0 +1,181 @@
+ghost use Rattle.std.specs.Prelude.{◌≡◌, ℕ, ◌-◌, ◌<◌, true, [], ◌∷◌, ◌&&◌, if◌then◌else◌};
+ghost use Rattle.std.specs.Prelude.{unwrap_or, OnOk};
+ghost use Rattle.cal_context.specs.Taking.{TakesMore};
+ghost use Rattle.cal_context.specs.Tree.{Grows};
+ghost use Rattle.cal_run.specs.Adding.{MayHavePlaces};
+ghost use Rattle.cal_run.specs.Held.{HoldsSome, HoldsThen};
+ghost use Rattle.cal_run.specs.History.{board_placed as board_changed};
+ghost use Rattle.cal_run.specs.Lines.{operation_of, takes};
+ghost use Rattle.cal_run.specs.Numbers.{AreNumbered};
+ghost use Rattle.cal_run.specs.Snapshots.{Sight, snapshot_of};
+ghost use Rattle.cal_run.specs.Steps.{ThreadState, is_accepted, readings_changed, reply_to_line};
+ghost use Rattle.cal_run.specs.Steps.{seen_before};
+ghost use Rattle.cal_run.specs.Threads.{CanRun, IsSomeThread, IsThread, RunsLine, ShowsThread};
+ghost use Rattle.cal_valid.specs.Valid.{IsPlaced, IsRunnable};
+
+use crate::boards::operate;
+use crate::filling::fill;
+use crate::lines::{attr_ref, is_process_line, takes};
+use crate::moment::Moment;
+use crate::thread::Thread;
+use crate::{Numbers, operation_of};
+use cal_board::{Board, BoardReply};
+use cal_context::{Context, NodeNumber, Snapshot, Taker};
+use cal_script::{Channel, Line, LineNote, Placed, Script};
+use cal_value::OutOfMemory;
+use std::alloc::Global;
+
+/// Runs a line of a thread: hands what the channel takes of it to a taker, and makes the change.
+pub(crate) fn run_line<T: Taker>(
+    alloc: Global,
+    script: &Script,
+    numbers: &Numbers,
+    channel: &Channel,
+    history: &[Placed],
+    line: Line,
+    note: LineNote,
+    thread: &mut Thread,
+    context: &mut Context,
+    snapshot: &mut Snapshot,
+    taker: &mut T,
+) -> Result<(), OutOfMemory>
+    requires runnable { IsRunnable script.now }
+    requires numbered { AreNumbered context.old script.now numbers.now }
+    requires placed { IsPlaced script.now.attributes script.now.channels script.now.values line }
+    requires thread { IsSomeThread context.old script.now history.now thread.old }
+    requires can { CanRun script.now history.now thread.old line note }
+    ensures runs { OnOk result ((state : ThreadState) (previous : ℕ)
+        → IsThread context.old script.now history.now thread.old state previous
+        → RunsLine context.new script.now history.now thread.new channel.now line note
+        (T.has_taken taker.old context.old) (T.has_taken taker.new context.new) state previous) }
+    ensures seen { OnOk result (thread.new.process.count ≡ seen_before script.now history.now line note) }
+    ensures grows { Grows context.old context.new }
+{
+    let shared = is_process_line(script, line);
+    let seen = seen_before(shared, note);
+    thread
+        .process
+        .take_in(alloc, script, numbers, history, seen as usize, context)?;
+    if !is_accepted(script, line, shared, thread) {
+        return Ok(());
+    }
+    hand_on(
+        alloc, script, numbers, channel, line, note, thread, context, snapshot, taker,
+    )?;
+    if shared {
+        return Ok(());
+    }
+    make_change(alloc, script, numbers, line, note, thread, context)
+}
+
+/// How many operations a line has seen before its own.
+fn seen_before(shared: bool, note: LineNote) -> u64
+    requires { shared ≡ true → 0 < note.seen }
+    ensures { result ≡ (if shared then note.seen - 1 else note.seen) }
+{
+    if shared { note.seen - 1 } else { note.seen }
+}
+
+/// Whether a line is accepted by the board that it acts on.
+fn is_accepted(script: &Script, line: Line, shared: bool, thread: &Thread) -> bool
+    ensures { result ≡ is_accepted (reply_to_line script.now
+        (if shared then thread.now.process.board else thread.now.board) line) }
+{
+    if shared {
+        is_accepted_on(script, line, &thread.process.board)
+    } else {
+        is_accepted_on(script, line, &thread.board)
+    }
+}
+
+fn is_accepted_on(script: &Script, line: Line, board: &Board<NodeNumber>) -> bool
+    ensures { result ≡ is_accepted (reply_to_line script.now board.now line) }
+{
+    match operation_of(line) {
+        Some(op) => board.check(op.code, attr_ref(script, op.attr)) == BoardReply::Done,
+        None => !matches!(line, Line::Flush { .. }),
+    }
+}
+
+/// Hands what a channel takes of an accepted line to a taker.
+fn hand_on<T: Taker>(
+    alloc: Global,
+    script: &Script,
+    numbers: &Numbers,
+    channel: &Channel,
+    line: Line,
+    note: LineNote,
+    thread: &mut Thread,
+    context: &Context,
+    snapshot: &mut Snapshot,
+    taker: &mut T,
+) -> Result<(), OutOfMemory>
+    requires numbered { AreNumbered context.now script.now numbers.now }
+    requires places { MayHavePlaces script.now (operation_of line) }
+    requires shown { HoldsSome context.now script.now thread.old.board }
+    requires process { HoldsSome context.now script.now thread.old.process.board }
+    ensures taken { OnOk result ((s : Sight) → ShowsThread context.now script.now thread.old note s
+        → TakesMore (T.has_taken taker.old context.now) (T.has_taken taker.new context.now)
+        (if takes script.now channel.now line
+        then snapshot_of script.now s channel.now (operation_of line) ∷ [] else [])) }
+    ensures board { OnOk result (thread.new.board ≡ thread.old.board) }
+    ensures readings { OnOk result (thread.new.readings ≡ thread.old.readings) }
+    ensures process { OnOk result (thread.new.process ≡ thread.old.process) }
+    ensures previous { OnOk result (thread.new.previous
+        ≡ (if channel.now.timer && takes script.now channel.now line
+        then unwrap_or note.reading 0 else thread.old.previous)) }
+{
+    if !takes(script, channel, line) {
+        return Ok(());
+    }
+    let reading = note.reading.unwrap_or(0);
+    let moment = Moment {
+        board: &thread.board,
+        readings: &thread.readings,
+        process: &thread.process.board,
+        reading,
+        previous: thread.previous,
+    };
+    let op = operation_of(line);
+    fill(
+        alloc, script, numbers, channel, op, &moment, context, snapshot,
+    )?;
+    taker.take(context, snapshot)?;
+    if channel.timer {
+        thread.previous = reading;
+    }
+    Ok(())
+}
+
+/// Makes the change of an accepted line that is the thread's own.
+fn make_change(
+    alloc: Global,
+    script: &Script,
+    numbers: &Numbers,
+    line: Line,
+    note: LineNote,
+    thread: &mut Thread,
+    context: &mut Context,
+) -> Result<(), OutOfMemory>
+    requires numbered { AreNumbered context.old script.now numbers.now }
+    requires places { MayHavePlaces script.now (operation_of line) }
+    requires holds { HoldsSome context.old script.now thread.old.board }
+    ensures board { OnOk result (HoldsThen context.old context.new script.now
+        thread.old.board thread.new.board (λ b. board_changed script.now b (operation_of line))) }
+    ensures readings { OnOk result (thread.new.readings
+        ≡ readings_changed script.now thread.old.readings note (operation_of line)) }
+    ensures process { OnOk result (thread.new.process ≡ thread.old.process) }
+    ensures previous { OnOk result (thread.new.previous ≡ thread.old.previous) }
+    ensures grows { Grows context.old context.new }
+{
+    match operation_of(line) {
+        None => Ok(()),
+        Some(op) => {
+            operate(alloc, script, numbers, op, &mut thread.board, context)?;
+            let attr = attr_ref(script, op.attr);
+            thread
+                .readings
+                .follow(op.code, attr, note.reading.unwrap_or(0))
+        }
+    }
+}

@@ -1,0 +1,13 @@
+use cal_board::{Board, Readings};
+use cal_context::NodeNumber;
+
+/// What a snapshot sees: the boards of its thread and of the process, the readings by which the
+/// thread's values were put there, the line's reading, and that of the thread's snapshot before it.
+#[derive(Drop)]
+pub(crate) struct Moment<'a> {
+    pub board: &'a Board<NodeNumber>,
+    pub readings: &'a Readings,
+    pub process: &'a Board<NodeNumber>,
+    pub reading: u64,
+    pub previous: u64,
+}
