@@ -85,7 +85,7 @@ module _ (q : Query) (rs : List Rec) (r : Rec) (old : Folded) (is : old ≡ fold
           ∙ ap (λ b. if b then [] else rs ++ r ∷ []) (sym so)
 
 -- what is kept of one more record
-kept_more : (q : Query) (rs : List Rec) (r : Rec) (o : Option Rec) → o ≡ kept q r
+pub kept_more : (q : Query) (rs : List Rec) (r : Rec) (o : Option Rec) → o ≡ kept q r
     → filter_map (kept q) (rs ++ r ∷ []) ≡ filter_map (kept q) rs ++ cons_option o []
 kept_more q rs r o is =
     filter_map-append (kept q) rs (r ∷ [])

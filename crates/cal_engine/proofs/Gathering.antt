@@ -154,9 +154,9 @@ module _ (q : Query) (rs : List Rec) (r : Rec) where
       parts = at (placed old.keys (group_of q.group r) new.keys h.number h.keys) ∙ ap (map (after)) keys
 
 -- a group that is added gets a place
-pub put_long : (old : List Rec) (x : Rec) (new : List Rec) (n : ℕ) (parts now : List (List Gathered)) (fresh : List Gathered)
+pub put_long : {A : Type 0} (old : List A) (x : A) (new : List A) (n : ℕ) (parts now : List (List Gathered)) (fresh : List Gathered)
     → Interns old x new n → length parts ≡ length old → now ≡ put_parts parts n fresh → length now ≡ length new
-put_long old x new n parts now fresh h long is = by (placed old x new n h)
+put_long {A} old x new n parts now fresh h long is = by (placed old x new n h)
   where
     within : (ps : List (List Gathered)) (m : ℕ) → m < length ps → length (put_parts ps m fresh) ≡ length ps
     within [] m l = absurd (omega arith)
@@ -174,7 +174,7 @@ put_long old x new n parts now fresh h long is = by (placed old x new n h)
         ap length is ∙ behind parts n (p.0 ∙ sym long) ∙ ap suc long
         ∙ sym (ap length p.1 ∙ length-push old x)
       where
-        length-push : (xs : List Rec) (y : Rec) → length (xs ++ y ∷ []) ≡ suc (length xs)
+        length-push : (xs : List A) (y : A) → length (xs ++ y ∷ []) ≡ suc (length xs)
         length-push [] y = refl
         length-push (z ∷ zs) y = ap suc (length-push zs y)
 

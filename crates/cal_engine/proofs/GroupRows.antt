@@ -1,12 +1,20 @@
 -- The rows of the groups of a fold are the rows of the query.
-use Rattle.std.proofs.Common.{◌≡◌, ℕ, zero, suc, ◌+◌, ◌<◌, true, List, [], ◌∷◌, ◌++◌, length, filter, map, fold, take, get_or, refl, sym, ap, ◌∙◌, arith}
+use Rattle.std.proofs.Common.{◌≡◌, ℕ, zero, suc, ◌+◌, ◌<◌, Bool, true, false, true≢false, ◌||◌, List, [], ◌∷◌, ◌++◌, length, filter, map, fold, take, get_or, refl, sym, ap, ◌∙◌, arith}
+use Rattle.std.specs.Prelude.{option_map}
+use Rattle.std.specs.List.{cons_option, list_any}
 use Rattle.std.proofs.lemmas.List.{map-append, take_more}
+use Rattle.cal_agg.specs.declared.num.Num.{Num}
+use Rattle.cal_filter.specs.Kept.{result_entry}
+use Rattle.cal_filter.specs.Numbers.{value_of_number}
+use Rattle.cal_ql.specs.declared.names.KernelName as kernels
+use Rattle.cal_ql.specs.declared.names.KernelName.TheVariants as kernel
 use Rattle.cal_ql.specs.declared.query.Agg.{Agg}
 use Rattle.cal_ql.specs.declared.query.Query.{Query}
 use Rattle.cal_value.specs.declared.record.Rec.{Rec}
-use Rattle.cal_engine.specs.Finishing.{AreGroupParts, AreKept, GroupLists, entries_of_results, lists_at, parts_where, row_with, rows_by}
+use Rattle.cal_engine.specs.Finishing.{AreGroupParts, AreKept, GroupLists, entries_of_results, is_inclusive, lists_at, parts_where, row_with, rows_by}
 use Rattle.cal_engine.specs.Folding.{Grouped, groups_over}
 use Rattle.cal_engine.specs.Groups.{group_of, groups_of, records_of}
+use Rattle.cal_engine.specs.Kernels.{contributed, result_of}
 use Rattle.cal_engine.specs.Parts.{Gathered, merged_parts, parts_over}
 use Rattle.cal_engine.specs.Rows.{is_below, records_below, row_of}
 use Rattle.cal_engine.proofs.Gathering.{group_laws, group_same}
@@ -42,6 +50,39 @@ rows_more aggs g keys n key before now row l e is step row_is =
     ∙ (λ i. is i ++ row_is i ∷ [])
     ∙ sym (map-append f (take n keys) (key ∷ []))
     ∙ ap (map f) (sym (take_more keys n key l ∙ ap (λ k. take n keys ++ k ∷ []) (sym e)))
+
+-- ---- only `inclusive_sum` looks below
+
+result_alike : (k : kernels.KernelName) → is_inclusive k ≡ false → (own all one other : List Num) → result_of k own all one ≡ result_of k own all other
+result_alike kernel.Count h own all one other = refl
+result_alike kernel.Sum h own all one other = refl
+result_alike kernel.Min h own all one other = refl
+result_alike kernel.Max h own all one other = refl
+result_alike kernel.Avg h own all one other = refl
+result_alike kernel.Percent h own all one other = refl
+result_alike kernel.Inclusive h own all one other = absurd (true≢false h)
+
+either_false : (a b : Bool) → (a || b) ≡ false → (a ≡ false) × (b ≡ false)
+either_false true b e = absurd (true≢false e)
+either_false false b e = (refl, e)
+
+entries_alike : (aggs : List Agg) → list_any (λ agg. is_inclusive agg.kernel) aggs ≡ false → (own all one other : List Rec)
+    → entries_of_results aggs (record { own = own; all = all; below = one }) ≡ entries_of_results aggs (record { own = own; all = all; below = other })
+entries_alike [] h own all one other = refl
+entries_alike (agg ∷ aggs) h own all one other =
+    let each = either_false (is_inclusive agg.kernel) (list_any (λ agg. is_inclusive agg.kernel) aggs) h in
+    let first = ap (option_map (λ n. result_entry agg.name (value_of_number n)))
+    (result_alike agg.kernel each.0 (contributed agg own) (contributed agg all) (contributed agg one) (contributed agg other)) in
+    λ i. cons_option (first i) (entries_alike aggs each.1 own all one other i)
+
+-- the lists of groups that don't look below
+abbrev pub flat_lists : GroupLists → GroupLists
+flat_lists g = record { own = g.own; all = g.all; below = g.own }
+
+pub rows_alike : (aggs : List Agg) (g : GroupLists) (keys : List Rec) → list_any (λ agg. is_inclusive agg.kernel) aggs ≡ false
+    → rows_by aggs (flat_lists g) keys ≡ rows_by aggs g keys
+rows_alike aggs g keys h =
+    λ i. map (λ key. row_with key (entries_alike aggs h (g.own key) g.all (g.own key) (g.below key) i)) keys
 
 parts_are_kept : (aggs : List Agg) → IsKept (parts_over aggs) merged_parts
 parts_are_kept aggs = record { merges = parts_over-append aggs; commutes = parts_over-swap aggs }
@@ -93,6 +134,21 @@ module _ (q : Query) (rs : List Rec) where
             below_is
             ∙ (λ i. map (λ key. fold merged_parts (none_is i) (parts_where (is_below key) (keys i) groups.parts)) groups.keys)
             ∙ map_alike (λ key. fold merged_parts (parts_over q.aggs []) (parts_where (is_below key) (groups_of q.group rs) groups.parts)) (λ key. parts_over q.aggs (records_below q.group key rs)) (λ key. groups_below key groups.parts parts) groups.keys;
+      }
+
+  -- without groups below
+  pub flat_parts : (groups : Grouped) (none all : List Gathered)
+      → groups ≡ groups_over q rs → none ≡ parts_over q.aggs []
+      → all ≡ fold merged_parts none groups.parts
+      → AreGroupParts q.aggs (flat_lists query_lists) groups.keys groups.parts all groups.parts
+  flat_parts groups none all is none_is all_is =
+      let keys = ap (λ g. g.keys) is in
+      let parts = ap (λ g. g.parts) is in
+      let own = parts ∙ ap (map (λ key. parts_over q.aggs (records_of q.group key rs))) (sym keys) in
+      record {
+        own = own;
+        all = all_is ∙ (λ i. fold merged_parts (none_is i) (parts i)) ∙ all_groups;
+        below = own;
       }
 
   -- and their rows are the query's

@@ -18,3 +18,10 @@ pub mod Results
 pub mod Totalling
 pub mod GroupRows
 pub mod Regroups
+pub mod Sifting
+pub mod Choosing
+pub mod KeyLemmas
+pub mod Counting
+pub mod Tallying
+pub mod Gating
+pub mod Staying

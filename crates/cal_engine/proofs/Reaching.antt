@@ -1,5 +1,5 @@
 -- The node to which a path leads.
-use Rattle.std.proofs.Common.{◌≡◌, ℕ, ◌+◌, ◌<◌, List, [], ◌∷◌, ◌++◌, length, get_or, map, take, refl, sym, ap, ◌∙◌, arith}
+use Rattle.std.proofs.Common.{◌≡◌, ℕ, ◌+◌, ◌<◌, List, [], ◌∷◌, ◌++◌, length, get_or, map, take, refl, sym, subst, ap, ◌∙◌, arith, append_assoc, append-nil}
 use Rattle.std.proofs.lemmas.List.{map-append, take_more}
 use Rattle.std.proofs.lemmas.List.Elements.{All-push}
 use Rattle.std.proofs.lemmas.Option.{get_or_from_slice_get, slice_get_within}
@@ -40,12 +40,62 @@ leads-none t context = record {
   is = get_or_from_slice_get t.paths 0 [] [] context.root;
 }
 
-pub leads-more : (old new : Tree) (path : List Entry) (i : ℕ) (e : Entry) (up n : NodeNumber) → i < length path → e ≡ get_or path i e → Leads old (take i path) up → IsStep old new up e n
-    → Leads new (take (i + 1) path) n
-leads-more old new path i e up n within is leads step = record {
+pub leads-begin : (t : Tree) (before : List Entry) (n : NodeNumber) → Leads t before n → Leads t (before ++ []) n
+leads-begin t before n h = subst (λ p. Leads t p n) (sym (append-nil before)) h
+
+pub leads-more : (old new : Tree) (before path : List Entry) (i : ℕ) (e : Entry) (up n : NodeNumber) → i < length path → e ≡ get_or path i e
+    → Leads old (before ++ take i path) up → IsStep old new up e n → Leads new (before ++ take (i + 1) path) n
+leads-more old new before path i e up n within is leads step = record {
   within = step.within;
-  is = step.path ∙ (λ j. leads.is j ++ is j ∷ []) ∙ sym (take_more path i e within);
+  is =
+      step.path ∙ (λ j. leads.is j ++ is j ∷ [])
+      ∙ append_assoc before (take i path) (get_or path i e ∷ [])
+      ∙ ap (λ p. before ++ p) (sym (take_more path i e within));
 }
+
+-- where a path leads stays while the tree grows
+pub Leads-Grows : {old new : Tree} → Grows old new → (path : List Entry) (n : NodeNumber) → Leads old path n → Leads new path n
+Leads-Grows grows path n h = record {
+  within = within_paths grows n.0 h.within;
+  is = path_at-Grows grows n h.within ∙ h.is;
+}
+
+-- only the empty path leads to the root, and it leads nowhere else
+pub leads-root : (t : Tree) → IsContext t → (path : List Entry) (n : NodeNumber) → n.0 ≡ 0 → Leads t path n → path ≡ []
+leads-root t context path n zero_is h =
+    sym h.is ∙ ap (λ k. get_or t.paths k []) zero_is ∙ (leads-none t context).is
+
+pub leads-below : (t : Tree) → IsContext t → (n : NodeNumber) → (n.0 ≡ 0 → ⊥) → Leads t [] n → ⊥
+leads-below t context n other h =
+    other (context.paths n.0 0 [] h.within (leads-none t context).within (h.is ∙ sym (leads-none t context).is))
+
+-- a path behind another
+pub joined_root : (t : Tree) → IsContext t → (one two : List Entry) (n m : NodeNumber) → n.0 ≡ 0 → Leads t one n → Leads t two m → Leads t (one ++ two) m
+joined_root t context one two n m zero_is h g = subst (λ p. Leads t (p ++ two) m) (sym (leads-root t context one n zero_is h)) g
+
+pub joined_path : (old new : Tree) (one two path : List Entry) (m n : NodeNumber) → path ≡ path_at old m → Leads old two m → Leads new (one ++ path) n
+    → Leads new (one ++ two) n
+joined_path old new one two path m n is h g = subst (λ p. Leads new (one ++ p) n) (is ∙ h.is) g
+
+pub path_root : (t : Tree) → IsContext t → (n : NodeNumber) → n.0 ≡ 0 → [] ≡ path_at t n
+path_root t context n zero_is = sym (ap (λ k. get_or t.paths k []) zero_is ∙ (leads-none t context).is)
+
+last_of_one : (xs : List (List Entry)) (x y : List Entry) → y ∷ [] ≡ xs ++ x ∷ [] → x ≡ y
+last_of_one [] x y e = cc
+last_of_one (z ∷ []) x y e = cc
+last_of_one (z ∷ w ∷ xs) x y e = cc
+
+-- the path of a snapshot's one node
+pub path_alone : (t : Tree) (nodes : List NodeNumber) (n : NodeNumber) (paths rest : List (List Entry)) (path : List Entry)
+    → nodes ≡ n ∷ [] → paths ≡ map (path_at t) nodes → paths ≡ rest ++ path ∷ [] → path ≡ path_at t n
+path_alone t nodes n paths rest path one are popped = last_of_one rest path (path_at t n) (sym (ap (map (path_at t)) one) ∙ sym are ∙ popped)
+
+pub path_not_none : (t : Tree) (nodes : List NodeNumber) (n : NodeNumber) (paths : List (List Entry))
+    → nodes ≡ n ∷ [] → paths ≡ map (path_at t) nodes → paths ≡ [] → ⊥
+path_not_none t nodes n paths one are none = not_empty (sym (ap (map (path_at t)) one) ∙ sym are ∙ none)
+  where
+    not_empty : path_at t n ∷ [] ≡ [] → ⊥
+    not_empty e = cc
 
 -- ---- the ways to groups
 

@@ -1,5 +1,5 @@
 -- What the parts of a fold come to.
-use Rattle.std.specs.Prelude.{◌≡◌, Bool, false, List, [], ◌∷◌, ◌++◌, Option}
+use Rattle.std.specs.Prelude.{◌≡◌, Bool, true, false, List, [], ◌∷◌, ◌++◌, Option}
 use Rattle.std.specs.Prelude.{map, option_map, if◌then◌else◌, ⊤}
 use Rattle.std.specs.List.{filter_map}
 use Rattle.cal_agg.specs.Numbers.{some_fixed}
@@ -18,6 +18,11 @@ use Rattle.cal_engine.specs.Parts.{Gathered, part_over, parts_over}
 abbrev pub TakesWhole : kernels.KernelName → List Num → Type 0
 TakesWhole kernel.Count ns = some_fixed ns ≡ false
 TakesWhole _ ns = ⊤
+
+-- `inclusive_sum` alone looks at the groups below a group
+abbrev pub is_inclusive : kernels.KernelName → Bool
+is_inclusive kernel.Inclusive = true
+is_inclusive _ = false
 
 -- the parts of a kernel over a group's numbers, over all numbers, and over those below
 pub record ArePartsOf (k : kernels.KernelName) (ns ms bs : List Num)

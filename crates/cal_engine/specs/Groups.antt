@@ -3,6 +3,7 @@ use Rattle.std.specs.Prelude.{Option, None, Some, filter, map, if◌then◌else�
 use Rattle.std.specs.Ordering.{eq_by_cmp}
 use Rattle.cal_value.specs.Flat.{joined}
 use Rattle.cal_value.specs.Order.{group_cmp}
+use Rattle.cal_value.specs.declared.attribute.Attribute.{Attribute}
 use Rattle.cal_value.specs.declared.attribute.Entry.{Entry}
 use Rattle.cal_value.specs.declared.record.Rec.{Rec}
 use Rattle.cal_rowset.specs.Cells.{is_path}
@@ -10,11 +11,14 @@ use Rattle.cal_rowset.specs.Hierarchy.{is_of_hierarchy}
 use Rattle.cal_rowset.specs.Texts.{is_same}
 use Rattle.cal_engine.specs.FirstSeen.{firsts}
 
--- Whether a name of GROUP BY takes an entry: `path` takes the hierarchy's, which stand in paths;
--- another name takes the entries of that name.
+-- Whether a name of GROUP BY takes the entries of an attribute: `path` takes the hierarchy's, which
+-- stand in paths; another name takes the entries of that name.
+abbrev pub takes_attribute : Bool → List ℕ → Attribute → Bool
+takes_attribute in_path name a =
+    if is_path name then in_path && is_of_hierarchy a else is_same a.name name
+
 abbrev pub takes : Bool → List ℕ → Entry → Bool
-takes in_path name e =
-    if is_path name then in_path && is_of_hierarchy e.attr else is_same e.attr.name name
+takes in_path name e = takes_attribute in_path name e.attr
 
 -- what each name takes, in order: of the entries that no earlier name took
 abbrev pub taken : Bool → List (List ℕ) → List Entry → List (List Entry)

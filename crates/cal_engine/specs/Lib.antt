@@ -12,3 +12,12 @@ pub mod Learning
 pub mod Trails
 pub mod Totals
 pub mod Finishing
+pub mod Choices
+pub mod Sieves
+pub mod Keys
+pub mod Numbered
+pub mod Counters
+pub mod Tallies
+pub mod Gates
+pub mod Standing
+pub mod FoldGrows

@@ -1,4 +1,5 @@
 ghost use Rattle.std.specs.Prelude.{◌≡◌, [], ◌++◌, List, length, map, IfOk, OnOk, Some};
+ghost use Rattle.std.specs.List.{list_any};
 ghost use Rattle.std.specs.Option.{option_copied};
 ghost use Rattle.cal_agg.specs.declared.num.Num.{Num as Number};
 ghost use Rattle.cal_filter.specs.Kept.{result_entry as result_entry_of};
@@ -6,14 +7,15 @@ ghost use Rattle.cal_filter.specs.Numbers.{value_of_number as value_of};
 ghost use Rattle.cal_value.specs.declared.record.Rec.{Rec as ARecord};
 ghost use Rattle.cal_engine.specs.Finishing.{entries_of_results, entry_of_result, row_with};
 ghost use Rattle.cal_engine.specs.Finishing.{rows_by, AreGroupParts, AreKept, GroupLists, Lists};
-ghost use Rattle.cal_engine.specs.Finishing.{TakesWhole};
+ghost use Rattle.cal_engine.specs.Finishing.{TakesWhole, is_inclusive};
 ghost use Rattle.cal_engine.specs.Folding.{groups_over};
 ghost use Rattle.cal_engine.specs.Groups.{groups_of};
 ghost use Rattle.cal_engine.specs.Kernels.{contributed, result_of};
 ghost use Rattle.cal_engine.specs.Parts.{part_over, parts_over};
 ghost use Rattle.cal_engine.specs.Rows.{row_of as row_by};
 
-use crate::groups::Groups;
+use crate::below::parts_below;
+use crate::groups::total;
 use crate::part::Part;
 use crate::reading::push_some;
 use cal_agg::Num;
@@ -119,21 +121,36 @@ fn row(
 pub(crate) fn group_rows(
     alloc: Global,
     query: &Query,
-    groups: &Groups,
+    keys: &[Rec],
+    parts: &[Seq<Part>],
 ) -> Result<Seq<Rec>, OutOfMemory>
-    ensures { IfOk result (λ rows. (rs : List ARecord) → groups.now ≡ groups_over query.now rs
+    requires { length parts.now ≡ length keys.now }
+    ensures { IfOk result (λ rows. (rs : List ARecord)
+        → record { keys = keys.now; parts = parts.now } ≡ groups_over query.now rs
         → rows ≡ map (row_by query.now rs) (groups_of query.now.group rs)) }
 {
     let aggs = query.aggs.as_slice();
     let none = no_parts(alloc, aggs)?;
-    let all = groups.all(alloc, &none)?;
-    let below = groups.below(alloc, &none)?;
-    let rows = groups.rows(alloc, aggs, &all, &below)?;
-    Ok(rows)
+    let all = total(alloc, parts, &none)?;
+    if some_inclusive(aggs) {
+        let below = parts_below(alloc, keys, parts, &none)?;
+        let made = rows(alloc, aggs, keys, parts, &all, &below)?;
+        return Ok(made);
+    }
+    let made = rows(alloc, aggs, keys, parts, &all, parts)?;
+    Ok(made)
+}
+
+/// Whether some kernel looks at the groups below a group.
+fn some_inclusive(aggs: &[Agg]) -> bool
+    ensures { result ≡ list_any (λ agg. is_inclusive agg.kernel) aggs.now }
+{
+    aggs.iter()
+        .any(|agg| matches!(agg.kernel, KernelName::Inclusive))
 }
 
 /// The rows of groups, each of its own parts, of those of all groups, and of those below it.
-pub(crate) fn rows(
+fn rows(
     alloc: Global,
     aggs: &[Agg],
     keys: &[Rec],

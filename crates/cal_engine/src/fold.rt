@@ -8,7 +8,6 @@ ghost use Rattle.cal_engine.specs.Rows.{is_aggregated as is_aggregated_by, rows_
 
 use crate::columns::columns_of;
 use crate::filtering::made;
-use crate::finishing::group_rows;
 use crate::grouping::group_of;
 use crate::groups::Groups;
 use crate::reading::{Reading, parts_of, readings_of};
@@ -154,14 +153,14 @@ fn made_rows(
         → IsFolded query.now groups.now rows rs → made ≡ rows_of query.now rs) }
 {
     if is_aggregated(query) {
-        let made = group_rows(alloc, query, groups)?;
+        let made = groups.rows(alloc, query)?;
         return Ok(made);
     }
     Ok(rows)
 }
 
 /// The answer with these rows, which it orders.
-fn finished(alloc: Global, query: &Query, rows: Seq<Rec>) -> Result<Rowset, OutOfMemory>
+pub(crate) fn finished(alloc: Global, query: &Query, rows: Seq<Rec>) -> Result<Rowset, OutOfMemory>
     ensures { IfOk result (λ answer. answer ≡ answer_with query.now rows) }
 {
     let rows = sorted_rows(alloc, &query.order, rows)?;
@@ -178,7 +177,7 @@ fn finished(alloc: Global, query: &Query, rows: Seq<Rec>) -> Result<Rowset, OutO
 }
 
 /// A query is aggregated where it has GROUP BY or a kernel.
-fn is_aggregated(query: &Query) -> bool
+pub(crate) fn is_aggregated(query: &Query) -> bool
     ensures { result ≡ is_aggregated_by query.now }
 {
     query.group.is_some() || !query.aggs.is_empty()

@@ -1,10 +1,10 @@
 ghost use Rattle.std.specs.Prelude.{◌≡◌, not, filter, codes, IfOk, true, false};
 ghost use Rattle.cal_value.specs.Flat.{joined};
 ghost use Rattle.cal_engine.specs.Groups.{group_of as group_by, has_entries, taken};
-ghost use Rattle.cal_engine.specs.Groups.{takes as name_takes};
+ghost use Rattle.cal_engine.specs.Groups.{takes as name_takes, takes_attribute};
 
 use cal_rowset::is_of_hierarchy;
-use cal_value::{Entry, OutOfMemory, Rec, Seq, Text};
+use cal_value::{Attribute, Entry, OutOfMemory, Rec, Seq, Text};
 use std::alloc::Global;
 
 /// The group of a record, whose entries move there.
@@ -96,7 +96,7 @@ fn pick(
     let mut took = Vec::new(alloc);
     let mut rest = Vec::new(alloc);
     for entry in entries {
-        if takes(in_path, name, &entry) {
+        if takes(in_path, name, &entry.attr) {
             took.push(entry)?;
         } else {
             rest.push(entry)?;
@@ -105,13 +105,13 @@ fn pick(
     Ok(Picked { took, rest })
 }
 
-/// Whether a name of GROUP BY takes an entry.
-fn takes(in_path: bool, name: &Text, entry: &Entry) -> bool
-    ensures { result ≡ name_takes in_path name.now entry.now }
+/// Whether a name of GROUP BY takes the entries of an attribute.
+pub(crate) fn takes(in_path: bool, name: &Text, attribute: &Attribute) -> bool
+    ensures { result ≡ takes_attribute in_path name.now attribute.now }
 {
     if name.as_str() == "path" {
-        in_path && is_of_hierarchy(&entry.attr)
+        in_path && is_of_hierarchy(attribute)
     } else {
-        entry.attr.name.as_str() == name.as_str()
+        attribute.name.as_str() == name.as_str()
     }
 }

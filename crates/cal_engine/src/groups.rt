@@ -1,17 +1,16 @@
 ghost use Rattle.std.specs.Prelude.{◌≡◌, ◌≤◌, ◌++◌, List, fold, length, map, IfOk, OnOk, OnErr};
 ghost use Rattle.cal_ql.specs.declared.query.Query.{Query as AQuery};
 ghost use Rattle.cal_value.specs.declared.record.Rec.{Rec as ARecord};
-ghost use Rattle.cal_engine.specs.Finishing.{parts_where, rows_by, AreGroupParts, GroupLists};
-ghost use Rattle.cal_engine.specs.Rows.{is_below};
+ghost use Rattle.cal_engine.specs.Groups.{groups_of};
+ghost use Rattle.cal_engine.specs.Rows.{row_of as row_by};
 ghost use Rattle.cal_engine.specs.Folding.{groups_over, no_groups, put_parts, Gathers};
 ghost use Rattle.std.specs.Option.{option_copied};
 ghost use Rattle.cal_engine.specs.Parts.{behind, merged_parts as merged_by_place};
 
-use crate::below::parts_below;
-use crate::finishing::rows;
+use crate::finishing::group_rows;
 use crate::part::Part;
 use cal_context::Interner;
-use cal_ql::Agg;
+use cal_ql::Query;
 use cal_value::{OutOfMemory, Rec, Seq, TryCopy};
 use std::alloc::Global;
 use std::marker::Model;
@@ -83,41 +82,21 @@ impl Groups {
         Ok(merged)
     }
 
-    /// The parts of all groups, taken together.
-    pub fn all(&self, alloc: Global, none: &Seq<Part>) -> Result<Seq<Part>, OutOfMemory>
-        ensures { IfOk result (λ all. all ≡ fold merged_by_place none.now self.now.parts) }
-    {
-        let _ = &self.keys;
-        total(alloc, &self.parts, none)
-    }
-
-    /// The parts of the groups at or below each group, taken together.
-    pub fn below(&self, alloc: Global, none: &Seq<Part>) -> Result<Vec<Seq<Part>>, OutOfMemory>
-        ensures { IfOk result (λ below. below.items ≡ map (λ key. fold merged_by_place none.now
-            (parts_where (is_below key) self.now.keys self.now.parts)) self.now.keys) }
-    {
-        parts_below(alloc, self.keys.as_slice(), &self.parts, none)
-    }
-
     /// The rows of the groups.
-    pub fn rows(
-        &self,
-        alloc: Global,
-        aggs: &[Agg],
-        all: &Seq<Part>,
-        below: &[Seq<Part>],
-    ) -> Result<Seq<Rec>, OutOfMemory>
-        requires { length below.now ≡ length self.now.keys }
-        ensures { IfOk result (λ rows. (lists : GroupLists)
-            → AreGroupParts aggs.now lists self.now.keys self.now.parts all.now below.now
-            → rows ≡ rows_by aggs.now lists self.now.keys) }
+    pub fn rows(&self, alloc: Global, query: &Query) -> Result<Seq<Rec>, OutOfMemory>
+        ensures { IfOk result (λ rows. (rs : List ARecord) → self.now ≡ groups_over query.now rs
+            → rows ≡ map (row_by query.now rs) (groups_of query.now.group rs)) }
     {
-        rows(alloc, aggs, self.keys.as_slice(), &self.parts, all, below)
+        group_rows(alloc, query, self.keys.as_slice(), &self.parts)
     }
 }
 
 /// Parts taken together.
-fn total(alloc: Global, parts: &[Seq<Part>], none: &Seq<Part>) -> Result<Seq<Part>, OutOfMemory>
+pub(crate) fn total(
+    alloc: Global,
+    parts: &[Seq<Part>],
+    none: &Seq<Part>,
+) -> Result<Seq<Part>, OutOfMemory>
     ensures { IfOk result (λ total. total ≡ fold merged_by_place none.now parts.now) }
 {
     let mut total = none.copy(alloc)?;
@@ -129,7 +108,7 @@ fn total(alloc: Global, parts: &[Seq<Part>], none: &Seq<Part>) -> Result<Seq<Par
 
 /// Puts parts behind those of a number, or at the end.
 #[tactic(auto, using(crate::proofs::Gathering::of_putting))]
-fn put(
+pub(crate) fn put(
     alloc: Global,
     parts: &mut Vec<Seq<Part>>,
     number: usize,

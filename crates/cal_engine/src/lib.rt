@@ -1,20 +1,35 @@
 //! The answer of a query on records: groups, kernels, rows and columns.
+//!
+//! A `SnapshotFold` takes records as snapshots of a context, so that one costs its nodes and
+//! immediates and not the depth of its paths; a `Fold` takes them with entries of their own, and
+//! `answer` all at once. Each gives the answer that `answer_of` says. What is left of a
+//! `SnapshotFold` that ran out of memory isn't promised, nor is time.
 #![tactic(auto)]
 
 mod answering;
 mod below;
 mod columns;
+mod counter;
 mod filtering;
 mod finishing;
 mod fold;
+mod gate;
 mod grouping;
 mod groups;
+mod key;
+mod numbered;
 mod part;
 mod reading;
+mod sieve;
+mod sieves;
 mod small;
+mod snapshot_fold;
 mod sorting;
+mod stepping;
+mod tally;
 mod upwards;
 mod ways;
 
 pub use answering::answer;
 pub use fold::Fold;
+pub use snapshot_fold::SnapshotFold;

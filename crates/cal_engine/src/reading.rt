@@ -19,8 +19,8 @@ use std::alloc::Global;
 /// weight of the record.
 #[derive(Drop)]
 pub(crate) struct Reading {
-    kernel: KernelName,
-    names: Seq<Text>,
+    pub kernel: KernelName,
+    pub names: Seq<Text>,
 }
 
 impl Reading {
@@ -155,7 +155,7 @@ pub(crate) fn is_named(name: &str, entry: &Entry) -> bool
     entry.attr.name.as_str() == name
 }
 
-fn number_sought(whole: bool, value: &Variant) -> Option<Num>
+pub(crate) fn number_sought(whole: bool, value: &Variant) -> Option<Num>
     ensures { result ≡ sought_in whole value.now }
 {
     match number_in(value)? {

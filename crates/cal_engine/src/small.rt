@@ -25,7 +25,7 @@ fn are_small(entries: &[Entry]) -> bool
     entries.iter().all(|entry| is_small(&entry.value))
 }
 
-fn is_small(value: &Variant) -> bool
+pub(crate) fn is_small(value: &Variant) -> bool
     ensures { IsTrue result → IsSmall value.now }
 {
     match value {

@@ -1,10 +1,11 @@
-ghost use Rattle.std.specs.Prelude.{◌≡◌, ◌<◌, [], ◌∷◌, ◌++◌, length, filter, IfOk, OnOk};
+ghost use Rattle.std.specs.Prelude.{◌≡◌, [], ◌∷◌, ◌++◌, length, filter, IfOk, OnOk};
 ghost use Rattle.cal_context.specs.Tree.{Grows};
 ghost use Rattle.cal_value.specs.Flat.{joined};
-ghost use Rattle.cal_engine.specs.Totals.{AreWays, IsStep, Leads};
+ghost use Rattle.cal_engine.specs.Totals.{AreWays, Leads};
 ghost use Rattle.cal_engine.specs.Trails.{is_chosen as is_chosen_so, mark as mark_of};
 ghost use Rattle.cal_engine.specs.Trails.{trail as trail_of};
 
+use crate::stepping::reach_from;
 use cal_context::{Context, NodeNumber};
 use cal_rowset::is_of_hierarchy;
 use cal_value::{Attribute, Entry, Kind, OutOfMemory, Props, Rec, Text, TryCopy, Variant};
@@ -33,21 +34,7 @@ fn reach(context: &mut Context, path: &[Entry]) -> Result<NodeNumber, OutOfMemor
     ensures grows { OnOk result (Grows context.old context.new) }
 {
     context.has_each_once();
-    let mut node = NodeNumber::ROOT;
-    for entry in path {
-        node = step(context, node, entry)?;
-    }
-    Ok(node)
-}
-
-/// The node of an entry below a node.
-fn step(context: &mut Context, parent: NodeNumber, entry: &Entry) -> Result<NodeNumber, OutOfMemory>
-    requires { parent.0 < length context.old.paths }
-    ensures step { IfOk result (IsStep context.old context.new parent entry.now) }
-    ensures grows { OnOk result (Grows context.old context.new) }
-{
-    let attribute = context.attribute(&entry.attr)?;
-    let node = context.child(parent, attribute, &entry.value)?;
+    let node = reach_from(context, NodeNumber::ROOT, path)?;
     Ok(node)
 }
 

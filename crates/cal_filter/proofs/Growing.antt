@@ -20,7 +20,7 @@ use Rattle.cal_filter.specs.declared.seeker.Seeker.{Seeker}
 use Rattle.cal_filter.proofs.Zips.{zip_weaker}
 
 module _ {old new : Tree} (grows : Grows old new) where
-  knows-Grows : (s : Seeker) → Knows old s → Knows new s
+  pub knows-Grows : (s : Seeker) → Knows old s → Knows new s
   knows-Grows s k = record {
     attributes = λ a h. let known = k.attributes a h in
         record {

@@ -3,13 +3,13 @@ mod KindLemmas
 mod Last
 mod Seeking
 mod Finding
-mod Zips
-mod OperandLemmas
+pub mod Zips
+pub mod OperandLemmas
 mod Holding
-mod Growing
+pub mod Growing
 mod SmallNumbers
 mod Applying
 mod ResultLemmas
-mod ReadyLemmas
+pub mod ReadyLemmas
 mod FlatOnly
 mod InternedLemmas

@@ -89,7 +89,7 @@ value_number : (o : Option Entry) → option_and_then number_in (option_map (λ 
 value_number None = refl
 value_number (Some e) = refl
 
-number_sought_is : (name : List ℕ) (r : Rec)
+pub number_sought_is : (name : List ℕ) (r : Rec)
     → number_sought (record { name = name; wanted = wanted.Number }) (flat r) ≡ last_number name r
 number_sought_is name r =
     value_number (last_sought (record { name = name; wanted = wanted.Number }) (flat r))
@@ -169,7 +169,7 @@ map_sought : {B : Type 0} (f : Sought → B) (ss : List Seeker)
 map_sought f [] = refl
 map_sought f (s ∷ ss) = ap (λ bs. f (sought s) ∷ bs) (map_sought f ss)
 
-filter_map_sought : {B : Type 0} (f : Sought → Option B) (ss : List Seeker)
+pub filter_map_sought : {B : Type 0} (f : Sought → Option B) (ss : List Seeker)
     → filter_map (λ s. f (sought s)) ss ≡ filter_map f (map sought ss)
 filter_map_sought f [] = refl
 filter_map_sought {B} f (s ∷ ss) = ap (λ bs. cons_option (f (sought s)) bs) (filter_map_sought f ss)

@@ -22,14 +22,14 @@ use Rattle.cal_filter.specs.declared.filter.Filter.{Filter}
 use Rattle.cal_filter.specs.declared.seeker.Seeker.{Seeker}
 use Rattle.cal_filter.proofs.Zips.{zip_at, zip_length, zip_then, zip_weaker}
 
-same_sought : (t : Tree) (old new : List Seeker) → AllZip (CatchesUp t) old new
+pub same_sought : (t : Tree) (old new : List Seeker) → AllZip (CatchesUp t) old new
     → map sought new ≡ map sought old
 same_sought t [] [] h = refl
 same_sought t [] (y ∷ new) h = elim h [ ]
 same_sought t (x ∷ old) [] h = elim h [ ]
 same_sought t (x ∷ old) (y ∷ new) h = λ i. h.0.same i ∷ same_sought t old new h.1 i
 
-all_know : (t : Tree) (old new : List Seeker) → AllZip (CatchesUp t) old new → All (Knows t) old
+pub all_know : (t : Tree) (old new : List Seeker) → AllZip (CatchesUp t) old new → All (Knows t) old
     → All (KnowsAll t) new
 all_know t old new h knows = λ i d short.
     let counted = zip_length (CatchesUp t) old new h in

@@ -14,7 +14,7 @@ use Rattle.cal_value.specs.declared.kind.Kind as kinds
 use Rattle.cal_value.specs.declared.kind.Kind.TheVariants as kind
 use Rattle.cal_value.specs.declared.variant.Variant.{Variant}
 use Rattle.cal_filter.specs.Named.{is_named}
-use Rattle.cal_filter.specs.Numbers.{number_in}
+use Rattle.cal_filter.specs.Numbers.{number_in, whole_in}
 use Rattle.cal_filter.specs.declared.relation.Relation as relations
 use Rattle.cal_filter.specs.declared.relation.Relation.TheVariants as relation
 use Rattle.cal_filter.specs.declared.wanted.Wanted as wants
@@ -48,6 +48,7 @@ stands relation.AtLeast = is_ge
 abbrev pub passes : wants.Wanted → kinds.Kind → Variant → Bool
 passes wanted.Any k v = true
 passes wanted.Number k v = is_some (number_in v)
+passes wanted.Whole k v = is_some (whole_in v)
 passes (wanted.Compared c) k v =
     option_map_or (λ w. stands c.relation (value_cmp v w)) (value_for c.values.items k) false
 
@@ -76,6 +77,14 @@ number_sought s es = option_and_then number_in (value_sought s es)
 abbrev pub wanted_by : ops.Op → wants.Wanted
 wanted_by op.First = wanted.Any
 wanted_by _ = wanted.Number
+
+-- the last number of a name
+abbrev pub number_of : List ℕ → Sought
+number_of name = record { name = name; wanted = wanted.Number }
+
+-- the last whole number of a name
+abbrev pub whole_of : List ℕ → Sought
+whole_of name = record { name = name; wanted = wanted.Whole }
 
 -- what an operator seeks by a name
 abbrev pub sought_by : ops.Op → List ℕ → Sought

@@ -70,6 +70,18 @@ impl Filter {
         Ok(keeps(&self.conditions, context, snapshot))
     }
 
+    /// Answers whether WHERE keeps a snapshot as it is, without LET.
+    pub fn keeps(&mut self, context: &Context, snapshot: &Snapshot) -> Result<bool, OutOfMemory>
+        requires { IsIn context.now snapshot.now }
+        ensures stays { OnOk result ((q : QueryOf) → IsFilter context.now q self.old
+            → IsFilter context.now q self.new) }
+        ensures kept { IfOk result (λ keeps. (q : QueryOf) → IsFilter context.now q self.old
+            → keeps ≡ where_holds q.conds (meaning context.now snapshot.now)) }
+    {
+        self.catch_up(context)?;
+        Ok(keeps(&self.conditions, context, snapshot))
+    }
+
     fn catch_up(&mut self, context: &Context) -> Result<(), OutOfMemory>
         ensures { OnOk result ((q : QueryOf) → IsFilter context.now q self.old
             → IsReadyFilter context.now q self.new) }

@@ -15,11 +15,7 @@ use cal_value::Variant;
 impl Seeker {
     /// The value of the last entry of a record that is sought. It takes time for its nodes and
     /// immediates.
-    pub(crate) fn find<'a>(
-        &self,
-        context: &'a Context,
-        snapshot: &'a Snapshot,
-    ) -> Option<&'a Variant>
+    pub fn find<'a>(&self, context: &'a Context, snapshot: &'a Snapshot) -> Option<&'a Variant>
         requires { IsIn context.now snapshot.now }
         ensures { KnowsAll context.now self.now → option_copied result
             ≡ value_sought (sought self.now) (flat (meaning context.now snapshot.now)) }

@@ -25,4 +25,6 @@ mod wanted;
 pub use filter::Filter;
 pub use laws::{filters_stay, numbers_stay_small};
 pub use number::{number_in, value_of_number};
+pub use operands::catch_up_all;
 pub use record::apply;
+pub use seeker::Seeker;

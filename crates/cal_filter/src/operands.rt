@@ -36,7 +36,7 @@ pub(crate) fn seekers_of(alloc: Global, op: Op, names: &[Text]) -> Result<Vec<Se
 }
 
 /// Lets each seeker know what is new in a context.
-pub(crate) fn catch_up_all(seekers: &mut [Seeker], context: &Context) -> Result<(), OutOfMemory>
+pub fn catch_up_all(seekers: &mut [Seeker], context: &Context) -> Result<(), OutOfMemory>
     ensures { OnOk result (AllZip (CatchesUp context.now) seekers.old seekers.new) }
 {
     for seeker in seekers.iter_mut() {

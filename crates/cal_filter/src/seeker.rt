@@ -2,7 +2,7 @@ ghost use Rattle.std.specs.Prelude.{◌≡◌, ◌<◌, length, OnOk};
 ghost use Rattle.cal_context.specs.Tree.{Tree, attribute_at};
 ghost use Rattle.cal_filter.specs.Known.{IsNearest, Knows, KnowsAll, KnowsAttributes, named_at};
 ghost use Rattle.cal_filter.specs.Known.{nearest_at, sought};
-ghost use Rattle.cal_filter.specs.Sought.{seeks as is_sought};
+ghost use Rattle.cal_filter.specs.Sought.{number_of, seeks as is_sought, whole_of};
 
 use crate::wanted::Wanted;
 use cal_context::{AttributeNumber, Context, NodeNumber};
@@ -12,7 +12,7 @@ use std::alloc::Global;
 /// Looks for the last entry of a name that is wanted, over snapshots by number. What it found out
 /// about an attribute or a node it keeps beside its number.
 #[derive(Drop)]
-pub(crate) struct Seeker {
+pub struct Seeker {
     name: Text,
     wanted: Wanted,
     // of each attribute: whether it has the name
@@ -22,6 +22,22 @@ pub(crate) struct Seeker {
 }
 
 impl Seeker {
+    /// Looks for the last number of a name, and knows nothing yet. It takes no memory.
+    pub fn of_number(alloc: Global, name: Text) -> Seeker
+        ensures sought { sought result ≡ number_of name }
+        ensures knows { (t : Tree) → Knows t result }
+    {
+        Seeker::new(alloc, name, Wanted::Number)
+    }
+
+    /// The same of the last whole number.
+    pub fn of_whole(alloc: Global, name: Text) -> Seeker
+        ensures sought { sought result ≡ whole_of name }
+        ensures knows { (t : Tree) → Knows t result }
+    {
+        Seeker::new(alloc, name, Wanted::Whole)
+    }
+
     /// A seeker that knows nothing yet. It takes no memory.
     pub(crate) fn new(alloc: Global, name: Text, wanted: Wanted) -> Seeker
         ensures sought { sought result ≡ record { name = name; wanted = wanted } }
@@ -36,7 +52,7 @@ impl Seeker {
     }
 
     /// Gets to know what is new in a context.
-    pub(crate) fn catch_up(&mut self, context: &Context) -> Result<(), OutOfMemory>
+    pub fn catch_up(&mut self, context: &Context) -> Result<(), OutOfMemory>
         ensures knows { OnOk result (Knows context.now self.old → KnowsAll context.now self.new) }
         ensures same { OnOk result (sought self.new ≡ sought self.old) }
     {

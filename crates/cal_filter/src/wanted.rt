@@ -1,11 +1,13 @@
-ghost use Rattle.std.specs.Prelude.{◌≡◌, IfOk};
+ghost use Rattle.std.specs.Prelude.{◌≡◌, is_some, IfOk};
 ghost use Rattle.cal_filter.specs.Conditions.{compares, test_holds};
+ghost use Rattle.cal_filter.specs.Numbers.{whole_in};
 ghost use Rattle.cal_filter.specs.Sought.{passes as is_wanted, stands, wanted_by};
 ghost use Rattle.cal_value.specs.declared.attribute.Entry.{Entry};
 
 use crate::kinds::{kind_place, values_of};
 use crate::number_in;
 use crate::relation::Relation;
+use cal_agg::Num;
 use cal_ql::{Op, Test};
 use cal_value::{Kind, OutOfMemory, Text, Variant};
 use std::alloc::Global;
@@ -17,6 +19,8 @@ pub(crate) enum Wanted {
     Any,
     /// That its value is a number.
     Number,
+    /// That its value is a whole number.
+    Whole,
     /// How its value stands to another.
     Compared(Compared),
 }
@@ -75,6 +79,7 @@ impl Wanted {
         match self {
             Wanted::Any => true,
             Wanted::Number => number_in(value).is_some(),
+            Wanted::Whole => is_whole(value),
             Wanted::Compared(compared) => compared.holds(kind, value),
         }
     }
@@ -89,4 +94,10 @@ impl Compared {
             _ => false,
         }
     }
+}
+
+fn is_whole(value: &Variant) -> bool
+    ensures { result ≡ is_some (whole_in value.now) }
+{
+    matches!(number_in(value), Some(Num::Whole(_)))
 }

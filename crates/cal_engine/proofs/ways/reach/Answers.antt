@@ -1,22 +1,6 @@
-use Rattle.std.proofs.Common.{List, subst}
-use Rattle.std.proofs.lemmas.List.{take_all}
-use Rattle.cal_context.proofs.CallerLemmas.{Grows-refl, Grows-trans}
-use Rattle.cal_value.specs.declared.attribute.Entry.{Entry}
-use Rattle.cal_engine.specs.Totals.{Leads}
-use Rattle.cal_engine.proofs.Reaching.{leads-none, leads-more}
+use Rattle.std.proofs.Common.{[]}
+use Rattle.cal_engine.proofs.Reaching.{leads-none}
 use Rattle.cal_engine.proofs.ways.reach.Goals as goal
 
-pub loop-entry-init : goal.loop-entry-init
-loop-entry-init c = record { grows = Grows-refl c.args.context.now; leads = leads-none c.args.context.now c.has_each_once.ensures }
-
-pub loop-entry-preserved : goal.loop-entry-preserved
-loop-entry-preserved c = record {
-  grows = Grows-trans c.args.context.now c.loop-entry.context c.step.new.context c.loop-entry.invariant.grows c.in_ok-node.ensures.grows;
-  leads = leads-more c.loop-entry.context c.step.new.context c.args.path.now c.loop-entry.entry-index c.entry-item.result c.loop-entry.node c.in_ok-node.node
-      c.loop-entry-test.true c.entry-item.is c.loop-entry.invariant.leads c.in_ok-node.ensures.step;
-}
-
 pub returns-clause-leads : goal.returns-clause-leads
-returns-clause-leads c =
-    subst (λ (l : List Entry). Leads c.loop-entry.context l c.loop-entry.node)
-    (take_all c.loop-entry.entry-index c.args.path.now c.loop-entry-test.false) c.loop-entry.invariant.leads
+returns-clause-leads c = c.in_ok-node.ensures.leads [] (leads-none c.args.context.now c.has_each_once.ensures)

@@ -1,0 +1,216 @@
+-- The keys of groups by numbers.
+use Rattle.std.proofs.Common.{◌≡◌, ℕ, zero, suc, ◌+◌, ◌<◌, Bool, true, false, true≢false, List, [], ◌∷◌, ◌++◌, ◌⊎◌, inl, inr, length, map, take, filter, get_or, slice_get, Some, None, Option}
+use Rattle.std.proofs.Common.{refl, sym, ◌∙◌, ap, subst, arith, append-nil, append_assoc, if◌then◌else◌, Contains}
+use Rattle.std.specs.Prelude.{◌==◌}
+use Rattle.std.specs.List.{All}
+use Rattle.std.proofs.lemmas.Bool.Decides.{Decides-eqb}
+use Rattle.std.proofs.lemmas.Grind.{flat_map-append}
+use Rattle.std.proofs.lemmas.List.{map-append, take_more}
+use Rattle.std.proofs.lemmas.List.Elements.{All-get_or, All-head, All-push, All-tail, All-weaker, filter-append}
+use Rattle.cal_context.specs.Lists.{AreApart, Adds, Interns}
+use Rattle.cal_context.specs.Snapshots.{IsBelowRoot, IsIn, entry_of, meaning}
+use Rattle.cal_context.specs.Tree.{Tree, Grows, IsContext, path_at}
+use Rattle.cal_context.specs.declared.numbers.NodeNumber.{NodeNumber}
+use Rattle.cal_context.specs.declared.snapshot.Immediate.{Immediate}
+use Rattle.cal_context.specs.declared.snapshot.Snapshot.{Snapshot}
+use Rattle.cal_context.proofs.CallerLemmas.{All-Adds, Grows-refl, one_node, path_at-Grows, root_path, root_within, within_paths}
+use Rattle.cal_context.proofs.ListLemmas.{map-alike}
+use Rattle.cal_value.specs.Flat.{joined}
+use Rattle.cal_value.specs.declared.attribute.Entry.{Entry}
+use Rattle.cal_value.specs.declared.record.Rec.{Rec}
+use Rattle.cal_engine.specs.Choices.{choices_of}
+use Rattle.cal_engine.specs.Folding.{Gathers}
+use Rattle.cal_engine.specs.Groups.{group_of, has_entries, taken}
+use Rattle.cal_engine.specs.Keys.{ArePaths, IsKeyIn, IsKeyOf, key_in, room_of, with_node}
+use Rattle.cal_engine.specs.Numbered.{GathersKey, Numbered, grouped_in}
+use Rattle.cal_engine.specs.Parts.{Gathered}
+use Rattle.cal_engine.specs.Sieves.{beside_paths, choice_of, in_paths}
+use Rattle.cal_engine.specs.Totals.{Leads}
+use Rattle.cal_engine.specs.declared.key.GroupKey.{GroupKey}
+use Rattle.cal_engine.specs.declared.sieve.Sieve.{Sieve}
+use Rattle.cal_engine.proofs.Choosing.{taken_by_sieves}
+use Rattle.cal_engine.proofs.Reaching.{Leads-Grows, leads-below, leads-root}
+
+-- ---- the paths of a key
+
+pub ArePaths-Grows : {old new : Tree} → Grows old new → (nodes : List NodeNumber) (paths : List (List Entry)) → ArePaths old nodes paths → ArePaths new nodes paths
+ArePaths-Grows {old} {new} grows nodes paths h = record {
+  within = λ k d l. let n = h.within k d l in record { below = n.below; within = within_paths grows _ n.within };
+  are = map-alike (path_at new) (path_at old) nodes (λ k d l. path_at-Grows grows (get_or nodes k d) (h.within k d l).within) ∙ h.are;
+}
+
+pub no_paths : (t : Tree) (nodes : List NodeNumber) → nodes ≡ [] → ArePaths t nodes []
+no_paths t nodes none = subst (λ ns. ArePaths t ns []) (sym none) (record { within = λ k d l. absurd (omega (arith, l)); are = refl })
+
+-- one name more
+pub paths_next : (mid new : Tree) (nodes : List NodeNumber) (paths : List (List Entry)) (es : List Entry) (part : NodeNumber)
+    → IsContext new → Grows mid new → ArePaths mid nodes (filter has_entries paths) → Leads new es part
+    → ArePaths new (with_node nodes part) (filter has_entries (paths ++ es ∷ []))
+paths_next mid new nodes paths es part context grows before leads = by (part.0 == 0) refl es refl
+  where
+    now : ArePaths new nodes (filter has_entries paths)
+    now = ArePaths-Grows grows nodes (filter has_entries paths) before
+
+    appended : (fs : List Entry) → filter has_entries (paths ++ fs ∷ []) ≡ filter has_entries paths ++ filter has_entries (fs ∷ [])
+    appended fs = filter-append has_entries paths (fs ∷ [])
+
+    by : (b : Bool) → (part.0 == 0) ≡ b → (fs : List Entry) → es ≡ fs → ArePaths new (with_node nodes part) (filter has_entries (paths ++ es ∷ []))
+    by true at [] is =
+        rw (at, is) (subst (ArePaths new nodes) (sym (appended [] ∙ append-nil (filter has_entries paths))) now)
+    by true at (x ∷ xs) is =
+        let none : es ≡ [] = leads-root new context es part ((Decides-eqb part.0 0).0 at) leads in absurd (not_empty x xs (sym is ∙ none))
+      where
+        not_empty : (x : Entry) (xs : List Entry) → x ∷ xs ≡ [] → ⊥
+        not_empty x xs e = cc
+    by false at [] is =
+        absurd (leads-below new context part (λ zero_is. true≢false (sym ((Decides-eqb part.0 0).1 zero_is) ∙ at)) (subst (λ p. Leads new p part) is leads))
+    by false at (x ∷ xs) is =
+        let below : 0 < part.0 = above part.0 at in
+        rw (at, is) (record {
+          within = All-push (IsBelowRoot new) nodes part now.within (record { below = below; within = leads.within });
+          are = map-append (path_at new) nodes (part ∷ []) ∙ (λ i. now.are i ++ (leads.is ∙ is) i ∷ []) ∙ sym (appended (x ∷ xs));
+        })
+      where
+        above : (n : ℕ) → (n == 0) ≡ false → 0 < n
+        above zero e = absurd (true≢false ((sym ((Decides-eqb 0 0).1 refl)) ∙ e))
+        above (suc n) e = omega arith
+
+map_next : {A B : Type 0} (f : A → B) (xs : List A) (i : ℕ) (x : A) → i < length xs → x ≡ get_or xs i x
+    → map f (take (i + 1) xs) ≡ map f (take i xs) ++ f x ∷ []
+map_next f xs i x short read =
+    ap (map f) (take_more xs i x short ∙ ap (λ y. take i xs ++ y ∷ []) (sym read)) ∙ map-append f (take i xs) (x ∷ [])
+
+pub sieve_next : (mid new : Tree) (f : Sieve → List Entry) (sieves : List Sieve) (i : ℕ) (s : Sieve) (nodes now : List NodeNumber) (part : NodeNumber)
+    → i < length sieves → s ≡ get_or sieves i s → now ≡ with_node nodes part → IsContext new → Grows mid new
+    → ArePaths mid nodes (filter has_entries (map f (take i sieves))) → Leads new (f s) part
+    → ArePaths new now (filter has_entries (map f (take (i + 1) sieves)))
+sieve_next mid new f sieves i s nodes now part short read is context grows before leads =
+    subst (λ ns. ArePaths new ns (filter has_entries (map f (take (i + 1) sieves)))) (sym is)
+    (subst (λ ps. ArePaths new (with_node nodes part) (filter has_entries ps)) (sym (map_next f sieves i s short read))
+    (paths_next mid new nodes (map f (take i sieves)) (f s) part context grows before leads))
+
+pub imms_more : (mid new : Tree) (f : Sieve → List Entry) (sieves : List Sieve) (i : ℕ) (s : Sieve) (node now : NodeNumber)
+    → i < length sieves → s ≡ get_or sieves i s → ((es : List Entry) → Leads mid es node → Leads new (es ++ f s) now)
+    → Leads mid (joined (map f (take i sieves))) node → Leads new (joined (map f (take (i + 1) sieves))) now
+imms_more mid new f sieves i s node now short read adds before =
+    subst (λ p. Leads new p now)
+    (sym (ap joined (map_next f sieves i s short read)
+    ∙ flat_map-append (λ p. p) (map f (take i sieves)) (f s ∷ [])
+    ∙ ap (λ p. joined (map f (take i sieves)) ++ p) (append-nil (f s))))
+    (adds (joined (map f (take i sieves))) before)
+
+-- ---- the key of a record
+
+pub key_of_names : (mid own : Tree) (r : Rec) (names : List (List ℕ)) (sieves : List Sieve) (nodes : List NodeNumber) (key : GroupKey)
+    → Grows mid own → map choice_of sieves ≡ choices_of [] names
+    → ArePaths mid nodes (filter has_entries (map (λ s. in_paths s (joined r.paths)) sieves))
+    → Leads own (joined (map (λ s. beside_paths s r.imms) sieves)) key.imms → key.paths ≡ nodes
+    → IsKeyOf own (group_of (Some names) r) key
+key_of_names mid own r names sieves nodes key grows choices paths imms same =
+    let now = ArePaths-Grows grows nodes _ paths in
+    let are = now.are ∙ ap (filter has_entries) (taken_by_sieves true names sieves (joined r.paths) choices) in
+    let last = imms.is ∙ ap joined (taken_by_sieves false names sieves r.imms choices) in
+    record {
+      within = record { paths = subst (All (IsBelowRoot own)) (sym same) now.within; imms = imms.within };
+      is = λ i. record { paths = (ap (map (path_at own)) same ∙ are) i; imms = last i };
+    }
+
+pub key_of_snapshot : (t mid own : Tree) (s : Snapshot) (names : List (List ℕ)) (sieves : List Sieve) (ns : List NodeNumber) (is : List Immediate)
+    (nodes : List NodeNumber) (key : GroupKey) → ns ≡ s.nodes.items → is ≡ s.imms.items → Grows mid own → map choice_of sieves ≡ choices_of [] names
+    → ArePaths mid nodes (filter has_entries (map (λ x. in_paths x (joined (map (path_at t) ns))) sieves))
+    → Leads own (joined (map (λ x. beside_paths x (map (entry_of t) is)) sieves)) key.imms → key.paths ≡ nodes
+    → IsKeyOf own (group_of (Some names) (meaning t s)) key
+key_of_snapshot t mid own s names sieves ns is nodes key e f grows choices paths imms same =
+    key_of_names mid own (meaning t s) names sieves nodes key grows choices
+    (subst (λ ms. ArePaths mid nodes (filter has_entries (map (λ x. in_paths x (joined (map (path_at t) ms))) sieves))) e paths)
+    (subst (λ js. Leads own (joined (map (λ x. beside_paths x (map (entry_of t) js)) sieves)) key.imms) f imms) same
+
+pub key_of_nodes : (t : Tree) (s : Snapshot) (key : GroupKey) → IsContext t → IsIn t s → key.paths ≡ s.nodes.items → key.imms ≡ record { 0 = 0 }
+    → IsKeyOf t (group_of None (meaning t s)) key
+key_of_nodes t s key context is_in same none = record {
+  within = record {
+    paths = subst (All (IsBelowRoot t)) (sym same) is_in.nodes;
+    imms = subst (λ (n : NodeNumber). n.0 < length t.paths) (sym none) (root_within context);
+  };
+  is = λ i. record { paths = map (path_at t) (same i); imms = (ap (path_at t) none ∙ root_path context) i };
+}
+
+-- ---- keys are alike where their groups are
+
+nodes_alike : (t : Tree) → IsContext t → (ns ms : List NodeNumber) → All (IsBelowRoot t) ns → All (IsBelowRoot t) ms → map (path_at t) ns ≡ map (path_at t) ms → ns ≡ ms
+nodes_alike t context [] [] h g e = refl
+nodes_alike t context [] (m ∷ ms) h g e = cc
+nodes_alike t context (n ∷ ns) [] h g e = cc
+nodes_alike t context (n ∷ ns) (m ∷ ms) h g e =
+    let first : path_at t n ≡ path_at t m = cc in
+    let rest : map (path_at t) ns ≡ map (path_at t) ms = cc in
+    let one = one_node context n m (All-head (IsBelowRoot t) n ns h).within (All-head (IsBelowRoot t) m ms g).within first in
+    let others = nodes_alike t context ns ms (All-tail (IsBelowRoot t) n ns h) (All-tail (IsBelowRoot t) m ms g) rest in
+    λ i. one i ∷ others i
+
+pub keys_alike : (t : Tree) → IsContext t → (k l : GroupKey) → IsKeyIn t k → IsKeyIn t l → key_in t k ≡ key_in t l → k ≡ l
+keys_alike t context k l h g e =
+    let paths = nodes_alike t context k.paths l.paths h.paths g.paths (ap (λ (r : Rec). r.paths) e) in
+    let imms = one_node context k.imms l.imms h.imms g.imms (ap (λ (r : Rec). r.imms) e) in
+    λ i. record { paths = paths i; imms = imms i }
+
+module _ {A B : Type 0} (P : A → Type 0) (f : A → B) (alike : (x y : A) → P x → P y → f x ≡ f y → x ≡ y) where
+  map_get : (xs : List A) (n : ℕ) (x : A) → slice_get xs n ≡ Some x → slice_get (map f xs) n ≡ Some (f x)
+  map_get [] n x e = cc
+  map_get (y ∷ ys) zero x e = let is : y ≡ x = cc in ap (λ z. Some (f z)) is
+  map_get (y ∷ ys) (suc n) x e = map_get ys n x e
+
+  map_at : (xs : List A) (n : ℕ) (d : B) (c : A) → n < length xs → get_or (map f xs) n d ≡ f (get_or xs n c)
+  map_at [] n d c l = absurd (omega arith)
+  map_at (y ∷ ys) zero d c l = refl
+  map_at (y ∷ ys) (suc n) d c l = map_at ys n d c (omega arith)
+
+  map_long : (xs : List A) → length (map f xs) ≡ length xs
+  map_long [] = refl
+  map_long (x ∷ xs) = ap suc (map_long xs)
+
+  there : (xs : List A) (x : A) → Contains xs x → Contains (map f xs) (f x)
+  there xs x h =
+      let long = map_long xs in
+      (h.0, omega (arith, h.1, long), map_at xs h.0 (f x) x h.1 ∙ ap f h.2)
+
+  back : (xs : List A) (x : A) → All P xs → P x → Contains (map f xs) (f x) → Contains xs x
+  back xs x all px h =
+      let long = map_long xs in
+      let within : h.0 < length xs = omega (arith, h.1, long) in
+      (h.0, within, alike (get_or xs h.0 x) x (all h.0 x within) px (sym (map_at xs h.0 (f x) x within) ∙ h.2))
+
+  pub apart_map : (xs : List A) → All P xs → AreApart xs → AreApart (map f xs)
+  apart_map [] all apart i j d a b e = absurd (omega (arith, a))
+  apart_map (x ∷ xs) all apart i j d a b e =
+      let long = map_long (x ∷ xs) in
+      let one : i < length (x ∷ xs) = omega (arith, a, long) in
+      let other : j < length (x ∷ xs) = omega (arith, b, long) in
+      apart i j x one other
+      (alike (get_or (x ∷ xs) i x) (get_or (x ∷ xs) j x) (all i x one) (all j x other)
+      (sym (map_at (x ∷ xs) i d x one) ∙ e ∙ map_at (x ∷ xs) j d x other))
+
+  adds_map : (old : List A) (x : A) (new : List A) → All P old → P x → Adds old x new → Adds (map f old) (f x) (map f new)
+  adds_map old x new all px (inl h) = inl (there old x h.0, ap (map f) h.1)
+  adds_map old x new all px (inr h) = inr (λ g. h.0 (back old x all px g), ap (map f) h.1 ∙ map-append f old (x ∷ []))
+
+  pub interns_map : (old : List A) (x : A) (new : List A) (n : ℕ) → All P old → P x → Interns old x new n → Interns (map f old) (f x) (map f new) n
+  interns_map old x new n all px h = record { number = map_get new n x h.number; adds = adds_map old x new all px h.adds }
+
+-- so what goes to a key goes to its group
+pub gathers_in : (t : Tree) → IsContext t → (old new : Numbered) (key : GroupKey) (fresh : List Gathered) → All (IsKeyIn t) old.keys → IsKeyIn t key
+    → GathersKey old key fresh new → Gathers (grouped_in t old) (key_in t key) fresh (grouped_in t new)
+gathers_in t context old new key fresh all within h = record {
+  number = h.number;
+  keys = interns_map (IsKeyIn t) (key_in t) (keys_alike t context) old.keys key new.keys h.number all within h.keys;
+  apart = apart_map (IsKeyIn t) (key_in t) (keys_alike t context) old.keys all h.apart;
+  parts = h.parts;
+}
+
+pub gathered_within : (t : Tree) (old new : Numbered) (key : GroupKey) (fresh : List Gathered) → All (IsKeyIn t) old.keys → IsKeyIn t key
+    → GathersKey old key fresh new → All (IsKeyIn t) new.keys
+gathered_within t old new key fresh all within h = All-Adds (IsKeyIn t) old.keys key new.keys all within h.keys.adds
+
+pub room_context : (names : Option (List (List ℕ))) (t own : Tree) → IsContext t → IsContext own → IsContext (room_of names t own)
+room_context None t own h g = h
+room_context (Some names) t own h g = g

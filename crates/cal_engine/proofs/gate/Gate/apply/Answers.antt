@@ -1,0 +1,20 @@
+use Rattle.std.proofs.Common.{List, subst, sym}
+use Rattle.std.specs.List.{All}
+use Rattle.cal_filter.specs.Ready.{IsFilter}
+use Rattle.cal_value.specs.Reading.{IsSmall}
+use Rattle.cal_context.specs.declared.snapshot.Immediate.{Immediate}
+use Rattle.cal_engine.proofs.Gating.{small_record}
+use Rattle.cal_engine.proofs.gate.Gate.apply.Goals as goal
+
+pub returns-clause-stays : goal.returns-clause-stays
+returns-clause-stays c = λ q h. record {
+  filter = c.in_ok-keeps.ensures.stays q (subst (λ f. IsFilter c.args.context.now q f) (sym c.in_ok-know_small.ensures.same) h.filter);
+  small = c.in_ok-know_small.ensures.next h.small;
+}
+
+pub returns-clause-filtered : goal.returns-clause-filtered
+returns-clause-filtered c = λ q h.
+    c.in_ok-keeps.ensures.filtered q
+    (subst (λ f. IsFilter c.args.context.now q f) (sym c.in_ok-know_small.ensures.same) h.filter)
+    (small_record c.args.context.now c.args.snapshot.now c.requires (c.in_ok-know_small.ensures.small h.small)
+    (subst (λ (is : List Immediate). All (λ i. IsSmall i.value) is) c.deref.ensures.value (c.are_small.ensures c.if-not-are_small.false)))

@@ -1,0 +1,24 @@
+-- Groups whose keys are numbers.
+use Rattle.std.specs.Prelude.{◌≡◌, ℕ, List, [], map}
+use Rattle.cal_context.specs.Lists.{AreApart, Interns}
+use Rattle.cal_context.specs.Tree.{Tree}
+use Rattle.cal_engine.specs.Folding.{Grouped, put_parts}
+use Rattle.cal_engine.specs.Keys.{key_in}
+use Rattle.cal_engine.specs.Parts.{Gathered}
+use Rattle.cal_engine.specs.declared.key.GroupKey.{GroupKey}
+
+pub record Numbered : Type 0 where
+  pub keys : List GroupKey
+  pub parts : List (List Gathered)
+
+-- the groups that they mean in a tree
+abbrev pub grouped_in : Tree → Numbered → Grouped
+grouped_in t g = record { keys = map (key_in t) g.keys; parts = g.parts }
+
+-- Something goes to its group, which is added where it is new.
+pub record GathersKey (old : Numbered) (key : GroupKey) (fresh : List Gathered) (new : Numbered)
+    : Type 0 where
+  pub number : ℕ
+  pub keys : Interns old.keys key new.keys number
+  pub apart : AreApart old.keys
+  pub parts : new.parts ≡ put_parts old.parts number fresh

@@ -1,0 +1,190 @@
+ghost use Rattle.std.specs.Prelude.{◌≡◌, [], ◌∷◌, List, codes, map, option_and_then, IfOk, OnOk};
+ghost use Rattle.std.specs.List.{All, AllZip, filter_map};
+ghost use Rattle.cal_context.specs.Snapshots.{IsIn, meaning};
+ghost use Rattle.cal_context.specs.Tree.{Tree};
+ghost use Rattle.cal_filter.specs.Known.{Knows, KnowsAll, sought};
+ghost use Rattle.cal_filter.specs.Sought.{number_of, number_sought as number_found_by};
+ghost use Rattle.cal_filter.specs.Sought.{value_sought, whole_of};
+ghost use Rattle.cal_value.specs.Flat.{flat};
+ghost use Rattle.cal_engine.specs.Counters.{CounterCatchesUp, IsCounter, IsReadyCounter};
+ghost use Rattle.cal_engine.specs.Counters.{sought_for};
+ghost use Rattle.cal_engine.specs.Kernels.{number_sought as sought_in, weight as weight_of};
+ghost use Rattle.cal_engine.specs.Readings.{part_of as part_by, parts_of as parts_by};
+ghost use Rattle.cal_engine.specs.declared.reading.Reading.{Reading as AReading};
+
+use crate::part::Part;
+use crate::reading::{Reading, number_sought, push_some};
+use cal_agg::Num;
+use cal_context::{Context, Snapshot};
+use cal_filter::{Seeker, catch_up_all};
+use cal_ql::KernelName;
+use cal_value::{OutOfMemory, Seq, Text, TryCopy};
+use std::alloc::Global;
+
+/// What is read of records by number for a kernel. What it needs of a node it finds once.
+#[derive(Drop)]
+pub(crate) struct Counter {
+    kernel: KernelName,
+    // of each name that contributes, or of a record's weight
+    seekers: Vec<Seeker>,
+}
+
+impl Counter {
+    fn of(alloc: Global, reading: &Reading) -> Result<Counter, OutOfMemory>
+        ensures { IfOk result (λ counter. (t : Tree) → IsCounter t reading.now counter) }
+    {
+        let kernel = reading.kernel;
+        Ok(Counter {
+            kernel,
+            seekers: seekers_for(alloc, kernel, reading.names.as_slice())?,
+        })
+    }
+
+    /// Gets to know what is new in a context.
+    fn catch_up(&mut self, context: &Context) -> Result<(), OutOfMemory>
+        ensures { OnOk result (CounterCatchesUp context.now self.old self.new) }
+    {
+        catch_up_all(&mut self.seekers, context)
+    }
+
+    /// What is kept of one record.
+    fn part_of(
+        &self,
+        alloc: Global,
+        context: &Context,
+        snapshot: &Snapshot,
+    ) -> Result<Part, OutOfMemory>
+        requires { IsIn context.now snapshot.now }
+        ensures { IfOk result (λ part. (r : AReading) → IsReadyCounter context.now r self.now
+            → part ≡ part_by r (meaning context.now snapshot.now)) }
+    {
+        match self.kernel {
+            KernelName::Count => {
+                Part::of(self.kernel, &[weight(&self.seekers, context, snapshot)])
+            }
+            _ => Part::of(
+                self.kernel,
+                &numbers(alloc, &self.seekers, context, snapshot)?,
+            ),
+        }
+    }
+}
+
+fn seekers_for(
+    alloc: Global,
+    kernel: KernelName,
+    names: &[Text],
+) -> Result<Vec<Seeker>, OutOfMemory>
+    ensures sought { IfOk result (λ seekers.
+        map sought seekers.items ≡ sought_for kernel names.now) }
+    ensures knows { IfOk result (λ seekers. (t : Tree) → All (Knows t) seekers.items) }
+{
+    match kernel {
+        KernelName::Count => weight_seekers(alloc),
+        _ => number_seekers(alloc, names),
+    }
+}
+
+fn weight_seekers(alloc: Global) -> Result<Vec<Seeker>, OutOfMemory>
+    ensures sought { IfOk result (λ seekers.
+        map sought seekers.items ≡ whole_of (codes "count") ∷ []) }
+    ensures knows { IfOk result (λ seekers. (t : Tree) → All (Knows t) seekers.items) }
+{
+    let name = Text::from_str(alloc, "count")?;
+    let mut seekers = Vec::new(alloc);
+    seekers.push(Seeker::of_whole(alloc, name))?;
+    Ok(seekers)
+}
+
+fn number_seekers(alloc: Global, names: &[Text]) -> Result<Vec<Seeker>, OutOfMemory>
+    ensures sought { IfOk result (λ seekers. map sought seekers.items ≡ map number_of names.now) }
+    ensures knows { IfOk result (λ seekers. (t : Tree) → All (Knows t) seekers.items) }
+{
+    let mut seekers = Vec::new(alloc);
+    for name in names {
+        seekers.push(Seeker::of_number(alloc, name.copy(alloc)?))?;
+    }
+    Ok(seekers)
+}
+
+/// How much a record counts.
+fn weight(seekers: &[Seeker], context: &Context, snapshot: &Snapshot) -> Num
+    requires { IsIn context.now snapshot.now }
+    ensures { All (KnowsAll context.now) seekers.now
+        → map sought seekers.now ≡ whole_of (codes "count") ∷ []
+        → result ≡ weight_of (meaning context.now snapshot.now) }
+{
+    match seekers.first() {
+        Some(seeker) => number_found(true, seeker, context, snapshot).unwrap_or(Num::Whole(1)),
+        None => Num::Whole(1),
+    }
+}
+
+/// The numbers that seekers find.
+fn numbers(
+    alloc: Global,
+    seekers: &[Seeker],
+    context: &Context,
+    snapshot: &Snapshot,
+) -> Result<Vec<Num>, OutOfMemory>
+    requires { IsIn context.now snapshot.now }
+    ensures { IfOk result (λ numbers. All (KnowsAll context.now) seekers.now → numbers.items
+        ≡ filter_map (λ s. number_found_by (sought s) (flat (meaning context.now snapshot.now)))
+        seekers.now) }
+{
+    let mut numbers = Vec::with_capacity(alloc, seekers.len())?;
+    for seeker in seekers {
+        push_some(&mut numbers, number_found(false, seeker, context, snapshot))?;
+    }
+    Ok(numbers)
+}
+
+fn number_found(whole: bool, seeker: &Seeker, context: &Context, snapshot: &Snapshot) -> Option<Num>
+    requires { IsIn context.now snapshot.now }
+    ensures { KnowsAll context.now seeker.now → result ≡ option_and_then (sought_in whole)
+        (value_sought (sought seeker.now) (flat (meaning context.now snapshot.now))) }
+{
+    number_sought(whole, seeker.find(context, snapshot)?)
+}
+
+/// The counters of kernels.
+pub(crate) fn counters_of(alloc: Global, readings: &[Reading]) -> Result<Vec<Counter>, OutOfMemory>
+    ensures { IfOk result (λ counters. (t : Tree)
+        → AllZip (IsCounter t) readings.now counters.items) }
+{
+    let mut counters = Vec::new(alloc);
+    for reading in readings {
+        let counter = Counter::of(alloc, reading)?;
+        counters.push(counter)?;
+    }
+    Ok(counters)
+}
+
+/// Lets each counter know what is new in a context.
+pub(crate) fn know_all(counters: &mut [Counter], context: &Context) -> Result<(), OutOfMemory>
+    ensures { OnOk result (AllZip (CounterCatchesUp context.now) counters.old counters.new) }
+{
+    for counter in counters.iter_mut() {
+        counter.catch_up(context)?;
+    }
+    Ok(())
+}
+
+/// The parts of one record.
+pub(crate) fn parts_of(
+    alloc: Global,
+    counters: &[Counter],
+    context: &Context,
+    snapshot: &Snapshot,
+) -> Result<Seq<Part>, OutOfMemory>
+    requires { IsIn context.now snapshot.now }
+    ensures { IfOk result (λ parts. (rs : List AReading)
+        → AllZip (IsReadyCounter context.now) rs counters.now
+        → parts ≡ parts_by rs (meaning context.now snapshot.now)) }
+{
+    let mut parts = Vec::with_capacity(alloc, counters.len())?;
+    for counter in counters {
+        parts.push(counter.part_of(alloc, context, snapshot)?)?;
+    }
+    Ok(Seq::from_vec(parts))
+}

@@ -1,0 +1,157 @@
+ghost use Rattle.std.specs.Prelude.{◌≡◌, ◌<◌, ◌++◌, IsTrue, length, IfOk, OnOk};
+ghost use Rattle.std.specs.List.{All};
+ghost use Rattle.cal_context.specs.Snapshots.{IsIn, meaning};
+ghost use Rattle.cal_context.specs.Tree.{Grows};
+ghost use Rattle.cal_filter.specs.Conditions.{where_holds};
+ghost use Rattle.cal_filter.specs.Filtered.{IsFiltered};
+ghost use Rattle.cal_ql.specs.Valid.{IsValidQuery};
+ghost use Rattle.cal_ql.specs.declared.query.Query.{Query as AQuery};
+ghost use Rattle.cal_value.specs.Reading.{IsSmall};
+ghost use Rattle.cal_engine.specs.Gates.{AreSmallBefore, IsGate, IsSmallAt};
+
+use crate::small::is_small;
+use cal_context::{Context, Immediate, NodeNumber, Snapshot};
+use cal_filter::Filter;
+use cal_ql::Query;
+use cal_value::{OutOfMemory, TryCopy};
+use std::alloc::Global;
+
+/// LET and WHERE of a query over records by number, whose numbers are no larger than 2^86.
+#[derive(Drop)]
+pub(crate) struct Gate {
+    filter: Filter,
+    // the numbers on the paths of the nodes before this one are small
+    small: usize,
+}
+
+impl Gate {
+    pub(crate) fn new(
+        alloc: Global,
+        query: &Query,
+        context: &mut Context,
+    ) -> Result<Gate, OutOfMemory>
+        requires { IsValidQuery query.now }
+        ensures ready { IfOk result (IsGate context.new query.now) }
+        ensures grows { Grows context.old context.new }
+    {
+        let filter = Filter::new(alloc, query, context)?;
+        Ok(Gate { filter, small: 0 })
+    }
+
+    /// Answers whether WHERE keeps a snapshot as it is, without LET.
+    pub(crate) fn keeps(
+        &mut self,
+        context: &Context,
+        snapshot: &Snapshot,
+    ) -> Result<bool, OutOfMemory>
+        requires { IsIn context.now snapshot.now }
+        ensures stays { OnOk result ((q : AQuery) → IsGate context.now q self.old
+            → IsGate context.now q self.new) }
+        ensures kept { IfOk result (λ keeps. (q : AQuery) → IsGate context.now q self.old
+            → keeps ≡ where_holds q.conds (meaning context.now snapshot.now)) }
+    {
+        let _ = self.small;
+        let keeps = self.filter.keeps(context, snapshot)?;
+        Ok(keeps)
+    }
+
+    /// Appends the immediates of LET to a snapshot, and answers whether WHERE keeps it. A number
+    /// above 2^86 in magnitude is answered as want of memory is.
+    pub(crate) fn apply(
+        &mut self,
+        context: &Context,
+        snapshot: &mut Snapshot,
+    ) -> Result<bool, OutOfMemory>
+        requires { IsIn context.now snapshot.old }
+        ensures within { OnOk result (IsIn context.now snapshot.new) }
+        ensures stays { OnOk result ((q : AQuery) → IsGate context.now q self.old
+            → IsGate context.now q self.new) }
+        ensures filtered { IfOk result (λ keeps. (q : AQuery) → IsGate context.now q self.old
+            → IsFiltered q (meaning context.now snapshot.old) (meaning context.now snapshot.new)
+            keeps) }
+    {
+        self.know_small(context)?;
+        if !are_small(&snapshot.imms) {
+            return Err(OutOfMemory);
+        }
+        let keeps = self.filter.apply(context, snapshot)?;
+        Ok(keeps)
+    }
+
+    /// Looks at the numbers of the nodes that are new in a context.
+    fn know_small(&mut self, context: &Context) -> Result<(), OutOfMemory>
+        ensures same { self.new.filter ≡ self.old.filter }
+        ensures small { OnOk result (AreSmallBefore context.now self.old.small
+            → AreSmallBefore context.now (length context.now.paths)) }
+        ensures next { OnOk result (AreSmallBefore context.now self.old.small
+            → AreSmallBefore context.now self.new.small) }
+    {
+        if !are_small_from(context, self.small) {
+            return Err(OutOfMemory);
+        }
+        self.small = context.node_count();
+        Ok(())
+    }
+}
+
+fn are_small(imms: &[Immediate]) -> bool
+    ensures { IsTrue result → All (λ imm. IsSmall imm.value) imms.now }
+{
+    imms.iter().all(|imm| is_small(&imm.value))
+}
+
+fn are_small_from(context: &Context, from: usize) -> bool
+    ensures { IsTrue result → AreSmallBefore context.now from
+        → AreSmallBefore context.now (length context.now.paths) }
+{
+    for place in from..context.node_count() {
+        let Ok(number) = u32::try_from(place) else {
+            return false;
+        };
+        if !has_small_entry(context, NodeNumber(number)) {
+            return false;
+        }
+    }
+    true
+}
+
+/// Whether the number of a node's own entry is small; the nodes before it are known to be so.
+fn has_small_entry(context: &Context, node: NodeNumber) -> bool
+    requires { node.0 < length context.now.paths }
+    ensures { IsTrue result → AreSmallBefore context.now node.0 → IsSmallAt context.now node }
+{
+    match context.link(node) {
+        Some(link) => is_small(context.value_at(link.value)),
+        None => true,
+    }
+}
+
+/// A snapshot with room of its own.
+pub(crate) fn copy_of(alloc: Global, snapshot: &Snapshot) -> Result<Snapshot, OutOfMemory>
+    ensures nodes { IfOk result (λ copy. copy.nodes.items ≡ snapshot.now.nodes.items) }
+    ensures imms { IfOk result (λ copy. copy.imms.items ≡ snapshot.now.imms.items) }
+{
+    let mut imms = Vec::with_capacity(alloc, snapshot.imms.len())?;
+    add_copies(alloc, &mut imms, &snapshot.imms)?;
+    Ok(Snapshot {
+        nodes: Vec::from_slice(alloc, &snapshot.nodes)?,
+        imms,
+    })
+}
+
+/// Adds copies of immediates.
+fn add_copies(
+    alloc: Global,
+    imms: &mut Vec<Immediate>,
+    others: &[Immediate],
+) -> Result<(), OutOfMemory>
+    ensures { OnOk result (imms.new.items ≡ imms.old.items ++ others.now) }
+{
+    for imm in others {
+        imms.push(Immediate {
+            attribute: imm.attribute,
+            value: imm.value.copy(alloc)?,
+        })?;
+    }
+    Ok(())
+}
