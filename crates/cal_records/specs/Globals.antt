@@ -9,4 +9,5 @@ use Rattle.cal_value.specs.declared.attribute.Entry.{Entry}
 -- whatever globals a snapshot meant, it means these behind them
 abbrev pub AddsGlobals : Tree → Tree → List Entry → Snapshot → Snapshot → Type 0
 AddsGlobals old new entries before now =
-    (done : List Entry) → Means old before (globals_of done) → Means new now (globals_of (done ++ entries))
+    (done : List Entry) → Means old before (globals_of done)
+    → Means new now (globals_of (done ++ entries))

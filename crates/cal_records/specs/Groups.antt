@@ -61,7 +61,7 @@ group_in aggs row =
 abbrev pub rows_cmp : List Agg → Rec → Rec → Ordering
 rows_cmp aggs = on (group_in aggs) group_cmp
 
--- The records of the groups: the answer's rows to a channel's query over its snapshots, in the order
--- of groups.
+-- The records of the groups: the rows of the answer to a channel's query over its snapshots, in
+-- the order of their groups.
 abbrev pub group_records : Query → List Rec → List Rec
 group_records q taken = sorted (rows_cmp q.aggs) (answer_of q taken).rows.rows

@@ -28,8 +28,8 @@ module _ (script : Script) (journal : Journal) where
   abbrev pub run_rows : List Rec
   run_rows = flat_map channel_rows script.channels
 
--- The globals of a script: an entry of a reference attribute is a path by itself, and one of another
--- attribute an immediate.
+-- The globals of a script: an entry of a reference attribute is a path by itself, and one of
+-- another attribute an immediate.
 abbrev pub globals_of : List Entry → Rec
 globals_of entries = record {
   paths = map (λ e. e ∷ []) (filter (λ e. is_reference e.attr.props) entries);

@@ -67,7 +67,8 @@ impl Kept {
     fn add_results(&mut self, alloc: Global, attr: &str) -> Result<(), OutOfMemory>
         requires { AreNamed self.old }
         ensures named { OnOk result (AreNamed self.new) }
-        ensures added { OnOk result (self.new.aggs ≡ with_all_new self.old.aggs (value_aggs attr.now)) }
+        ensures added { OnOk result
+            (self.new.aggs ≡ with_all_new self.old.aggs (value_aggs attr.now)) }
     {
         self.add(alloc, KernelName::Sum, attr, "sum#")?;
         self.add(alloc, KernelName::Min, attr, "min#")?;
@@ -87,7 +88,8 @@ impl Kept {
         requires named { AreNamed self.old }
         requires front { front.now ++ attr.now ≡ result_name kernel attr.now }
         ensures named { OnOk result (AreNamed self.new) }
-        ensures added { OnOk result (self.new.aggs ≡ with_new self.old.aggs (agg_of kernel attr.now)) }
+        ensures added { OnOk result
+            (self.new.aggs ≡ with_new self.old.aggs (agg_of kernel attr.now)) }
     {
         let mut name = Text::from_str(alloc, front)?;
         name.push_str(attr)?;
