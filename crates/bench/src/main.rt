@@ -1,4 +1,4 @@
-//! Times parts of the program: `bench values`, `bench rows`, `bench write` and `bench line`.
+//! Times parts of the program: `bench values`, `rows`, `tree`, `write` and `line`.
 //!
 //! With no word it does nothing and writes nothing, as the gate runs it. What is timed is proved to
 //! be what it says; of the times nothing is promised.
@@ -9,6 +9,7 @@ mod line;
 mod plain;
 mod records;
 mod rows;
+mod tree;
 mod values;
 mod write;
 
@@ -20,9 +21,10 @@ fn main(rt: HostRuntime) -> Result<()> {
         match word.as_str() {
             "values" => values::measure(&rt)?,
             "rows" => rows::measure(&rt)?,
+            "tree" => tree::measure(&rt)?,
             "write" => write::measure(&rt)?,
             "line" => line::measure(&rt)?,
-            _ => println!(rt; "there is no bench `{word}`: values, rows, write or line")?,
+            _ => println!(rt; "there is no bench `{word}`: values, rows, tree, write or line")?,
         }
     }
     Ok(())

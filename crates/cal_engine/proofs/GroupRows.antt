@@ -1,8 +1,8 @@
 -- The rows of the groups of a fold are the rows of the query.
-use Rattle.std.proofs.Common.{◌≡◌, ℕ, zero, suc, ◌+◌, ◌<◌, Bool, true, false, true≢false, ◌||◌, List, [], ◌∷◌, ◌++◌, length, filter, map, fold, take, get_or, refl, sym, ap, ◌∙◌, arith}
+use Rattle.std.proofs.Common.{◌≡◌, ℕ, zero, suc, ◌+◌, ◌<◌, Bool, true, false, true≢false, ◌||◌, List, [], ◌∷◌, ◌++◌, length, filter, map, fold, get_or, refl, sym, ap, ◌∙◌, arith}
 use Rattle.std.specs.Prelude.{option_map}
 use Rattle.std.specs.List.{cons_option, list_any}
-use Rattle.std.proofs.lemmas.List.{map-append, take_more}
+use Rattle.std.proofs.lemmas.List.{length-append, map-append}
 use Rattle.cal_agg.specs.declared.num.Num.{Num}
 use Rattle.cal_filter.specs.Kept.{result_entry}
 use Rattle.cal_filter.specs.Numbers.{value_of_number}
@@ -39,17 +39,30 @@ kept_at aggs g keys parts all below n key own lower are l e f h = record {
   below = read_map (λ k. parts_over aggs (g.below k)) keys n key lower l e (h ∙ ap (λ ps. get_or ps n lower) are.below);
 }
 
+-- the key behind those that are done
+pub key_at : (keys done rest : List Rec) (key : Rec) (n : ℕ) → done ++ key ∷ rest ≡ keys → n ≡ length done → (n < length keys) × (key ≡ get_or keys n key)
+key_at keys done rest key n split e = (
+  omega (arith, e, ap length (sym split), length-append done (key ∷ rest)),
+  sym (ap (λ i. get_or keys i key) e ∙ ap (λ ks. get_or ks (length done) key) (sym split) ∙ seam done),
+)
+  where
+    seam : (ks : List Rec) → get_or (ks ++ key ∷ rest) (length ks) key ≡ key
+    seam [] = refl
+    seam (k ∷ ks) = seam ks
+
+pub none_left : {A : Type 0} (xs : List A) → length xs ≡ 0 → xs ≡ []
+none_left [] e = refl
+none_left (x ∷ xs) e = absurd (omega (arith, e))
+
 -- one row more
-pub rows_more : (aggs : List Agg) (g : GroupLists) (keys : List Rec) (n : ℕ) (key : Rec) (before now : List Rec) (row : Rec)
-    → n < length keys → key ≡ get_or keys n key → before ≡ rows_by aggs g (take n keys)
-    → now ≡ before ++ row ∷ [] → row ≡ row_with key (entries_of_results aggs (lists_at g key))
-    → now ≡ rows_by aggs g (take (n + 1) keys)
-rows_more aggs g keys n key before now row l e is step row_is =
+pub rows_next : (aggs : List Agg) (g : GroupLists) (done : List Rec) (key : Rec) (before now : List Rec) (row : Rec)
+    → before ≡ rows_by aggs g done → now ≡ before ++ row ∷ [] → row ≡ row_with key (entries_of_results aggs (lists_at g key))
+    → now ≡ rows_by aggs g (done ++ key ∷ [])
+rows_next aggs g done key before now row is step row_is =
     let f = λ (k : Rec). row_with k (entries_of_results aggs (lists_at g k)) in
     step
     ∙ (λ i. is i ++ row_is i ∷ [])
-    ∙ sym (map-append f (take n keys) (key ∷ []))
-    ∙ ap (map f) (sym (take_more keys n key l ∙ ap (λ k. take n keys ++ k ∷ []) (sym e)))
+    ∙ sym (map-append f done (key ∷ []))
 
 -- ---- only `inclusive_sum` looks below
 

@@ -8,6 +8,7 @@ pub mod Gathering
 pub mod Takings
 pub mod Lasts
 pub mod Drops
+pub mod InPlace
 pub mod Ranking
 pub mod Folds
 pub mod Learned

@@ -78,25 +78,25 @@ IsSifted-Grows t {own} {new} grows s s' same n part h = record {
 
 -- one node more
 pub sifts_next : (t own new : Tree) (s s' : Sieve) (n part : NodeNumber) → Grows own new → choice_of s' ≡ choice_of s
-    → s'.nodes.items ≡ s.nodes.items ++ part ∷ [] → n.0 ≡ length s.nodes.items → IsSifted t new s n part → Sifts t own s → Sifts t new s'
+    → s'.nodes ≡ s.nodes ++ part ∷ [] → n.0 ≡ length s.nodes → IsSifted t new s n part → Sifts t own s → Sifts t new s'
 sifts_next t own new s s' n part grows same more next found h = record {
-  nodes = λ x l. by x (cases_lt x.0 (length s.nodes.items)) l;
+  nodes = λ x l. by x (cases_lt x.0 (length s.nodes)) l;
 }
   where
-    by : (x : NodeNumber) → ((x.0 < length s.nodes.items) ⊎ (length s.nodes.items ≤ x.0)) → x.0 < length s'.nodes.items
+    by : (x : NodeNumber) → ((x.0 < length s.nodes) ⊎ (length s.nodes ≤ x.0)) → x.0 < length s'.nodes
         → IsSifted t new s' x (part_at s' x)
     by x (inl short) l =
         subst (IsSifted t new s' x)
-        (sym (ap (λ xs. get_or xs x.0 root) more ∙ get_or_append_left s.nodes.items (part ∷ []) root x.0 short))
+        (sym (ap (λ xs. get_or xs x.0 root) more ∙ get_or_append_left s.nodes (part ∷ []) root x.0 short))
         (IsSifted-Grows t grows s s' same x (part_at s x) (h.nodes x short))
     by x (inr long) l =
-        let counted : length s'.nodes.items ≡ length s.nodes.items + 1 = ap length more ∙ length-append s.nodes.items (part ∷ []) in
-        let e : x.0 ≡ length s.nodes.items = omega arith in
+        let counted : length s'.nodes ≡ length s.nodes + 1 = ap length more ∙ length-append s.nodes (part ∷ []) in
+        let e : x.0 ≡ length s.nodes = omega arith in
         let is : n ≡ x = λ i. record { 0 = (next ∙ sym e) i } in
         subst (IsSifted t new s' x)
         (sym (ap (λ xs. get_or xs x.0 root) more
-        ∙ ap (λ i. get_or (s.nodes.items ++ part ∷ []) i root) e
-        ∙ get_or_push s.nodes.items part root (length s.nodes.items) refl))
+        ∙ ap (λ i. get_or (s.nodes ++ part ∷ []) i root) e
+        ∙ get_or_push s.nodes part root (length s.nodes) refl))
         (subst (λ y. IsSifted t new s' y part) is
         (record {
           within = found.within;

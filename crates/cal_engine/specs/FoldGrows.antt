@@ -1,5 +1,6 @@
 -- What a fold over snapshots has taken stays while the context grows.
-use Rattle.std.specs.Prelude.{◌≡◌, ℕ, ◌<◌, List, Option, None, Some, length, map, filter, slice_index_or as get_or}
+use Rattle.std.specs.Prelude.{◌≡◌, ℕ, ◌<◌, List, Option, None, Some, length, map, filter}
+use Rattle.std.specs.Prelude.{slice_index_or as get_or}
 use Rattle.std.specs.List.{All, AllZip, filter_map}
 use Rattle.std.proofs.Common.{refl, sym, ap, subst, ◌∙◌}
 use Rattle.std.proofs.lemmas.List.Elements.{All-weaker}
@@ -36,38 +37,47 @@ use Rattle.cal_engine.specs.declared.tally.Tally.{Tally}
 module _ {old new : Tree} (grows : Grows old new) where
   pub IsKeyIn-Grows : (k : GroupKey) → IsKeyIn old k → IsKeyIn new k
   IsKeyIn-Grows k h = record {
-    paths = All-weaker (IsBelowRoot old) (IsBelowRoot new) (λ n b. record { below = b.below; within = within_paths grows n.0 b.within }) k.paths h.paths;
+    paths = All-weaker (IsBelowRoot old) (IsBelowRoot new)
+        (λ n b. record { below = b.below; within = within_paths grows n.0 b.within })
+        k.paths h.paths;
     imms = within_paths grows k.imms.0 h.imms;
   }
 
   key_in-Grows : (k : GroupKey) → IsKeyIn old k → key_in new k ≡ key_in old k
   key_in-Grows k h = λ i. record {
-    paths = map-alike (path_at new) (path_at old) k.paths (λ n d l. path_at-Grows grows (get_or k.paths n d) (h.paths n d l).within) i;
+    paths = map-alike (path_at new) (path_at old) k.paths
+        (λ n d l. path_at-Grows grows (get_or k.paths n d) (h.paths n d l).within) i;
     imms = path_at-Grows grows k.imms h.imms i;
   }
 
   pub keys-Grows : (ks : List GroupKey) → All (IsKeyIn old) ks → All (IsKeyIn new) ks
   keys-Grows ks h = All-weaker (IsKeyIn old) (IsKeyIn new) IsKeyIn-Grows ks h
 
-  pub grouped_in-Grows : (g : Numbered) → All (IsKeyIn old) g.keys → grouped_in new g ≡ grouped_in old g
+  pub grouped_in-Grows : (g : Numbered) → All (IsKeyIn old) g.keys
+      → grouped_in new g ≡ grouped_in old g
   grouped_in-Grows g h = λ i. record {
-    keys = map-alike (key_in new) (key_in old) g.keys (λ n d l. key_in-Grows (get_or g.keys n d) (h n d l)) i;
+    keys = map-alike (key_in new) (key_in old) g.keys
+        (λ n d l. key_in-Grows (get_or g.keys n d) (h n d l)) i;
     parts = g.parts;
   }
 
-pub room_grows : (names : Option (List (List ℕ))) {t u own new : Tree} → Grows t u → Grows own new → Grows (room_of names t own) (room_of names u new)
+pub room_grows : (names : Option (List (List ℕ))) {t u own new : Tree} → Grows t u → Grows own new
+    → Grows (room_of names t own) (room_of names u new)
 room_grows None h g = h
 room_grows (Some names) h g = g
 
-pub counters-Grows : {old new : Tree} → Grows old new → (rs : List Reading) (cs : List Counter) → AllZip (IsCounter old) rs cs → AllZip (IsCounter new) rs cs
+pub counters-Grows : {old new : Tree} → Grows old new → (rs : List Reading) (cs : List Counter)
+    → AllZip (IsCounter old) rs cs → AllZip (IsCounter new) rs cs
 counters-Grows {old} {new} grows rs cs h =
     zip_weaker (IsCounter old) (IsCounter new) (λ r c k. record {
       counts = k.counts;
-      knows = All-weaker (Knows old) (Knows new) (λ s x. knows-Grows grows s x) c.seekers.items k.knows;
+      knows = All-weaker (Knows old) (Knows new) (λ s x. knows-Grows grows s x)
+          c.seekers.items k.knows;
     }) rs cs h
 
 -- sieves
-pub sieves-Grows : {t u : Tree} → Grows t u → (own : Tree) (names : List (List ℕ)) (sieves : List Sieve) → AreSieves t own names sieves → AreSieves u own names sieves
+pub sieves-Grows : {t u : Tree} → Grows t u → (own : Tree) (names : List (List ℕ))
+    (sieves : List Sieve) → AreSieves t own names sieves → AreSieves u own names sieves
 sieves-Grows {t} {u} grows own names sieves h = record {
   choices = h.choices;
   sift = All-weaker (Sifts t own) (Sifts u own) by sieves h.sift;
@@ -77,35 +87,43 @@ sieves-Grows {t} {u} grows own names sieves h = record {
     by s k = record {
       nodes = λ n l. let old = k.nodes n l in record {
         within = within_paths grows n.0 old.within;
-        leads = subst (λ p. Leads own (in_paths s p) (part_at s n)) (sym (path_at-Grows grows n old.within)) old.leads;
+        leads = subst (λ p. Leads own (in_paths s p) (part_at s n))
+            (sym (path_at-Grows grows n old.within)) old.leads;
       };
     }
 
-pub gate-Grows : {old new : Tree} → Grows old new → (q : Query) (g : Gate) → IsGate old q g → IsGate new q g
+pub gate-Grows : {old new : Tree} → Grows old new → (q : Query) (g : Gate) → IsGate old q g
+    → IsGate new q g
 gate-Grows {old} {new} grows q g h = record {
   filter = filter-Grows grows q g.filter h.filter;
   small = λ n l. let before = h.small n l in record {
     within = within_paths grows n.0 before.within;
-    small = subst (All (λ e. IsSmall e.value)) (sym (path_at-Grows grows n before.within)) before.small;
+    small = subst (All (λ e. IsSmall e.value)) (sym (path_at-Grows grows n before.within))
+        before.small;
   };
 }
 
 -- a tally stays right while the context grows
-pub tally-Grows : {t u : Tree} → Grows t u → (q : Query) (rs : List Rec) (y : Tally) → IsTally t q rs y → IsTally u q rs y
+pub tally-Grows : {t u : Tree} → Grows t u → (q : Query) (rs : List Rec) (y : Tally)
+    → IsTally t q rs y → IsTally u q rs y
 tally-Grows {t} {u} grows q rs y h =
-    let rooms : Grows (room_of q.group t y.own) (room_of q.group u y.own) = room_grows q.group grows (Grows-refl y.own) in record {
+    let rooms : Grows (room_of q.group t y.own) (room_of q.group u y.own) =
+    room_grows q.group grows (Grows-refl y.own) in
+    record {
       counters = counters-Grows grows (map reading_of q.aggs) y.counters.items h.counters;
       sieves = sieves-Grows grows y.own _ y.sieves.items h.sieves;
       keys = keys-Grows rooms y.groups.keys h.keys;
       groups = grouped_in-Grows rooms y.groups h.keys ∙ h.groups;
     }
 
-pub HasFolded-stays : (fold : SnapshotFold) (old new : Tree) (rs : List Rec) → HasFolded fold old rs → Grows old new → HasFolded fold new rs
+pub HasFolded-stays : (fold : SnapshotFold) (old new : Tree) (rs : List Rec)
+    → HasFolded fold old rs → Grows old new → HasFolded fold new rs
 HasFolded-stays fold old new rs h grows = record {
   valid = h.valid;
   gate = gate-Grows grows fold.query fold.gate h.gate;
   holds = record {
-    groups = λ is. tally-Grows grows fold.query (filter_map (kept fold.query) rs) fold.tally (h.holds.groups is);
+    groups = λ is. tally-Grows grows fold.query (filter_map (kept fold.query) rs) fold.tally
+        (h.holds.groups is);
     rows = h.holds.rows;
   };
 }

@@ -41,8 +41,8 @@ last_whole name r = last_or None (numbers_sought true name (flat r))
 abbrev pub weight : Rec → Num
 weight r = unwrap_or (last_whole (codes "count") r) (Whole (pos 1))
 
--- The names whose last numbers contribute to a kernel over A: A itself, and the name that the result
--- of an earlier query has.
+-- The names whose last numbers contribute to a kernel over A: A itself, and the name that the
+-- result of an earlier query has.
 abbrev pub contributing : kernels.KernelName → List ℕ → List (List ℕ)
 contributing kernel.Avg attr = attr ∷ []
 contributing kernel.Min attr = attr ∷ result_name kernel.Min attr ∷ []

@@ -1,5 +1,6 @@
 -- What a name of GROUP BY keeps beside the numbers of nodes, and when that is right.
-use Rattle.std.specs.Prelude.{◌≡◌, ℕ, true, false, ◌<◌, ◌≤◌, List, [], filter, length, map, slice_index_or}
+use Rattle.std.specs.Prelude.{◌≡◌, ℕ, true, false, ◌<◌, ◌≤◌, List, [], filter, length, map}
+use Rattle.std.specs.Prelude.{slice_index_or}
 use Rattle.std.specs.List.{All}
 use Rattle.cal_context.specs.Tree.{Tree, path_at}
 use Rattle.cal_context.specs.declared.numbers.NodeNumber.{NodeNumber}
@@ -20,7 +21,7 @@ beside_paths s es = filter (chooses false (choice_of s)) es
 
 -- what is kept for a node
 abbrev pub part_at : Sieve → NodeNumber → NodeNumber
-part_at s n = slice_index_or s.nodes.items n.0 (record { 0 = 0 })
+part_at s n = slice_index_or s.nodes n.0 (record { 0 = 0 })
 
 -- what is taken of a node's path leads to another node, in the tree of groups
 pub record IsSifted (t own : Tree) (s : Sieve) (n part : NodeNumber) : Type 0 where
@@ -29,12 +30,12 @@ pub record IsSifted (t own : Tree) (s : Sieve) (n part : NodeNumber) : Type 0 wh
 
 -- what is kept is right, as far as it goes
 pub record Sifts (t own : Tree) (s : Sieve) : Type 0 where
-  pub nodes : (n : NodeNumber) → n.0 < length s.nodes.items → IsSifted t own s n (part_at s n)
+  pub nodes : (n : NodeNumber) → n.0 < length s.nodes → IsSifted t own s n (part_at s n)
 
 -- and it goes for the whole context
 pub record SiftsAll (t own : Tree) (s : Sieve) : Type 0 where
   pub knows : Sifts t own s
-  pub nodes : length t.paths ≤ length s.nodes.items
+  pub nodes : length t.paths ≤ length s.nodes
 
 -- sieves are those of names
 pub record AreSieves (t own : Tree) (names : List (List ℕ)) (sieves : List Sieve) : Type 0 where
@@ -42,6 +43,7 @@ pub record AreSieves (t own : Tree) (names : List (List ℕ)) (sieves : List Sie
   pub sift : All (Sifts t own) sieves
 
 -- and know the whole context
-pub record AreReadySieves (t own : Tree) (names : List (List ℕ)) (sieves : List Sieve) : Type 0 where
+pub record AreReadySieves (t own : Tree) (names : List (List ℕ)) (sieves : List Sieve)
+    : Type 0 where
   pub choices : map choice_of sieves ≡ choices_of [] names
   pub sift : All (SiftsAll t own) sieves

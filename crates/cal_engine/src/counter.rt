@@ -18,7 +18,7 @@ use cal_agg::Num;
 use cal_context::{Context, Snapshot};
 use cal_filter::{Seeker, catch_up_all};
 use cal_ql::KernelName;
-use cal_value::{OutOfMemory, Seq, Text, TryCopy};
+use cal_value::{OutOfMemory, Text, TryCopy};
 use std::alloc::Global;
 
 /// What is read of records by number for a kernel. What it needs of a node it finds once.
@@ -47,12 +47,12 @@ impl Counter {
         catch_up_all(&mut self.seekers, context)
     }
 
-    /// What is kept of one record.
+    /// What is kept of one record. `numbers` is room to work in.
     fn part_of(
         &self,
-        alloc: Global,
         context: &Context,
         snapshot: &Snapshot,
+        numbers: &mut Vec<Num>,
     ) -> Result<Part, OutOfMemory>
         requires { IsIn context.now snapshot.now }
         ensures { IfOk result (λ part. (r : AReading) → IsReadyCounter context.now r self.now
@@ -62,10 +62,10 @@ impl Counter {
             KernelName::Count => {
                 Part::of(self.kernel, &[weight(&self.seekers, context, snapshot)])
             }
-            _ => Part::of(
-                self.kernel,
-                &numbers(alloc, &self.seekers, context, snapshot)?,
-            ),
+            _ => {
+                fill_numbers(&self.seekers, context, snapshot, numbers)?;
+                Part::of(self.kernel, numbers)
+            }
         }
     }
 }
@@ -120,23 +120,23 @@ fn weight(seekers: &[Seeker], context: &Context, snapshot: &Snapshot) -> Num
     }
 }
 
-/// The numbers that seekers find.
-fn numbers(
-    alloc: Global,
+/// The numbers that seekers find, in place of those that are there.
+fn fill_numbers(
     seekers: &[Seeker],
     context: &Context,
     snapshot: &Snapshot,
-) -> Result<Vec<Num>, OutOfMemory>
+    numbers: &mut Vec<Num>,
+) -> Result<(), OutOfMemory>
     requires { IsIn context.now snapshot.now }
-    ensures { IfOk result (λ numbers. All (KnowsAll context.now) seekers.now → numbers.items
+    ensures { OnOk result (All (KnowsAll context.now) seekers.now → numbers.new.items
         ≡ filter_map (λ s. number_found_by (sought s) (flat (meaning context.now snapshot.now)))
         seekers.now) }
 {
-    let mut numbers = Vec::with_capacity(alloc, seekers.len())?;
+    numbers.clear();
     for seeker in seekers {
-        push_some(&mut numbers, number_found(false, seeker, context, snapshot))?;
+        push_some(numbers, number_found(false, seeker, context, snapshot))?;
     }
-    Ok(numbers)
+    Ok(())
 }
 
 fn number_found(whole: bool, seeker: &Seeker, context: &Context, snapshot: &Snapshot) -> Option<Num>
@@ -170,21 +170,22 @@ pub(crate) fn know_all(counters: &mut [Counter], context: &Context) -> Result<()
     Ok(())
 }
 
-/// The parts of one record.
-pub(crate) fn parts_of(
-    alloc: Global,
+/// The parts of one record, in place of those that are there. `numbers` is room to work in.
+pub(crate) fn fill_parts(
     counters: &[Counter],
     context: &Context,
     snapshot: &Snapshot,
-) -> Result<Seq<Part>, OutOfMemory>
+    numbers: &mut Vec<Num>,
+    parts: &mut Vec<Part>,
+) -> Result<(), OutOfMemory>
     requires { IsIn context.now snapshot.now }
-    ensures { IfOk result (λ parts. (rs : List AReading)
+    ensures { OnOk result ((rs : List AReading)
         → AllZip (IsReadyCounter context.now) rs counters.now
-        → parts ≡ parts_by rs (meaning context.now snapshot.now)) }
+        → parts.new.items ≡ parts_by rs (meaning context.now snapshot.now)) }
 {
-    let mut parts = Vec::with_capacity(alloc, counters.len())?;
+    parts.clear();
     for counter in counters {
-        parts.push(counter.part_of(alloc, context, snapshot)?)?;
+        parts.push(counter.part_of(context, snapshot, numbers)?)?;
     }
-    Ok(Seq::from_vec(parts))
+    Ok(())
 }

@@ -101,19 +101,20 @@ fn result_entry(alloc: Global, name: &Text, number: Num) -> Result<Entry, OutOfM
 fn row(
     alloc: Global,
     aggs: &[Agg],
-    key: &Rec,
+    key: Rec,
     own: &Seq<Part>,
     all: &Seq<Part>,
     below: &Seq<Part>,
 ) -> Result<Rec, OutOfMemory>
     ensures { IfOk result (λ row. (lists : Lists) → AreKept aggs.now lists own.now all.now below.now
-        → row ≡ row_with key.now (entries_of_results aggs.now lists)) }
+        → row ≡ row_with key (entries_of_results aggs.now lists)) }
 {
-    let mut imms = key.imms.copy(alloc)?.into_vec();
-    add_results(alloc, &mut imms, aggs, own, all, below)?;
+    let Rec { paths, imms } = key;
+    let mut entries = imms.into_vec();
+    add_results(alloc, &mut entries, aggs, own, all, below)?;
     Ok(Rec {
-        paths: key.paths.copy(alloc)?,
-        imms: Seq::from_vec(imms),
+        paths,
+        imms: Seq::from_vec(entries),
     })
 }
 
@@ -121,19 +122,19 @@ fn row(
 pub(crate) fn group_rows(
     alloc: Global,
     query: &Query,
-    keys: &[Rec],
+    keys: Vec<Rec>,
     parts: &[Seq<Part>],
 ) -> Result<Seq<Rec>, OutOfMemory>
-    requires { length parts.now ≡ length keys.now }
+    requires { length parts.now ≡ length keys.items }
     ensures { IfOk result (λ rows. (rs : List ARecord)
-        → record { keys = keys.now; parts = parts.now } ≡ groups_over query.now rs
+        → record { keys = keys.items; parts = parts.now } ≡ groups_over query.now rs
         → rows ≡ map (row_by query.now rs) (groups_of query.now.group rs)) }
 {
     let aggs = query.aggs.as_slice();
     let none = no_parts(alloc, aggs)?;
     let all = total(alloc, parts, &none)?;
     if some_inclusive(aggs) {
-        let below = parts_below(alloc, keys, parts, &none)?;
+        let below = parts_below(alloc, &keys, parts, &none)?;
         let made = rows(alloc, aggs, keys, parts, &all, &below)?;
         return Ok(made);
     }
@@ -153,19 +154,20 @@ fn some_inclusive(aggs: &[Agg]) -> bool
 fn rows(
     alloc: Global,
     aggs: &[Agg],
-    keys: &[Rec],
+    keys: Vec<Rec>,
     parts: &[Seq<Part>],
     all: &Seq<Part>,
     below: &[Seq<Part>],
 ) -> Result<Seq<Rec>, OutOfMemory>
-    requires parts { length parts.now ≡ length keys.now }
-    requires below { length below.now ≡ length keys.now }
+    requires parts { length parts.now ≡ length keys.items }
+    requires below { length below.now ≡ length keys.items }
     ensures { IfOk result (λ rows. (lists : GroupLists)
-        → AreGroupParts aggs.now lists keys.now parts.now all.now below.now
-        → rows ≡ rows_by aggs.now lists keys.now) }
+        → AreGroupParts aggs.now lists keys.items parts.now all.now below.now
+        → rows ≡ rows_by aggs.now lists keys.items) }
 {
     let mut rows = Vec::with_capacity(alloc, keys.len())?;
-    for (number, key) in keys.iter().enumerate() {
+    for key in keys {
+        let number = rows.len();
         rows.push(row(alloc, aggs, key, &parts[number], all, &below[number])?)?;
     }
     Ok(Seq::from_vec(rows))

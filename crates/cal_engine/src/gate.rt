@@ -126,17 +126,19 @@ fn has_small_entry(context: &Context, node: NodeNumber) -> bool
     }
 }
 
-/// A snapshot with room of its own.
-pub(crate) fn copy_of(alloc: Global, snapshot: &Snapshot) -> Result<Snapshot, OutOfMemory>
-    ensures nodes { IfOk result (λ copy. copy.nodes.items ≡ snapshot.now.nodes.items) }
-    ensures imms { IfOk result (λ copy. copy.imms.items ≡ snapshot.now.imms.items) }
+/// Makes a snapshot the same as another.
+pub(crate) fn copy_into(
+    alloc: Global,
+    snapshot: &Snapshot,
+    copy: &mut Snapshot,
+) -> Result<(), OutOfMemory>
+    ensures nodes { OnOk result (copy.new.nodes.items ≡ snapshot.now.nodes.items) }
+    ensures imms { OnOk result (copy.new.imms.items ≡ snapshot.now.imms.items) }
 {
-    let mut imms = Vec::with_capacity(alloc, snapshot.imms.len())?;
-    add_copies(alloc, &mut imms, &snapshot.imms)?;
-    Ok(Snapshot {
-        nodes: Vec::from_slice(alloc, &snapshot.nodes)?,
-        imms,
-    })
+    copy.clear();
+    copy.nodes.extend_from_slice(&snapshot.nodes)?;
+    add_copies(alloc, &mut copy.imms, &snapshot.imms)?;
+    Ok(())
 }
 
 /// Adds copies of immediates.

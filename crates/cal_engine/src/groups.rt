@@ -14,6 +14,7 @@ use cal_ql::Query;
 use cal_value::{OutOfMemory, Rec, Seq, TryCopy};
 use std::alloc::Global;
 use std::marker::Model;
+use std::mem;
 
 /// Groups by numbers, in first-seen order, and what is kept of the records of each.
 #[derive(Drop)]
@@ -87,8 +88,19 @@ impl Groups {
         ensures { IfOk result (λ rows. (rs : List ARecord) → self.now ≡ groups_over query.now rs
             → rows ≡ map (row_by query.now rs) (groups_of query.now.group rs)) }
     {
-        group_rows(alloc, query, self.keys.as_slice(), &self.parts)
+        let keys = copies(alloc, self.keys.as_slice())?;
+        group_rows(alloc, query, keys, &self.parts)
     }
+}
+
+fn copies(alloc: Global, keys: &[Rec]) -> Result<Vec<Rec>, OutOfMemory>
+    ensures { IfOk result (λ copies. copies.items ≡ keys.now) }
+{
+    let mut copies = Vec::with_capacity(alloc, keys.len())?;
+    for key in keys {
+        copies.push(key.copy(alloc)?)?;
+    }
+    Ok(copies)
 }
 
 /// Parts taken together.
@@ -101,7 +113,7 @@ pub(crate) fn total(
 {
     let mut total = none.copy(alloc)?;
     for more in parts {
-        total = merged_parts(alloc, &total, more)?;
+        merge_into(alloc, &mut total, more.as_slice())?;
     }
     Ok(total)
 }
@@ -123,6 +135,37 @@ pub(crate) fn put(
         parts[number] = merged;
     } else {
         parts.push(fresh)?;
+    }
+    Ok(())
+}
+
+/// Merges parts into others place by place, where these are. What is left of them after an `Err`
+/// isn't promised.
+pub(crate) fn merge_into(
+    alloc: Global,
+    parts: &mut Seq<Part>,
+    fresh: &[Part],
+) -> Result<(), OutOfMemory>
+    ensures { OnOk result (parts.new ≡ merged_by_place parts.old fresh.now) }
+{
+    let mut merged = mem::replace(parts, Seq::new(alloc)).into_vec();
+    // no place beyond the others stays
+    merged.truncate(fresh.len());
+    merge_all(&mut merged, fresh)?;
+    *parts = Seq::from_vec(merged);
+    Ok(())
+}
+
+fn merge_all(parts: &mut Vec<Part>, fresh: &[Part]) -> Result<(), OutOfMemory>
+    requires { length parts.old.items ≤ length fresh.now }
+    ensures { OnOk result (parts.new.items ≡ merged_by_place parts.old.items fresh.now) }
+{
+    for (place, part) in fresh.iter().enumerate() {
+        if place < parts.len() {
+            parts[place].merge(part)?;
+        } else {
+            parts.push(*part)?;
+        }
     }
     Ok(())
 }

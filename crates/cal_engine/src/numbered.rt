@@ -1,12 +1,12 @@
-ghost use Rattle.std.specs.Prelude.{◌≡◌, [], List, map, IfOk, OnOk, OnErr};
+ghost use Rattle.std.specs.Prelude.{◌≡◌, ◌≤◌, [], List, length, map, IfOk, OnOk, OnErr};
 ghost use Rattle.cal_value.specs.declared.record.Rec.{Rec as ARecord};
-ghost use Rattle.cal_engine.specs.Folding.{groups_over};
+ghost use Rattle.cal_engine.specs.Folding.{groups_over, put_parts};
 ghost use Rattle.cal_engine.specs.Groups.{groups_of};
 ghost use Rattle.cal_engine.specs.Numbered.{GathersKey, grouped_in};
 ghost use Rattle.cal_engine.specs.Rows.{row_of as row_by};
 
 use crate::finishing::group_rows;
-use crate::groups::put;
+use crate::groups::merge_into;
 use crate::key::{GroupKey, expanded_keys};
 use crate::part::Part;
 use cal_context::{Context, Interner};
@@ -50,14 +50,13 @@ impl NumberedGroups {
         &mut self,
         alloc: Global,
         key: GroupKey,
-        fresh: Seq<Part>,
+        fresh: &[Part],
     ) -> Result<(), OutOfMemory>
-        ensures ok { OnOk result (GathersKey self.old key fresh self.new) }
-        ensures err { OnErr result (self.new ≡ self.old) }
+        ensures { OnOk result (GathersKey self.old key fresh.now self.new) }
     {
         let count = self.keys.as_slice().len();
         let number = self.keys.intern(key)? as usize;
-        let put = put(alloc, &mut self.parts, number, fresh);
+        let put = put_into(alloc, &mut self.parts, number, fresh);
         if put.is_err() {
             self.keys.truncate(count);
         }
@@ -76,7 +75,27 @@ impl NumberedGroups {
             → rows ≡ map (row_by query.now rs) (groups_of query.now.group rs)) }
     {
         let keys = expanded_keys(alloc, tree, self.keys.as_slice())?;
-        let rows = group_rows(alloc, query, &keys, &self.parts)?;
+        let rows = group_rows(alloc, query, keys, &self.parts)?;
         Ok(rows)
     }
+}
+
+/// Merges parts into those of a number, or adds them at the end.
+#[tactic(auto, using(crate::proofs::Gathering::of_putting))]
+fn put_into(
+    alloc: Global,
+    parts: &mut Vec<Seq<Part>>,
+    number: usize,
+    fresh: &[Part],
+) -> Result<(), OutOfMemory>
+    requires { number ≤ length parts.old.items }
+    ensures ok { OnOk result (parts.new.items ≡ put_parts parts.old.items number fresh.now) }
+    ensures err { OnErr result (length parts.new.items ≡ length parts.old.items) }
+{
+    if number < parts.len() {
+        merge_into(alloc, &mut parts[number], fresh)?;
+    } else {
+        parts.push(Seq::from_vec(Vec::from_slice(alloc, fresh)?))?;
+    }
+    Ok(())
 }

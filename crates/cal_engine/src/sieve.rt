@@ -13,6 +13,7 @@ ghost use Rattle.cal_engine.specs.Totals.{Leads};
 use crate::grouping::takes;
 use crate::stepping::{joined, step};
 use cal_context::{Context, Immediate, NodeNumber};
+use cal_filter::NodeMemo;
 use cal_value::{Attribute, OutOfMemory, Seq, Text};
 use std::alloc::Global;
 
@@ -24,7 +25,7 @@ pub(crate) struct Sieve {
     earlier: Seq<Text>,
     name: Text,
     // of each node: the node of what is taken of its path, in the tree of groups
-    nodes: Vec<NodeNumber>,
+    nodes: NodeMemo,
 }
 
 impl Sieve {
@@ -36,7 +37,7 @@ impl Sieve {
         Sieve {
             earlier,
             name,
-            nodes: Vec::new(alloc),
+            nodes: NodeMemo::new(alloc),
         }
     }
 
@@ -69,7 +70,7 @@ impl Sieve {
         node: NodeNumber,
     ) -> Result<NodeNumber, OutOfMemory>
         requires within { node.0 < length context.now.paths }
-        requires next { node.0 ≡ length self.now.nodes.items }
+        requires next { node.0 ≡ length self.now.nodes }
         ensures sifted { IfOk result (λ part. Sifts context.now own.old self.now
             → IsSifted context.now own.new self.now node part) }
         ensures grows { OnOk result (Grows own.old own.new) }
@@ -99,10 +100,7 @@ impl Sieve {
     fn part(&self, node: NodeNumber) -> NodeNumber
         ensures { result ≡ part_at self.now node }
     {
-        self.nodes
-            .get(node.0 as usize)
-            .copied()
-            .unwrap_or(NodeNumber::ROOT)
+        self.nodes.get(node)
     }
 
     /// The node of what it takes of the paths of nodes, one after another.

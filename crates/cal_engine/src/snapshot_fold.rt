@@ -10,7 +10,7 @@ ghost use Rattle.cal_engine.specs.Standing.{HasFolded};
 ghost use Rattle.cal_engine.specs.Tallies.{Holds};
 
 use crate::fold::{finished, is_aggregated};
-use crate::gate::{Gate, copy_of};
+use crate::gate::{Gate, copy_into};
 use crate::tally::Tally;
 use cal_context::{Context, Snapshot, Taker, expand};
 use cal_ql::Query;
@@ -28,6 +28,8 @@ pub struct SnapshotFold {
     gate: Gate,
     tally: Tally,
     rows: Seq<Rec>,
+    // room for a record with LET's immediates
+    full: Snapshot,
 }
 
 impl SnapshotFold {
@@ -51,6 +53,7 @@ impl SnapshotFold {
             gate,
             tally,
             rows: Seq::new(alloc),
+            full: Snapshot::new(alloc),
         })
     }
 
@@ -75,6 +78,7 @@ impl SnapshotFold {
             gate: _,
             tally,
             rows,
+            full: _,
         } = self;
         let rows = made_rows(alloc, &query, context, &tally, rows)?;
         let answer = finished(alloc, &query, rows)?;
@@ -115,8 +119,8 @@ impl SnapshotFold {
             (HasFolded self.new context.now)
             (meaning context.now snapshot.now ∷ [])) }
     {
-        let mut full = copy_of(self.alloc, snapshot)?;
-        let keeps = self.gate.apply(context, &mut full)?;
+        copy_into(self.alloc, snapshot, &mut self.full)?;
+        let keeps = self.gate.apply(context, &mut self.full)?;
         if !keeps {
             return Ok(());
         }
@@ -124,7 +128,7 @@ impl SnapshotFold {
             self.alloc,
             &self.query,
             context,
-            &full,
+            &self.full,
             &mut self.tally,
             &mut self.rows,
         )?;

@@ -10,12 +10,14 @@ ghost use Rattle.cal_engine.specs.Rows.{row_of as row_by};
 ghost use Rattle.cal_engine.specs.Sieves.{AreSieves};
 ghost use Rattle.cal_engine.specs.Tallies.{FindsKey, IsTally};
 
-use crate::counter::{Counter, counters_of, know_all, parts_of};
+use crate::counter::{Counter, counters_of, fill_parts, know_all};
 use crate::key::{GroupKey, key_by_names, key_by_nodes};
 use crate::numbered::NumberedGroups;
+use crate::part::Part;
 use crate::reading::readings_of;
 use crate::sieve::Sieve;
 use crate::sieves::{know_nodes, sieves_for};
+use cal_agg::Num;
 use cal_context::{Context, Snapshot};
 use cal_ql::Query;
 use cal_value::{OutOfMemory, Rec, Seq};
@@ -29,6 +31,9 @@ pub(crate) struct Tally {
     // the tree of groups, in which the paths lie that the names of GROUP BY take
     own: Context,
     groups: NumberedGroups,
+    // room to work in
+    numbers: Vec<Num>,
+    parts: Vec<Part>,
 }
 
 impl Tally {
@@ -44,6 +49,8 @@ impl Tally {
             sieves,
             own: Context::new(alloc),
             groups: NumberedGroups::new(alloc),
+            numbers: Vec::new(alloc),
+            parts: Vec::new(alloc),
         })
     }
 
@@ -62,7 +69,13 @@ impl Tally {
     {
         context.has_each_once();
         know_all(&mut self.counters, context)?;
-        let parts = parts_of(alloc, &self.counters, context, snapshot)?;
+        fill_parts(
+            &self.counters,
+            context,
+            snapshot,
+            &mut self.numbers,
+            &mut self.parts,
+        )?;
         let key = key_of(
             alloc,
             by_name,
@@ -72,7 +85,7 @@ impl Tally {
             &mut self.own,
         )?;
         self.own.has_each_once();
-        self.groups.gather(alloc, key, parts)?;
+        self.groups.gather(alloc, key, &self.parts)?;
         Ok(())
     }
 

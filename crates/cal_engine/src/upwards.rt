@@ -1,7 +1,7 @@
 ghost use Rattle.std.specs.Prelude.{◌≡◌, ◌<◌, length, OnOk};
 ghost use Rattle.cal_engine.specs.Totals.{IsAddedAbove};
 
-use crate::groups::merged_parts;
+use crate::groups::merge_into;
 use crate::part::Part;
 use cal_context::{Context, NodeNumber};
 use cal_value::{OutOfMemory, Seq};
@@ -25,8 +25,7 @@ pub(crate) fn add_upwards(
     let mut at = node;
     loop {
         let place = at.0 as usize;
-        let total = merged_parts(alloc, &totals[place], parts)?;
-        totals[place] = total;
+        merge_into(alloc, &mut totals[place], parts.as_slice())?;
         match context.link(at) {
             Some(link) => at = link.parent,
             None => return Ok(()),

@@ -13,3 +13,4 @@ mod ResultLemmas
 pub mod ReadyLemmas
 mod FlatOnly
 mod InternedLemmas
+mod MemoLemmas

@@ -67,13 +67,13 @@ sought-Stays s s' h = λ i. record { name = h.name i; wanted = h.wanted i }
 
 -- one attribute more
 pub attribute_next : (t : Tree) (s s' : Seeker) (a : AttributeNumber) (b : Bool) → Stays s s'
-    → s'.nearest.items ≡ s.nearest.items → s'.named.items ≡ s.named.items ++ b ∷ []
+    → s'.nearest ≡ s.nearest → s'.named.items ≡ s.named.items ++ b ∷ []
     → a.0 ≡ length s.named.items → a.0 < length t.attributes
     → b ≡ eq_by_cmp text_cmp (attribute_at t a).name s.name → Knows t s → Knows t s'
 attribute_next t s s' a b same nodes more next within named k = record {
   attributes = λ x h. by x (cases_lt x.0 (length s.named.items)) h;
   nodes = λ n h.
-      let short : n.0 < length s.nearest.items = rw (sym nodes) h in
+      let short : n.0 < length s.nearest = rw (sym nodes) h in
       let old = k.nodes n short in
       record {
         within = old.within;
@@ -115,8 +115,8 @@ attribute_next t s s' a b same nodes more next within named k = record {
 
 -- one node more
 pub node_next : (t : Tree) (s s' : Seeker) (n m : NodeNumber) → Stays s s'
-    → s'.named.items ≡ s.named.items → s'.nearest.items ≡ s.nearest.items ++ m ∷ []
-    → n.0 ≡ length s.nearest.items → IsNearest t (sought s) n m → Knows t s → Knows t s'
+    → s'.named.items ≡ s.named.items → s'.nearest ≡ s.nearest ++ m ∷ []
+    → n.0 ≡ length s.nearest → IsNearest t (sought s) n m → Knows t s → Knows t s'
 node_next t s s' n m same attributes more next near k = record {
   attributes = λ x h.
       let short : x.0 < length s.named.items = rw (sym attributes) h in
@@ -126,7 +126,7 @@ node_next t s s' n m same attributes more next near k = record {
         named = ap (λ xs. slice_index_or xs x.0 false) attributes ∙ old.named
             ∙ ap (λ w. eq_by_cmp text_cmp (attribute_at t x).name w) (sym same.name);
       };
-  nodes = λ x h. by x (cases_lt x.0 (length s.nearest.items)) h;
+  nodes = λ x h. by x (cases_lt x.0 (length s.nearest)) h;
 }
   where
     like : (x y : NodeNumber) → nearest_at s' x ≡ y → IsNearest t (sought s) x y
@@ -138,20 +138,20 @@ node_next t s s' n m same attributes more next near k = record {
           ∙ ap (λ z. last_or None (path_at t z)) (sym e);
     }
 
-    by : (x : NodeNumber) → ((x.0 < length s.nearest.items) ⊎ (length s.nearest.items ≤ x.0))
-        → x.0 < length s'.nearest.items → IsNearest t (sought s') x (nearest_at s' x)
+    by : (x : NodeNumber) → ((x.0 < length s.nearest) ⊎ (length s.nearest ≤ x.0))
+        → x.0 < length s'.nearest → IsNearest t (sought s') x (nearest_at s' x)
     by x (inl short) h =
         like x (nearest_at s x)
         (ap (λ xs. slice_index_or xs x.0 root) more
-        ∙ get_or_append_left s.nearest.items (m ∷ []) root x.0 short)
+        ∙ get_or_append_left s.nearest (m ∷ []) root x.0 short)
         (k.nodes x short)
     by x (inr long) h =
-        let counted : length s'.nearest.items ≡ length s.nearest.items + 1 =
-        ap length more ∙ length-append s.nearest.items (m ∷ []) in
-        let e : x.0 ≡ length s.nearest.items = omega arith in
+        let counted : length s'.nearest ≡ length s.nearest + 1 =
+        ap length more ∙ length-append s.nearest (m ∷ []) in
+        let e : x.0 ≡ length s.nearest = omega arith in
         let is : n ≡ x = λ i. record { 0 = (next ∙ sym e) i } in
         like x m
         (ap (λ xs. slice_index_or xs x.0 root) more
-        ∙ ap (λ i. slice_index_or (s.nearest.items ++ m ∷ []) i root) e
-        ∙ get_or_push s.nearest.items m root (length s.nearest.items) refl)
+        ∙ ap (λ i. slice_index_or (s.nearest ++ m ∷ []) i root) e
+        ∙ get_or_push s.nearest m root (length s.nearest) refl)
         (subst (λ y. IsNearest t (sought s) y m) is near)

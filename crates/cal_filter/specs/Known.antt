@@ -19,7 +19,7 @@ named_at s a = slice_index_or s.named.items a.0 false
 
 -- what is kept for a node: the nearest one at or above it whose entry is sought, or else the root
 abbrev pub nearest_at : Seeker → NodeNumber → NodeNumber
-nearest_at s n = slice_index_or s.nearest.items n.0 (record { 0 = 0 })
+nearest_at s n = slice_index_or s.nearest n.0 (record { 0 = 0 })
 
 -- an attribute of the context that has the name, or hasn't
 pub record IsKnownAttribute (t : Tree) (s : Seeker) (a : AttributeNumber) : Type 0 where
@@ -35,7 +35,7 @@ pub record IsNearest (t : Tree) (s : Sought) (n other : NodeNumber) : Type 0 whe
 -- what is kept is right in this context, as far as it goes
 pub record Knows (t : Tree) (s : Seeker) : Type 0 where
   pub attributes : (a : AttributeNumber) → a.0 < length s.named.items → IsKnownAttribute t s a
-  pub nodes : (n : NodeNumber) → n.0 < length s.nearest.items
+  pub nodes : (n : NodeNumber) → n.0 < length s.nearest
       → IsNearest t (sought s) n (nearest_at s n)
 
 -- each attribute of the context is known
@@ -47,4 +47,4 @@ pub record KnowsAttributes (t : Tree) (s : Seeker) : Type 0 where
 pub record KnowsAll (t : Tree) (s : Seeker) : Type 0 where
   pub knows : Knows t s
   pub attributes : length t.attributes ≤ length s.named.items
-  pub nodes : length t.paths ≤ length s.nearest.items
+  pub nodes : length t.paths ≤ length s.nearest

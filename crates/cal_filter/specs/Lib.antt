@@ -1,5 +1,6 @@
 pub mod Numbers
 pub mod Named
+pub mod Memo
 pub mod Lets
 pub mod Conditions
 pub mod Kept

@@ -13,6 +13,7 @@ mod filter;
 mod find;
 mod kinds;
 mod laws;
+mod memo;
 mod number;
 mod operands;
 mod operation;
@@ -24,6 +25,7 @@ mod wanted;
 
 pub use filter::Filter;
 pub use laws::{filters_stay, numbers_stay_small};
+pub use memo::NodeMemo;
 pub use number::{number_in, value_of_number};
 pub use operands::catch_up_all;
 pub use record::apply;

@@ -4,6 +4,7 @@ ghost use Rattle.cal_filter.specs.Known.{IsNearest, Knows, KnowsAll, KnowsAttrib
 ghost use Rattle.cal_filter.specs.Known.{nearest_at, sought};
 ghost use Rattle.cal_filter.specs.Sought.{number_of, seeks as is_sought, whole_of};
 
+use crate::NodeMemo;
 use crate::wanted::Wanted;
 use cal_context::{AttributeNumber, Context, NodeNumber};
 use cal_value::{OutOfMemory, Text, Variant};
@@ -18,7 +19,7 @@ pub struct Seeker {
     // of each attribute: whether it has the name
     named: Vec<bool>,
     // of each node: the nearest one at or above it whose entry is sought, or else the root
-    nearest: Vec<NodeNumber>,
+    nearest: NodeMemo,
 }
 
 impl Seeker {
@@ -47,7 +48,7 @@ impl Seeker {
             name,
             wanted,
             named: Vec::new(alloc),
-            nearest: Vec::new(alloc),
+            nearest: NodeMemo::new(alloc),
         }
     }
 
@@ -94,7 +95,7 @@ impl Seeker {
     /// The nearest node at or above the first one that isn't known.
     fn nearest_to(&self, context: &Context, node: NodeNumber) -> NodeNumber
         requires within { node.0 < length context.now.paths }
-        requires next { node.0 ≡ length self.now.nearest.items }
+        requires next { node.0 ≡ length self.now.nearest }
         ensures { KnowsAttributes context.now self.now
             → IsNearest context.now (sought self.now) node result }
     {
@@ -138,9 +139,6 @@ impl Seeker {
     pub(crate) fn nearest(&self, node: NodeNumber) -> NodeNumber
         ensures { result ≡ nearest_at self.now node }
     {
-        self.nearest
-            .get(node.0 as usize)
-            .copied()
-            .unwrap_or(NodeNumber::ROOT)
+        self.nearest.get(node)
     }
 }

@@ -16,6 +16,7 @@ use Rattle.cal_query.specs.Layout.{LaysOut, answer_text}
 use Rattle.cal_query.specs.Seeing.{HasSeen, SeesRows}
 use Rattle.cal_query.specs.Streaming.{HasFinished}
 use Rattle.cal_query.specs.declared.joining.Kept.{Kept}
+use Rattle.cal_query.specs.declared.seeing.Seen.{Seen}
 use Rattle.cal_query.specs.declared.streaming.Finished.{Finished}
 
 abbrev records_of : Stream → Records
@@ -28,33 +29,32 @@ module _ {T : Type 0} (has_taken : T → Tree → List Rec → Type 0) (limit : 
     (bytes : List ℕ) where
   -- the rows of a stream are seen as they are
   pub sees_plain : (f : Finished T) → ReadsAll limit input bytes → HasFinished has_taken f bytes
-      → SeesRows false limit input (HasSeen has_taken f.taker)
+      → SeesRows false limit input
+      (HasSeen has_taken (record { context = f.context; taker = f.taker }))
   sees_plain f reads finished = record {
     bytes = bytes;
     reads = reads;
     records = records_of finished.stream;
     stream = stream_of bytes finished.stream finished.is;
-    is = (f.context, finished.rows);
+    is = finished.rows;
   }
 
   -- rows that were kept are seen with the globals behind each
-  pub sees_joined : (f : Finished Kept) (before now : T) → ReadsAll limit input bytes
-      → HasFinished HasKept f bytes → ((t : Tree) → has_taken before t [])
-      → TakesMore (has_taken before f.context) (has_taken now f.context)
+  pub sees_joined : (f : Finished (Kept T)) (seen : Seen T) → ReadsAll limit input bytes
+      → HasFinished (HasKept has_taken) f bytes
+      → TakesMore (has_taken f.taker.waiting f.context) (HasSeen has_taken seen)
       (map (with_entries (flat (meaning f.context f.globals)))
       (map (meaning f.context) f.taker.snapshots.items))
-      → SeesRows true limit input (HasSeen has_taken now)
-  sees_joined f before now reads finished none takes = record {
+      → SeesRows true limit input (HasSeen has_taken seen)
+  sees_joined f seen reads finished takes = record {
     bytes = bytes;
     reads = reads;
     records = records_of finished.stream;
     stream = stream_of bytes finished.stream finished.is;
-    is = (
-      f.context,
-      subst (λ (rows : List Rec). has_taken now f.context rows)
-          (λ j. map (with_entries (flat (finished.globals j))) (finished.rows.mean j))
-          (takes [] (none f.context)),
-    );
+    is =
+        subst (λ (rows : List Rec). has_taken seen.taker seen.context rows)
+        (λ j. map (with_entries (flat (finished.globals j))) (finished.rows.mean j))
+        (takes [] finished.rows.waits);
   }
 
 module _ (join : Bool) (limit : ℕ) (input : Change) where

@@ -2,7 +2,6 @@ pub mod Layout
 pub mod Plain
 pub mod Joining
 pub mod Seeing
-pub mod Folding
 pub mod Keeping
 pub mod Pieces
 pub mod Streaming

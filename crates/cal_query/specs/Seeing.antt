@@ -7,6 +7,7 @@ use Rattle.cal_read.specs.Stream.{IsStreamOf}
 use Rattle.cal_value.specs.declared.record.Rec.{Rec}
 use Rattle.cal_value.specs.declared.record.Records.{Records}
 use Rattle.cal_query.specs.Joining.{rows_seen}
+use Rattle.cal_query.specs.declared.seeing.Seen.{Seen}
 
 -- what an input had left is a stream, and this holds of the rows that a query sees in it
 pub record SeesRows (join : Bool) (limit : ℕ) (input : Change) (P : List Rec → Type 0) : Type 0
@@ -17,6 +18,6 @@ pub record SeesRows (join : Bool) (limit : ℕ) (input : Change) (P : List Rec �
     pub stream : IsStreamOf bytes records
     pub is : P (rows_seen join records)
 
--- a taker has taken these rows, in some context
-abbrev pub HasSeen : {T : Type 0} → (T → Tree → List Rec → Type 0) → T → List Rec → Type 0
-HasSeen has_taken taker rows = (t : Tree) × has_taken taker t rows
+-- a taker has taken these rows from the context beside it
+abbrev pub HasSeen : {T : Type 0} → (T → Tree → List Rec → Type 0) → Seen T → List Rec → Type 0
+HasSeen has_taken seen rows = has_taken seen.taker seen.context rows

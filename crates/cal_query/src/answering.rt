@@ -8,10 +8,11 @@ ghost use Rattle.cal_query.specs.Plain.{is_expand, is_nil, is_none, is_plain};
 ghost use Rattle.cal_query.specs.Seeing.{SeesRows};
 
 use crate::RowsEnd;
-use crate::folding::Folding;
+use crate::folding::{answer_over, new_fold};
 use crate::layout::lay_out;
-use crate::seeing::see_rows;
+use crate::seeing::{Seen, see_rows};
 use cal_base::Source;
+use cal_context::Context;
 use cal_ql::{Format, Query};
 use cal_rowset::Rowset;
 use cal_tabfmt::ExpandWriter;
@@ -72,8 +73,9 @@ fn rows_text<S: Source>(
     ensures refused { IfErr result (λ end.
         StopsRows end limit (change_of S.left S.faults input.old input.new)) }
 {
-    let writer = see_rows(alloc, input, limit, join, ExpandWriter::new(alloc))?;
-    Ok(writer.finish())
+    let writer = ExpandWriter::new(alloc);
+    let seen = see_rows(alloc, input, limit, join, Context::new(alloc), writer)?;
+    Ok(seen.taker.finish())
 }
 
 /// The answer of a query over the rows.
@@ -91,7 +93,7 @@ fn find_answer<S: Source>(
     ensures refused { IfErr result (λ end.
         StopsRows end limit (change_of S.left S.faults input.old input.new)) }
 {
-    let folding = Folding::new(alloc, query)?;
-    let folded = see_rows(alloc, input, limit, join, folding)?;
-    Ok(folded.finish(query)?)
+    let Seen { context, taker } = new_fold(alloc, query)?;
+    let seen = see_rows(alloc, input, limit, join, context, taker)?;
+    Ok(answer_over(seen.taker, &seen.context, query)?)
 }

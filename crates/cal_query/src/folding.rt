@@ -1,49 +1,42 @@
 ghost use Rattle.std.specs.Prelude.{◌≡◌, List, [], IfOk, IsTrue};
-ghost use Rattle.cal_context.specs.Tree.{Tree};
 ghost use Rattle.cal_engine.specs.Answers.{answer_of};
+ghost use Rattle.cal_engine.specs.Standing.{HasFolded};
 ghost use Rattle.cal_ql.specs.Valid.{IsValidQuery};
 ghost use Rattle.cal_value.specs.declared.record.Rec.{Rec};
-ghost use Rattle.cal_query.specs.Folding.{HasFolded};
 
-use cal_context::{Context, Snapshot, Taker, expand};
-use cal_engine::Fold;
+use crate::seeing::Seen;
+use cal_context::Context;
+use cal_engine::SnapshotFold;
 use cal_ql::Query;
 use cal_rowset::Rowset;
-use cal_value::{OutOfMemory, TryCopy};
+use cal_value::OutOfMemory;
 use std::alloc::Global;
 
-/// A query over the rows that are handed to it.
-#[derive(Drop)]
-pub(crate) struct Folding {
-    alloc: Global,
-    query: Query,
-    fold: Fold,
+/// A query's fold of no row, and the context in which its rows will come.
+pub(crate) fn new_fold(alloc: Global, query: &Query) -> Result<Seen<SnapshotFold>, OutOfMemory>
+    requires { IsValidQuery query.now }
+    ensures { IfOk result (λ none. HasFolded none.taker none.context []) }
+{
+    let mut context = Context::new(alloc);
+    let taker = SnapshotFold::new(alloc, query, &mut context)?;
+    Ok(Seen { context, taker })
 }
 
-impl Folding {
-    /// No row yet. The query is copied.
-    pub fn new(alloc: Global, query: &Query) -> Result<Folding, OutOfMemory>
-        requires { IsValidQuery query.now }
-        ensures { IfOk result (λ folding. (t : Tree) → HasFolded folding t []) }
-    {
-        Ok(Folding {
-            alloc,
-            query: query.copy(alloc)?,
-            fold: Fold::new(alloc, query)?,
-        })
+/// The answer of this query over the rows that a fold has taken. Who hands rows on promises nothing
+/// of the query that the fold was made for, so it is looked at here; another one is answered as
+/// want of memory is.
+pub(crate) fn answer_over(
+    fold: SnapshotFold,
+    context: &Context,
+    query: &Query,
+) -> Result<Rowset, OutOfMemory>
+    ensures { IfOk result (λ answer. (rows : List Rec)
+        → HasFolded fold context.now rows → answer ≡ answer_of query.now rows) }
+{
+    if !is_same(fold.query(), query) {
+        return Err(OutOfMemory);
     }
-
-    /// The answer of this query over the rows. Who hands rows on promises nothing of the query that
-    /// they were handed to, so it is looked at here; another one is answered as want of memory is.
-    pub fn finish(self, query: &Query) -> Result<Rowset, OutOfMemory>
-        ensures { IfOk result (λ answer. (t : Tree) (rows : List Rec)
-            → HasFolded self t rows → answer ≡ answer_of query.now rows) }
-    {
-        if !is_same(&self.query, query) {
-            return Err(OutOfMemory);
-        }
-        self.fold.finish()
-    }
+    fold.finish(context)
 }
 
 /// Whether two queries are one.
@@ -51,16 +44,4 @@ fn is_same(one: &Query, other: &Query) -> bool
     ensures { IsTrue result → one.now ≡ other.now }
 {
     one == other
-}
-
-impl Taker for Folding {
-    ghost use Rattle.cal_query.specs.Folding.{HasFolded};
-
-    ghost has_taken = { HasFolded };
-
-    ghost stays = { λ folding old new rows has grows. has };
-
-    fn take(&mut self, context: &Context, snapshot: &Snapshot) -> Result<(), OutOfMemory> {
-        self.fold.add(expand(self.alloc, context, snapshot)?)
-    }
 }

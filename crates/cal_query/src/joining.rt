@@ -3,38 +3,41 @@ ghost use Rattle.std.specs.List.{All};
 ghost use Rattle.cal_value.specs.Flat.{flat};
 ghost use Rattle.cal_context.specs.Snapshots.{IsIn, entry_of, meaning};
 ghost use Rattle.cal_context.specs.Taking.{TakesMore};
-ghost use Rattle.cal_context.specs.Tree.{path_at};
+ghost use Rattle.cal_context.specs.Tree.{Tree, path_at};
 ghost use Rattle.cal_query.specs.Joining.{with_entries};
+ghost use Rattle.cal_query.specs.Keeping.{HasKept};
 
 use cal_context::{Context, Immediate, NodeNumber, Snapshot, Taker};
 use cal_value::{OutOfMemory, TryCopy};
 use std::alloc::Global;
 
-/// Rows by number, kept until the globals are known.
+/// Rows by number, kept until the globals are known for whoever waits for them.
 #[derive(Drop)]
-pub(crate) struct Kept {
-    alloc: Global,
-    snapshots: Vec<Snapshot>,
+pub(crate) struct Kept<T: Drop> {
+    pub alloc: Global,
+    pub snapshots: Vec<Snapshot>,
+    pub waiting: T,
 }
 
-impl Kept {
-    /// No row. It takes no memory.
-    pub fn new(alloc: Global) -> Kept
-        ensures { result.snapshots.items ≡ [] }
+impl<T: Taker + Drop> Kept<T> {
+    /// No row, for a taker that has taken none. It takes no memory.
+    pub fn new(alloc: Global, waiting: T) -> Kept<T>
+        ensures { (t : Tree) → T.has_taken waiting t [] → HasKept T.has_taken result t [] }
     {
         Kept {
             alloc,
             snapshots: Vec::new(alloc),
+            waiting,
         }
     }
 }
 
-impl Taker for Kept {
+impl<T: Taker + Drop> Taker for Kept<T> {
     ghost use Rattle.cal_query.specs.Keeping.{HasKept, HasKept-stays};
 
-    ghost has_taken = { HasKept };
+    ghost has_taken = { HasKept T.has_taken };
 
-    ghost stays = { HasKept-stays };
+    ghost stays = { HasKept-stays T.has_taken T.stays };
 
     fn take(&mut self, context: &Context, snapshot: &Snapshot) -> Result<(), OutOfMemory> {
         let _ = context;
@@ -139,22 +142,43 @@ fn path_of(
 /// Hands each row that was kept to a taker, with the entries of these immediates at its end.
 pub(crate) fn hand_on<T: Taker>(
     context: &Context,
-    kept: Kept,
-    globals: &[Immediate],
+    kept: Vec<Snapshot>,
+    mut globals: Vec<Immediate>,
     taker: &mut T,
 ) -> Result<(), OutOfMemory>
-    requires kept { All (IsIn context.now) kept.snapshots.items }
-    requires globals { All (λ i. i.attribute.0 < length context.now.attributes) globals.now }
+    requires kept { All (IsIn context.now) kept.items }
+    requires globals { All (λ i. i.attribute.0 < length context.now.attributes) globals.items }
     ensures { OnOk result (TakesMore
         (T.has_taken taker.old context.now)
         (T.has_taken taker.new context.now)
-        (map (with_entries (map (entry_of context.now) globals.now))
-        (map (meaning context.now) kept.snapshots.items))) }
+        (map (with_entries (map (entry_of context.now) globals.items))
+        (map (meaning context.now) kept.items))) }
 {
-    let Kept { alloc, snapshots } = kept;
-    for mut snapshot in snapshots {
-        add_copies(alloc, &mut snapshot.imms, globals)?;
-        taker.take(context, &snapshot)?;
+    for snapshot in kept {
+        hand_on_one(context, snapshot, &mut globals, taker)?;
     }
+    Ok(())
+}
+
+/// Hands on one row. The immediates are lent to it, so that none is copied.
+fn hand_on_one<T: Taker>(
+    context: &Context,
+    mut snapshot: Snapshot,
+    globals: &mut Vec<Immediate>,
+    taker: &mut T,
+) -> Result<(), OutOfMemory>
+    requires row { IsIn context.now snapshot }
+    requires globals { All (λ i. i.attribute.0 < length context.now.attributes) globals.old.items }
+    ensures globals { OnOk result (globals.new.items ≡ globals.old.items) }
+    ensures taken { OnOk result (TakesMore
+        (T.has_taken taker.old context.now)
+        (T.has_taken taker.new context.now)
+        (with_entries (map (entry_of context.now) globals.old.items)
+        (meaning context.now snapshot) ∷ [])) }
+{
+    let own = snapshot.imms.len();
+    snapshot.imms.append(globals)?;
+    taker.take(context, &snapshot)?;
+    *globals = snapshot.imms.split_off(own)?;
     Ok(())
 }

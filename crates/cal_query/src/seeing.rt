@@ -3,7 +3,6 @@ ghost use Rattle.std.specs.List.{All};
 ghost use Rattle.cal_base.specs.Change.{change_of};
 ghost use Rattle.cal_context.specs.Snapshots.{IsIn, meaning};
 ghost use Rattle.cal_context.specs.Taking.{TakesMore};
-ghost use Rattle.cal_context.specs.Tree.{Tree};
 ghost use Rattle.cal_value.specs.Flat.{flat};
 ghost use Rattle.cal_query.specs.Joining.{with_entries};
 ghost use Rattle.cal_query.specs.Layout.{StopsRows};
@@ -17,26 +16,35 @@ use cal_context::{Context, Taker};
 use cal_value::OutOfMemory;
 use std::alloc::Global;
 
-/// Hands the rows that a query sees in what an input has left to a taker that has taken none: each
-/// row as it comes, or with the globals joined to it, which are known at the end.
+/// Whoever has taken the rows that a query sees, and the context that they came in.
+#[derive(Drop)]
+pub(crate) struct Seen<T: Drop> {
+    pub context: Context,
+    pub taker: T,
+}
+
+/// Hands the rows that a query sees in what an input has left to a taker that has taken none in
+/// this context: each row as it comes, or with the globals joined to it, which are known at the
+/// end.
 pub(crate) fn see_rows<S: Source, T: Taker + Drop>(
     alloc: Global,
     input: &mut S,
     limit: u64,
     join: bool,
+    context: Context,
     taker: T,
-) -> Result<T, RowsEnd>
-    requires { (t : Tree) → T.has_taken taker t [] }
-    ensures taken { IfOk result (λ taker.
+) -> Result<Seen<T>, RowsEnd>
+    requires { T.has_taken taker context [] }
+    ensures taken { IfOk result (λ seen.
         SeesRows join limit (change_of S.left S.faults input.old input.new)
-        (HasSeen T.has_taken taker)) }
+        (HasSeen T.has_taken seen)) }
     ensures refused { IfErr result (λ end.
         StopsRows end limit (change_of S.left S.faults input.old input.new)) }
 {
     if join {
-        see_joined(alloc, input, limit, taker)
+        see_joined(alloc, input, limit, context, taker)
     } else {
-        see_plain(alloc, input, limit, taker)
+        see_plain(alloc, input, limit, context, taker)
     }
 }
 
@@ -45,17 +53,21 @@ fn see_plain<S: Source, T: Taker + Drop>(
     alloc: Global,
     input: &mut S,
     limit: u64,
+    context: Context,
     taker: T,
-) -> Result<T, RowsEnd>
-    requires { (t : Tree) → T.has_taken taker t [] }
-    ensures taken { IfOk result (λ taker.
+) -> Result<Seen<T>, RowsEnd>
+    requires { T.has_taken taker context [] }
+    ensures taken { IfOk result (λ seen.
         SeesRows false limit (change_of S.left S.faults input.old input.new)
-        (HasSeen T.has_taken taker)) }
+        (HasSeen T.has_taken seen)) }
     ensures refused { IfErr result (λ end.
         StopsRows end limit (change_of S.left S.faults input.old input.new)) }
 {
-    let read = read_stream(alloc, input, limit, Context::new(alloc), taker)?;
-    Ok(read.taker)
+    let read = read_stream(alloc, input, limit, context, taker)?;
+    Ok(Seen {
+        context: read.context,
+        taker: read.taker,
+    })
 }
 
 /// The rows with the globals joined to each.
@@ -63,30 +75,27 @@ fn see_joined<S: Source, T: Taker + Drop>(
     alloc: Global,
     input: &mut S,
     limit: u64,
+    context: Context,
     taker: T,
-) -> Result<T, RowsEnd>
-    requires { (t : Tree) → T.has_taken taker t [] }
-    ensures taken { IfOk result (λ taker.
+) -> Result<Seen<T>, RowsEnd>
+    requires { T.has_taken taker context [] }
+    ensures taken { IfOk result (λ seen.
         SeesRows true limit (change_of S.left S.faults input.old input.new)
-        (HasSeen T.has_taken taker)) }
+        (HasSeen T.has_taken seen)) }
     ensures refused { IfErr result (λ end.
         StopsRows end limit (change_of S.left S.faults input.old input.new)) }
 {
-    let read = read_stream(alloc, input, limit, Context::new(alloc), Kept::new(alloc))?;
-    Ok(join(alloc, read, taker)?)
+    let read = read_stream(alloc, input, limit, context, Kept::new(alloc, taker))?;
+    Ok(join(alloc, read)?)
 }
 
 /// Hands on the rows that were kept, with the globals joined to each.
-fn join<T: Taker + Drop>(
-    alloc: Global,
-    read: Finished<Kept>,
-    mut taker: T,
-) -> Result<T, OutOfMemory>
+fn join<T: Taker + Drop>(alloc: Global, read: Finished<Kept<T>>) -> Result<Seen<T>, OutOfMemory>
     requires kept { All (IsIn read.context) read.taker.snapshots.items }
     requires globals { IsIn read.context read.globals }
-    ensures { IfOk result (λ now. TakesMore
-        (T.has_taken taker read.context)
-        (T.has_taken now read.context)
+    ensures { IfOk result (λ seen. TakesMore
+        (T.has_taken read.taker.waiting read.context)
+        (T.has_taken seen.taker seen.context)
         (map (with_entries (flat (meaning read.context read.globals)))
         (map (meaning read.context) read.taker.snapshots.items))) }
 {
@@ -95,7 +104,12 @@ fn join<T: Taker + Drop>(
         taker: kept,
         globals,
     } = read;
+    let Kept {
+        alloc: _,
+        snapshots,
+        waiting: mut taker,
+    } = kept;
     let joined = all_immediates(alloc, &context, &globals)?;
-    hand_on(&context, kept, &joined, &mut taker)?;
-    Ok(taker)
+    hand_on(&context, snapshots, joined, &mut taker)?;
+    Ok(Seen { context, taker })
 }

@@ -1,4 +1,5 @@
-ghost use Rattle.std.specs.Prelude.{◌≡◌, ◌==◌, ℕ, Some, None, OnOk, if◌then◌else◌};
+ghost use Rattle.std.specs.Prelude.{◌≡◌, ◌==◌, ◌+◌, ◌≤◌, ℕ, Some, None, OnOk, if◌then◌else◌};
+ghost use Rattle.std.specs.Prelude.{length, slice_index_or};
 ghost use Rattle.cal_read.specs.Held.{held_at};
 
 use cal_context::{AttributeNumber, NodeNumber};
@@ -28,6 +29,9 @@ pub(crate) struct Held {
 /// The nodes by their ids.
 #[derive(Drop)]
 pub(crate) struct Nodes {
+    // those whose ids come in turn, but for single gaps
+    row: Vec<Option<Held>>,
+    // the others
     map: IndexMap<u64, Held>,
 }
 
@@ -37,14 +41,19 @@ impl Nodes {
         ensures { (id : ℕ) → held_at result id ≡ None }
     {
         Nodes {
+            row: Vec::new(alloc),
             map: IndexMap::new(alloc),
         }
     }
 
+    /// What is known of the node of an id: without a look-up where the ids come in turn.
     pub(crate) fn get(&self, id: u64) -> Option<Held>
         ensures { result ≡ held_at self.now id }
     {
-        self.map.get(&id).copied()
+        match in_row(self.row.as_slice(), id) {
+            Some(held) => Some(held),
+            None => self.map.get(&id).copied(),
+        }
     }
 
     /// Notes a node, and leaves the others.
@@ -52,7 +61,38 @@ impl Nodes {
         ensures { OnOk result ((other : ℕ) → held_at self.new other
             ≡ (if id == other then Some held else held_at self.old other)) }
     {
-        self.map.insert(id, held)?;
-        Ok(())
+        let place = id as usize;
+        if place > self.row.len() + 1 {
+            self.map.insert(id, held)?;
+            return Ok(());
+        }
+        put(&mut self.row, place, held)
     }
+}
+
+/// What a row has at the place of an id.
+fn in_row(row: &[Option<Held>], id: u64) -> Option<Held>
+    ensures { result ≡ slice_index_or row.now id None }
+{
+    match row.get(id as usize) {
+        Some(held) => *held,
+        None => None,
+    }
+}
+
+/// Puts a node into a row that is so long, or one shorter, or longer.
+fn put(row: &mut Vec<Option<Held>>, place: usize, held: Held) -> Result<(), OutOfMemory>
+    requires { place ≤ length row.old.items + 1 }
+    ensures { OnOk result ((other : ℕ) → slice_index_or row.new.items other None
+        ≡ (if place == other then Some held else slice_index_or row.old.items other None)) }
+{
+    if place < row.len() {
+        row[place] = Some(held);
+        return Ok(());
+    }
+    if place > row.len() {
+        row.push(None)?;
+    }
+    row.push(Some(held))?;
+    Ok(())
 }

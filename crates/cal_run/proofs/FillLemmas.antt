@@ -1,28 +1,30 @@
 -- What a board of nodes puts into a snapshot means what the board that it stands for shows.
-use Rattle.std.proofs.Common.{◌≡◌, ℕ, suc, zero, ◌+◌, ◌-◌, ◌<◌, ◌≤◌, List, [], ◌∷◌, ◌++◌, length, get_or, map, ap, subst, sym, refl, ◌∙◌, append-nil, arith}
+use Rattle.std.proofs.Common.{◌≡◌, ℕ, suc, ◌+◌, ◌-◌, ◌<◌, List, [], ◌∷◌, ◌++◌, length, get_or, map, take, ap, subst, sym, refl, ◌∙◌, append-nil, arith}
 use Rattle.std.specs.Prelude.{Option, Some, None, slice_get, flat_map}
 use Rattle.std.specs.List.{All, AllZip}
 use Rattle.std.specs.Option.{option_map, option_to_list}
-use Rattle.std.proofs.lemmas.List.{map-append, append_assoc}
+use Rattle.std.proofs.lemmas.List.{map-append, append_assoc, take_more}
 use Rattle.std.proofs.lemmas.List.Elements.{All-append, All-cons, All-nil}
 use Rattle.std.proofs.lemmas.Option.{slice_get-get_or}
-use Rattle.cal_board.proofs.StandingLemmas.{parent_of, held_long}
+use Rattle.cal_board.proofs.StandingLemmas.{parent_of}
 use Rattle.cal_board.specs.Blackboard.{Blackboard}
 use Rattle.cal_board.specs.Contexts.{NodeStands, opened_entry}
-use Rattle.cal_board.specs.PathBoards.{AreKnown, entries_of, entry_in, last_entries, last_opened}
+use Rattle.cal_board.specs.PathBoards.{AreKnown, entries_of, entry_in, last_entries}
 use Rattle.cal_board.specs.Slots.{AreOrdered, last_value}
-use Rattle.cal_board.specs.Standing.{IsParent, SlotStands, Stands, immediate_of, last_immediates, last_nodes}
+use Rattle.cal_board.specs.Standing.{IsParent, SlotStands, immediate_of, last_immediates, last_nodes}
 use Rattle.cal_board.specs.declared.opened.Opened.{Opened}
 use Rattle.cal_board.specs.declared.opened.Slot.{Slot}
 use Rattle.cal_context.proofs.ListLemmas.{get_or-IsFront, length-IsFront, map-alike}
 use Rattle.cal_context.specs.Lists.{IsFront}
 use Rattle.cal_context.specs.Snapshots.{IsBelowRoot, entry_of}
-use Rattle.cal_context.specs.Tree.{Tree, no_attribute, path_at}
+use Rattle.cal_context.specs.Tree.{Tree, attribute_at, no_attribute, path_at}
+use Rattle.cal_context.specs.declared.numbers.AttributeNumber.{AttributeNumber}
 use Rattle.cal_context.specs.declared.numbers.NodeNumber.{NodeNumber}
 use Rattle.cal_context.specs.declared.snapshot.Immediate.{Immediate}
 use Rattle.cal_run.specs.Adding.{AddsEntries, AreWithin}
 use Rattle.cal_run.specs.Held.{Holds}
-use Rattle.cal_run.specs.Numbers.{AreNumbered}
+use Rattle.cal_run.specs.Numbers.{IsNumber}
+use Rattle.cal_run.specs.Snapshots.{numbered}
 use Rattle.cal_run.proofs.HeldLemmas.{slice_get-All}
 use Rattle.cal_script.specs.declared.script.Script.{Script}
 use Rattle.cal_value.specs.declared.attribute.Attribute.{Attribute}
@@ -55,6 +57,19 @@ module _ (t : Tree) where
       → i.attribute.0 < length t.attributes → entry_of t i ≡ e → AddsEntries t xs ys (e ∷ [])
   adds-one xs ys i e is within means =
       adds-more xs (i ∷ []) ys (e ∷ []) is (All-cons (λ (i : Immediate). i.attribute.0 < length t.attributes) i [] within (All-nil (λ (i : Immediate). i.attribute.0 < length t.attributes))) (λ j. means j ∷ [])
+
+  -- a number of a service, under its attribute
+  pub adds-number : (xs ys : List Immediate) (n : AttributeNumber) (a : Attribute) (v w : ℕ) → IsNumber t n a → v ≡ w
+      → AddsEntries t xs ys (numbered (attribute_at t n) v ∷ []) → AddsEntries t xs ys (numbered a w ∷ [])
+  adds-number xs ys n a v w is same = subst (λ (e : Entry). AddsEntries t xs ys (e ∷ [])) (λ j. numbered (is.is j) (same j))
+
+  -- what the next item of a list gives
+  pub adds-next : {A : Type 0} (f : A → Entry) (items : List A) (i : ℕ) (d : A) (xs ys zs : List Immediate) → i < length items
+      → AddsEntries t xs ys (map f (take i items)) → AddsEntries t ys zs (f (get_or items i d) ∷ [])
+      → AddsEntries t xs zs (map f (take (i + 1) items))
+  adds-next f items i d xs ys zs below so_far next =
+      subst (AddsEntries t xs zs) (sym (ap (map f) (take_more items i d below) ∙ map-append f (take i items) (get_or items i d ∷ [])))
+      (adds-both xs ys zs _ _ so_far next)
 
 -- ---- what boards show
 
@@ -142,3 +157,28 @@ module _ (t : Tree) (script : Script) (front : IsFront script.attributes t.attri
   values-mean = (slots-values t script.attributes front held.as_values
       (subst (λ ss. All (λ (s : Slot Variant). AreKnown script.attributes s.opened) ss) (sym is.stands.as_values) is.known.as_values)).1
       ∙ ap (last_entries script.attributes) is.stands.as_values
+
+-- what two boards, one after another, put into a snapshot
+module _ (t : Tree) (script : Script) (front : IsFront script.attributes t.attributes) (mine process : Blackboard NodeNumber)
+    (b p : Blackboard Variant) (is : Holds t script mine b) (other : Holds t script process p) where
+  module _ (ordered : AreOrdered mine.references) (also : AreOrdered process.references) (old mid new : List NodeNumber)
+      (none : old ≡ []) (first : mid ≡ old ++ last_nodes mine) (second : new ≡ mid ++ last_nodes process) where
+    both : new ≡ last_nodes mine ++ last_nodes process
+    both = second ∙ ap (λ ns. ns ++ last_nodes process) (first ∙ ap (λ ns. ns ++ last_nodes mine) none)
+
+    pub both-below : All (IsBelowRoot t) new
+    both-below = subst (All (IsBelowRoot t)) (sym both)
+        (All-append (IsBelowRoot t) (last_nodes mine) (last_nodes process) (nodes-below t script front mine b is ordered)
+        (nodes-below t script front process p other also))
+
+    pub both-paths : map (path_at t) new ≡ entries_of script.attributes b.references ++ entries_of script.attributes p.references
+    both-paths = ap (map (path_at t)) both ∙ map-append (path_at t) (last_nodes mine) (last_nodes process)
+        ∙ (λ j. nodes-paths t script front mine b is ordered j ++ nodes-paths t script front process p other also j)
+
+  pub both-values : (old mid new : List Immediate) → mid ≡ old ++ last_immediates mine → new ≡ mid ++ last_immediates process
+      → AddsEntries t old new (last_entries script.attributes b.as_values ++ last_entries script.attributes p.as_values)
+  both-values old mid new first second =
+      adds-both t old mid new _ _
+      (adds-more t old (last_immediates mine) mid _ first (values-within t script front mine b is) (values-mean t script front mine b is))
+      (adds-more t mid (last_immediates process) new _ second (values-within t script front process p other)
+      (values-mean t script front process p other))

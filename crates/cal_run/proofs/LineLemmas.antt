@@ -1,22 +1,22 @@
 -- A line is run as its six steps say.
-use Rattle.std.proofs.Common.{◌≡◌, ℕ, ◌+◌, ◌-◌, ◌<◌, ◌≤◌, List, [], ◌∷◌, ◌++◌, Bool, true, false, if◌then◌else◌, ◌&&◌, length, ap, subst, sym, refl, ◌∙◌, append-nil, arith}
-use Rattle.std.specs.Prelude.{Option, Some, None, not}
+use Rattle.std.proofs.Common.{◌≡◌, ℕ, ◌-◌, List, [], ◌∷◌, Bool, true, false, if◌then◌else◌, ◌&&◌, ap, subst, sym, refl, ◌∙◌, append-nil, arith}
+use Rattle.std.specs.Prelude.{Some, not}
 use Rattle.cal_board.proofs.StandingLemmas.{reply_to-Stands}
-use Rattle.std.specs.List.{All}
 use Rattle.std.proofs.lemmas.List.Elements.{All-nil}
-use Rattle.cal_board.specs.Blackboard.{Blackboard, nothing_open, reply_to}
+use Rattle.cal_board.specs.Blackboard.{Blackboard, nothing_open}
 use Rattle.cal_board.specs.PathBoards.{AreKnown}
 use Rattle.cal_board.specs.declared.opened.Slot.{Slot}
 use Rattle.cal_board.specs.Contexts.{NodeStands}
 use Rattle.cal_context.specs.Taking.{TakesMore}
 use Rattle.cal_context.specs.Tree.{Tree, Grows}
 use Rattle.cal_context.specs.declared.numbers.NodeNumber.{NodeNumber}
-use Rattle.cal_run.proofs.HeldLemmas.{Holds-Grows}
-use Rattle.cal_run.specs.Held.{Holds, IsProcess}
-use Rattle.cal_run.specs.History.{process_board}
+use Rattle.cal_run.proofs.HeldLemmas.{Holds-Grows, placed-HasPlaces}
+use Rattle.cal_run.specs.Adding.{MayHavePlaces}
+use Rattle.cal_run.specs.Held.{Holds, HoldsThen, IsProcess}
+use Rattle.cal_run.specs.History.{board_placed, process_board}
 use Rattle.cal_run.specs.Lines.{attr_ref, is_process_line, operation_of, takes}
-use Rattle.cal_run.specs.Snapshots.{snapshot_of}
-use Rattle.cal_run.specs.Steps.{ThreadState, acted_on, as_reply, at_start, changed, found_reply, is_accepted, previous_after, process_seen, reading_of, reply_to_line, seen_before, sight_after, state_after, taken_in}
+use Rattle.cal_run.specs.Snapshots.{Sight, snapshot_of}
+use Rattle.cal_run.specs.Steps.{ThreadState, acted_on, as_reply, at_start, changed, found_reply, is_accepted, process_seen, reading_of, readings_changed, reply_to_line, seen_before, sight_after, taken_in}
 use Rattle.cal_run.specs.Threads.{IsThread, RunsLine, ShowsThread}
 use Rattle.cal_run.specs.declared.process.Process.{Process}
 use Rattle.cal_run.specs.declared.thread.Thread.{Thread}
@@ -26,6 +26,7 @@ use Rattle.cal_script.specs.declared.script.Channel.{Channel}
 use Rattle.cal_script.specs.declared.script.Line as lines
 use Rattle.cal_script.specs.declared.script.Line.TheVariants as line
 use Rattle.cal_script.specs.declared.script.Script.{Script}
+use Rattle.cal_valid.specs.Valid.{IsPlaced}
 use Rattle.cal_value.specs.declared.record.Rec.{Rec}
 use Rattle.cal_value.specs.declared.variant.Variant.{Variant}
 use Rattle.cal_words.specs.declared.op.OpCode as codes
@@ -43,6 +44,12 @@ reply_to_line-Holds t script held b is (line.Set a v) =
 reply_to_line-Holds t script held b is (line.Flush c) = refl
 reply_to_line-Holds t script held b is line.Snapshot = refl
 reply_to_line-Holds t script held b is (line.Tick n) = refl
+
+-- how many operations a line has seen before its own
+pub seen-is : (script : Script) (history : List Placed) (l : lines.Line) (note : LineNote) (shared : Bool) (seen : ℕ)
+    → shared ≡ is_process_line script l → seen ≡ (if shared then note.seen - 1 else note.seen)
+    → seen ≡ seen_before script history l note
+seen-is script history l note shared seen e is = is ∙ ap (λ p. if p then note.seen - 1 else note.seen) e
 
 and-false : (b : Bool) → (b && false) ≡ false
 and-false true = refl
@@ -63,6 +70,12 @@ module _ (t : Tree) (script : Script) (history : List Placed) (thread : Thread) 
   pub accepted-is : is_accepted (reply_to_line script (if is_process_line script l then thread.process.board else thread.board) l)
       ≡ is_accepted (found_reply script history l note state)
   accepted-is = ap is_accepted (reply_to_line-Holds t script (if is_process_line script l then thread.process.board else thread.board) (acted_on script history l note state) (acts (is_process_line script l)) l)
+
+  pub accepted-so : (shared accepted : Bool) → shared ≡ is_process_line script l
+      → accepted ≡ is_accepted (reply_to_line script (if shared then thread.process.board else thread.board) l)
+      → is_accepted (found_reply script history l note state) ≡ accepted
+  accepted-so shared accepted e answer =
+      sym (answer ∙ ap (λ p. is_accepted (reply_to_line script (if p then thread.process.board else thread.board) l)) e ∙ accepted-is)
 
   -- what a snapshot sees
   pub shows-sight : ShowsThread t script thread note (sight_after script history l note state previous)
@@ -146,6 +159,88 @@ seen-thread grows script history thread process state previous is sees = record 
   readings = is.readings;
   previous = is.previous;
 }
+
+-- and after the change of a line of its own
+pub changed-thread : {old new : Tree} → Grows old new → (script : Script) (history : List Placed) (was now : Thread)
+    (l : lines.Line) (note : LineNote) (state : ThreadState) (previous : ℕ) → IsThread old script history was state previous
+    → HoldsThen old new script was.board now.board (λ b. board_placed script b (operation_of l))
+    → now.readings ≡ readings_changed script was.readings note (operation_of l) → now.process ≡ was.process
+    → now.previous ≡ was.previous → IsThread new script history now (changed script history l note state) previous
+changed-thread {old} {new} grows script history was now l note state previous is board readings process before = record {
+  mine = board state.board is.mine;
+  process = subst (IsProcess new script history) (sym process) (record {
+    holds = Holds-Grows grows script was.process.board (process_board script history was.process.count) is.process.holds;
+    within = is.process.within;
+  });
+  readings = readings ∙ ap (λ rs. readings_changed script rs note (operation_of l)) is.readings;
+  previous = before ∙ is.previous;
+}
+
+-- the places of a line are those of its operation
+pub line-places : (script : Script) (l : lines.Line) → IsPlaced script.attributes script.channels script.values l
+    → MayHavePlaces script (operation_of l)
+line-places script (line.Begin a v) is = placed-HasPlaces script (line.Begin a v) _ is refl
+line-places script (line.End a) is = placed-HasPlaces script (line.End a) _ is refl
+line-places script (line.Set a v) is = placed-HasPlaces script (line.Set a v) _ is refl
+line-places script line.Snapshot is = tt
+line-places script (line.Flush c) is = tt
+line-places script (line.Tick n) is = tt
+
+-- ---- a whole line
+
+module _ {was is : Tree} (grows : Grows was is) (script : Script) (history : List Placed) (thread : Thread) (process : Process)
+    (channel : Channel) (l : lines.Line) (note : LineNote) (shared accepted : Bool) (kind : shared ≡ is_process_line script l)
+    (sees : IsProcess is script history process) (seen : process.count ≡ seen_before script history l note)
+    (answer : accepted ≡ is_accepted (reply_to_line script (if shared then process.board else thread.board) l))
+    (state : ThreadState) (previous : ℕ) (kept : IsThread was script history thread state previous) where
+  -- the thread with the process's board as the line has seen it
+  abbrev met : Thread
+  met = record { board = thread.board; readings = thread.readings; process = process; previous = thread.previous }
+
+  met-is : IsThread is script history met state previous
+  met-is = seen-thread grows script history thread process state previous kept sees
+
+  found : is_accepted (found_reply script history l note state) ≡ accepted
+  found = accepted-so is script history met l note seen state previous met-is shared accepted kind answer
+
+  pub line-refused : (had has : List Rec → Type 0) → accepted ≡ false → ((rs : List Rec) → had rs → has rs)
+      → RunsLine is script history met channel l note had has state previous
+  line-refused had has refused stays =
+      refused-runs is script history met l note seen state previous met-is channel had has (found ∙ refused) stays
+
+  module _ (now : Thread) (accepts : accepted ≡ true) (board : now.board ≡ thread.board) (readings : now.readings ≡ thread.readings)
+      (same : now.process ≡ process)
+      (before : now.previous ≡ (if channel.timer && takes script channel l then reading_of note else thread.previous))
+      (had has : List Rec → Type 0)
+      (taken : (s : Sight) → ShowsThread is script met note s
+      → TakesMore had has (if takes script channel l then snapshot_of script s channel (operation_of l) ∷ [] else [])) where
+    abbrev next : ℕ
+    next = if channel.timer && takes script channel l then reading_of note else previous
+
+    now-is : IsThread is script history now state next
+    now-is = taken-thread is script history met now state previous next met-is board readings same
+        (before ∙ ap (λ p. if channel.timer && takes script channel l then reading_of note else p) kept.previous)
+
+    handed : TakesMore had has (if takes script channel l
+        then snapshot_of script (sight_after script history l note state previous) channel (operation_of l) ∷ [] else [])
+    handed = taken (sight_after script history l note state previous)
+        (shows-sight is script history met l note seen state previous met-is)
+
+    pub line-shared : (earlier : List Rec → Type 0) → ((rs : List Rec) → earlier rs → had rs) → shared ≡ true
+        → RunsLine is script history now channel l note earlier has state previous
+    line-shared earlier stays so =
+        shared-runs is script history l note state previous channel earlier has (found ∙ accepts)
+        (λ rs h. handed rs (stays rs h)) now (sym kind ∙ so) now-is
+
+    pub line-own : {after : Tree} → Grows is after → (changed : Thread) (earlier later : List Rec → Type 0)
+        → ((rs : List Rec) → earlier rs → had rs) → ((rs : List Rec) → has rs → later rs) → shared ≡ false
+        → HoldsThen is after script now.board changed.board (λ b. board_placed script b (operation_of l))
+        → changed.readings ≡ readings_changed script now.readings note (operation_of l) → changed.process ≡ now.process
+        → changed.previous ≡ now.previous → RunsLine after script history changed channel l note earlier later state previous
+    line-own {after} more changed earlier later stays onward own holds reads sees_so was_before =
+        own-runs after script history l note state previous channel earlier later (found ∙ accepts)
+        (λ rs h. onward _ (handed rs (stays rs h))) changed (sym kind ∙ own)
+        (changed-thread more script history now changed l note state next now-is holds reads sees_so was_before)
 
 -- ---- before the first line
 

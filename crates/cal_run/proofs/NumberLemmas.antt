@@ -1,8 +1,9 @@
 -- Numbers stay what they are while the context grows, and one more is added to a list.
-use Rattle.std.proofs.Common.{◌≡◌, ℕ, ◌+◌, ◌<◌, ◌≤◌, List, [], ◌∷◌, ◌++◌, length, get_or, map, take, sym, ap, subst, ◌∙◌, inl, inr, arith}
+use Rattle.std.proofs.Common.{◌≡◌, ℕ, suc, zero, ◌+◌, ◌<◌, ◌≤◌, List, [], ◌∷◌, ◌++◌, length, get_or, map, take, sym, ap, subst, ◌∙◌, inl, inr, arith}
 use Rattle.std.specs.List.{AllZip}
 use Rattle.std.proofs.lemmas.List.{length-take, map-append, take_more}
 use Rattle.std.proofs.lemmas.List.Elements.{All-push}
+use Rattle.std.proofs.lemmas.Slice.Zip.{AllZip-long}
 use Rattle.std.proofs.lemmas.Option.{get_or_from_slice_get, slice_get_within}
 use Rattle.cal_board.proofs.StandingLemmas.{AllZip-append, AllZip-weaken}
 use Rattle.cal_context.proofs.ListLemmas.{IsFront-trans, map-alike}
@@ -12,6 +13,7 @@ use Rattle.cal_context.specs.Lists.{Adds}
 use Rattle.cal_context.specs.Tree.{Tree, Grows, no_attribute, no_value, value_at}
 use Rattle.cal_context.specs.declared.numbers.AttributeNumber.{AttributeNumber}
 use Rattle.cal_context.specs.declared.numbers.ValueNumber.{ValueNumber}
+use Rattle.cal_run.specs.Lines.{attribute_of}
 use Rattle.cal_run.specs.Numbers.{AreNumbered, EventsStand, IsNumber, ValuesStand}
 use Rattle.cal_run.specs.declared.numbers.EventNumbers.{EventNumbers}
 use Rattle.cal_run.specs.declared.numbers.Numbers.{Numbers}
@@ -94,3 +96,19 @@ placed_more old new n a xs i is added number at below = by added.attributes.adds
         let e = ap length same.1 in
         absurd (omega (arith, within, e, long, number))
     by (inr more) = more.1 ∙ (λ j. is j ++ at j ∷ []) ∙ sym (take_more xs i a below)
+
+-- what holds of two lists place by place holds at a place
+module _ {A B : Type 0} where
+  pub all_zip-at : (R : A → B → Type 0) (xs : List A) (ys : List B) (i : ℕ) (d : A) (e : B) → AllZip R xs ys
+      → i < length xs → R (get_or xs i d) (get_or ys i e)
+  all_zip-at R [] ys i d e z l = absurd (omega (arith, l))
+  all_zip-at R (x ∷ xs) [] i d e z l = absurd z
+  all_zip-at R (x ∷ xs) (y ∷ ys) zero d e z l = z.0
+  all_zip-at R (x ∷ xs) (y ∷ ys) (suc i) d e z l = all_zip-at R xs ys i d e z.1 (omega (arith, l))
+
+-- the attributes of an attribute's events
+pub events-at : (t : Tree) (script : Script) (ns : Numbers) (i : ℕ) (e : EventNumbers) → AreNumbered t script ns
+    → i < length script.attributes → EventsStand t (get_or ns.events.items i e) (attribute_of script i)
+events-at t script ns i e is below =
+    let long = AllZip-long (EventsStand t) ns.events.items script.attributes is.events in
+    all_zip-at (EventsStand t) ns.events.items script.attributes i e no_attribute is.events (omega (arith, below, long))

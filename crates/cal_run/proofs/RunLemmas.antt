@@ -1,9 +1,10 @@
 -- Lines and threads are run one after another, each with its note.
 use Rattle.std.proofs.Common.{◌≡◌, ℕ, suc, zero, ◌+◌, ◌-◌, ◌<◌, ◌≤◌, List, [], ◌∷◌, ◌++◌, Bool, true, false, if◌then◌else◌, length, get_or, take, drop, ap, subst, sym, refl, ◌∙◌, append_assoc, append-nil, add-one, arith}
 use Rattle.std.specs.Prelude.{flat_map, zip}
-use Rattle.std.specs.List.{AllZip}
+use Rattle.std.specs.List.{All}
 use Rattle.std.proofs.lemmas.Grind.{flat_map-append}
-use Rattle.std.proofs.lemmas.List.{take_more}
+use Rattle.std.proofs.lemmas.List.{drop_all, take_all, take_more}
+use Rattle.std.proofs.lemmas.Slice.Zip.{get_or-zip, length-zip}
 use Rattle.cal_context.proofs.CallerLemmas.{TakesMore-trans}
 use Rattle.cal_context.specs.Taking.{TakesMore}
 use Rattle.cal_run.specs.Lines.{is_process_line}
@@ -14,24 +15,13 @@ use Rattle.cal_run.specs.Threads.{CanRun}
 use Rattle.cal_run.specs.declared.thread.Thread.{Thread}
 use Rattle.cal_script.specs.declared.journal.LineNote.{LineNote}
 use Rattle.cal_script.specs.declared.journal.Placed.{Placed}
+use Rattle.cal_script.specs.declared.journal.ThreadNote.{ThreadNote}
 use Rattle.cal_script.specs.declared.script.Channel.{Channel}
 use Rattle.cal_script.specs.declared.script.Line.{Line}
 use Rattle.cal_script.specs.declared.script.Script.{Script}
 use Rattle.cal_value.specs.declared.record.Rec.{Rec}
 
 module _ {A B : Type 0} where
-  pub zip_long : (xs : List A) (ys : List B) → length ys ≡ length xs → length (zip xs ys) ≡ length xs
-  zip_long [] ys e = refl
-  zip_long (x ∷ xs) [] e = absurd (omega (arith, e))
-  zip_long (x ∷ xs) (y ∷ ys) e = let rest = zip_long xs ys (omega (arith, e)) in omega (arith, rest)
-
-  pub zip_at : (xs : List A) (ys : List B) (i : ℕ) (d : A) (e : B) → i < length xs → length ys ≡ length xs
-      → get_or (zip xs ys) i (d, e) ≡ (get_or xs i d, get_or ys i e)
-  zip_at [] ys i d e l long = absurd (omega (arith, l))
-  zip_at (x ∷ xs) [] i d e l long = absurd (omega (arith, long))
-  zip_at (x ∷ xs) (y ∷ ys) zero d e l long = refl
-  zip_at (x ∷ xs) (y ∷ ys) (suc i) d e l long = zip_at xs ys i d e (omega (arith, l)) (omega (arith, long))
-
   -- the rest of two lists, with the items of a place first
   pub zip_drop : (xs : List A) (ys : List B) (i : ℕ) (d : A) (e : B) → i < length xs → length ys ≡ length xs
       → drop i (zip xs ys) ≡ (get_or xs i d, get_or ys i e) ∷ drop (i + 1) (zip xs ys)
@@ -44,12 +34,10 @@ module _ {A B : Type 0} where
       by (x ∷ xs) (y ∷ ys) zero l long = refl
       by (x ∷ xs) (y ∷ ys) (suc i) l long = by xs ys i (omega (arith, l)) (omega (arith, long))
 
-  pub all_zip-at : (R : A → B → Type 0) (xs : List A) (ys : List B) (i : ℕ) (d : A) (e : B) → AllZip R xs ys
-      → i < length xs → R (get_or xs i d) (get_or ys i e)
-  all_zip-at R [] ys i d e z l = absurd (omega (arith, l))
-  all_zip-at R (x ∷ xs) [] i d e z l = absurd z
-  all_zip-at R (x ∷ xs) (y ∷ ys) zero d e z l = z.0
-  all_zip-at R (x ∷ xs) (y ∷ ys) (suc i) d e z l = all_zip-at R xs ys i d e z.1 (omega (arith, l))
+  -- the same, with the items by name
+  pub zip_next : (xs : List A) (ys : List B) (i : ℕ) (x : A) (y : B) → x ≡ get_or xs i x → y ≡ get_or ys i y → i < length xs
+      → length ys ≡ length xs → drop i (zip xs ys) ≡ (x, y) ∷ drop (i + 1) (zip xs ys)
+  zip_next xs ys i x y ex ey l long = zip_drop xs ys i x y l long ∙ (λ j. (sym ex j, sym ey j) ∷ drop (i + 1) (zip xs ys))
 
 -- what the items of a list so far give was taken, and so was what the next one gives
 pub taken_more : {A : Type 0} (f : A → List Rec) (had mid has : List Rec → Type 0) (xs : List A) (i : ℕ) (d : A)
@@ -62,29 +50,69 @@ taken_more f had mid has xs i d below so_far next =
     ∙ ap (λ ys. flat_map f (take i xs) ++ ys) (append-nil (f (get_or xs i d))) in
     subst (TakesMore had has) (sym more) (TakesMore-trans had mid has _ _ so_far next)
 
+-- ---- the threads of a run
+
+module _ (threads : List (List Line)) (notes : List ThreadNote) (i : ℕ) (ls : List Line) (note : ThreadNote)
+    (lines : ls ≡ get_or threads i ls) (noted : note ≡ get_or notes i note) (below : i < length threads)
+    (long : length notes ≡ length threads) where
+  thread-at : get_or (zip threads notes) i (ls, note) ≡ (ls, note)
+  thread-at = get_or-zip threads notes i (ls, note) below (omega (arith, below, long)) ∙ (λ j. (sym lines j, sym noted j))
+
+  within : i < length (zip threads notes)
+  within = (let both = length-zip threads notes in omega (arith, both, below, long))
+
+  -- what holds of each thread with its note holds of this one
+  pub thread-All : (P : List Line × ThreadNote → Type 0) → All P (zip threads notes) → P (ls, note)
+  thread-All P all = subst P thread-at (all i (ls, note) within)
+
+  -- what the threads so far take was taken, and so was what this one takes
+  pub thread-more : (f : List Line × ThreadNote → List Rec) (had mid has : List Rec → Type 0)
+      → TakesMore had mid (flat_map f (take i (zip threads notes))) → TakesMore mid has (f (ls, note))
+      → TakesMore had has (flat_map f (take (i + 1) (zip threads notes)))
+  thread-more f had mid has so_far next =
+      taken_more f had mid has (zip threads notes) i (ls, note) within so_far
+      (subst (λ t. TakesMore mid has (f t)) (sym thread-at) next)
+
+-- no thread is left
+pub threads-end : (threads : List (List Line)) (notes : List ThreadNote) (i : ℕ) (f : List Line × ThreadNote → List Rec)
+    (had has : List Rec → Type 0) → length threads ≤ i → TakesMore had has (flat_map f (take i (zip threads notes)))
+    → TakesMore had has (flat_map f (zip threads notes))
+threads-end threads notes i f had has past taken =
+    let long = length-zip threads notes in
+    let all : take i (zip threads notes) ≡ zip threads notes = take_all i (zip threads notes) (omega (arith, past, long)) in
+    subst (λ ts. TakesMore had has (flat_map f ts)) all taken
+
 -- ---- the lines of a thread
 
 module _ (script : Script) (history : List Placed) where
-  -- one line more is taken off those that are left
-  pub taken_from-drop : (channel : Channel) (state : ThreadState) (previous : ℕ) (lines : List Line) (notes : List LineNote) (i : ℕ)
-      (l : Line) (n : LineNote) (taken all : List Rec) → i < length lines → length notes ≡ length lines
-      → taken ++ taken_from script history channel state previous (drop i (zip lines notes)) ≡ all
-      → (taken ++ taken_in script history (get_or lines i l) (get_or notes i n) state channel previous)
-      ++ taken_from script history channel (state_after script history (get_or lines i l) (get_or notes i n) state)
-      (previous_after script history (get_or lines i l) (get_or notes i n) state channel previous) (drop (i + 1) (zip lines notes))
-      ≡ all
-  taken_from-drop channel state previous lines notes i l n taken all below long so_far =
-      append_assoc taken _ _
-      ∙ ap (λ ls. taken ++ taken_from script history channel state previous ls) (sym (zip_drop lines notes i l n below long))
-      ∙ so_far
+  module _ (lines : List Line) (notes : List LineNote) (i : ℕ) (l : Line) (n : LineNote) (line : l ≡ get_or lines i l)
+      (note : n ≡ get_or notes i n) (below : i < length lines) (long : length notes ≡ length lines) where
+    -- one line more is taken off those that are left
+    pub taken_from-drop : (channel : Channel) (state : ThreadState) (previous : ℕ) (taken all : List Rec)
+        → taken ++ taken_from script history channel state previous (drop i (zip lines notes)) ≡ all
+        → (taken ++ taken_in script history l n state channel previous)
+        ++ taken_from script history channel (state_after script history l n state)
+        (previous_after script history l n state channel previous) (drop (i + 1) (zip lines notes))
+        ≡ all
+    taken_from-drop channel state previous taken all so_far =
+        append_assoc taken _ _
+        ∙ ap (λ ls. taken ++ taken_from script history channel state previous ls) (sym (zip_next lines notes i l n line note below long))
+        ∙ so_far
 
-  pub order-drop : (before : ℕ) (lines : List Line) (notes : List LineNote) (i : ℕ) (l : Line) (n : LineNote)
-      → i < length lines → length notes ≡ length lines
-      → SeesInOrder script history before (drop i (zip lines notes))
-      → MaySee script history before (get_or lines i l) (get_or notes i n)
-      × SeesInOrder script history (get_or notes i n).seen (drop (i + 1) (zip lines notes))
-  order-drop before lines notes i l n below long order =
-      subst (SeesInOrder script history before) (zip_drop lines notes i l n below long) order
+    pub order-drop : (before : ℕ) → SeesInOrder script history before (drop i (zip lines notes))
+        → MaySee script history before l n × SeesInOrder script history n.seen (drop (i + 1) (zip lines notes))
+    order-drop before order = subst (SeesInOrder script history before) (zip_next lines notes i l n line note below long) order
+
+  -- no line is left
+  pub taken_from-end : (lines : List Line) (notes : List LineNote) (i : ℕ) (channel : Channel) (state : ThreadState) (previous : ℕ)
+      (had has : List Rec → Type 0) (taken all : List Rec) → length lines ≤ i
+      → taken ++ taken_from script history channel state previous (drop i (zip lines notes)) ≡ all
+      → TakesMore had has taken → TakesMore had has all
+  taken_from-end lines notes i channel state previous had has taken all past so_far took =
+      let long = length-zip lines notes in
+      let none : drop i (zip lines notes) ≡ [] = drop_all i (zip lines notes) (omega (arith, past, long)) in
+      subst (TakesMore had has)
+      (sym (append-nil taken) ∙ ap (λ ls. taken ++ taken_from script history channel state previous ls) (sym none) ∙ so_far) took
 
   seen-before-if : (p : Bool) (seen : ℕ) → (if p then seen - 1 else seen) ≤ seen
   seen-before-if true seen = omega arith

@@ -1,5 +1,5 @@
 -- What is added to the immediates of a snapshot by numbers.
-use Rattle.std.specs.Prelude.{◌≡◌, ℕ, ◌<◌, List, ◌++◌, length, map, All, Option, Some, None}
+use Rattle.std.specs.Prelude.{◌≡◌, ◌<◌, List, ◌++◌, length, map, All, Option, Some, None}
 use Rattle.cal_context.specs.Snapshots.{entry_of}
 use Rattle.cal_context.specs.Tree.{Tree}
 use Rattle.cal_context.specs.declared.snapshot.Immediate.{Immediate}

@@ -65,7 +65,8 @@ pub(crate) fn run_line<T: Taker>(
     if shared {
         return Ok(());
     }
-    make_change(alloc, script, numbers, line, note, thread, context)
+    make_change(alloc, script, numbers, line, note, thread, context)?;
+    Ok(())
 }
 
 /// How many operations a line has seen before its own.
@@ -173,9 +174,8 @@ fn make_change(
         Some(op) => {
             operate(alloc, script, numbers, op, &mut thread.board, context)?;
             let attr = attr_ref(script, op.attr);
-            thread
-                .readings
-                .follow(op.code, attr, note.reading.unwrap_or(0))
+            let reading = note.reading.unwrap_or(0);
+            thread.readings.follow(op.code, attr, reading)
         }
     }
 }

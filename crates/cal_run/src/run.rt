@@ -1,17 +1,18 @@
-ghost use Rattle.std.specs.Prelude.{◌≡◌, length, unwrap_or, zip, All, OnOk};
+ghost use Rattle.std.specs.Prelude.{◌≡◌, ◌<◌, length, slice_index_or, zip, All, OnOk};
 ghost use Rattle.cal_context.specs.Taking.{TakesMore};
 ghost use Rattle.cal_context.specs.Tree.{Grows};
 ghost use Rattle.cal_run.specs.Numbers.{AreNumbered};
-ghost use Rattle.cal_run.specs.Runs.{snapshots, taken_from};
+ghost use Rattle.cal_run.specs.Runs.{snapshots, taken_by_thread};
 ghost use Rattle.cal_run.specs.Seeing.{CanBeRead, SeesInOrder};
-ghost use Rattle.cal_run.specs.Steps.{at_start};
+ghost use Rattle.cal_script.specs.declared.journal.LineNote as line_notes;
+ghost use Rattle.cal_script.specs.declared.script.Line as script_lines;
 ghost use Rattle.cal_valid.specs.Valid.{IsPlaced, IsRunnable};
 
 use crate::Numbers;
 use crate::line::run_line;
 use crate::thread::Thread;
 use cal_context::{Context, Snapshot, Taker};
-use cal_script::{Channel, Journal, Line, LineNote, Placed, Script};
+use cal_script::{Channel, Journal, Line, LineNote, Placed, Script, ThreadNote};
 use cal_value::OutOfMemory;
 use std::alloc::Global;
 
@@ -37,17 +38,20 @@ pub fn take_channel<T: Taker>(
     ensures grows { Grows context.old context.new }
 {
     let mut snapshot = Snapshot::new(alloc);
-    let (threads, notes) = (script.threads.as_slice(), journal.threads.as_slice());
+    let threads = script.threads.as_slice();
+    let notes = journal.threads.as_slice();
+    let history = journal.ops.as_slice();
     for number in 0..threads.len() {
+        let lines = threads[number].as_slice();
+        let note = &notes[number];
         take_thread(
             alloc,
             script,
             numbers,
             channel,
-            journal.ops.as_slice(),
-            notes[number].start.unwrap_or(0),
-            threads[number].as_slice(),
-            notes[number].lines.as_slice(),
+            history,
+            lines,
+            note,
             context,
             &mut snapshot,
             taker,
@@ -63,9 +67,8 @@ fn take_thread<T: Taker>(
     numbers: &Numbers,
     channel: &Channel,
     history: &[Placed],
-    start: u64,
     lines: &[Line],
-    notes: &[LineNote],
+    note: &ThreadNote,
     context: &mut Context,
     snapshot: &mut Snapshot,
     taker: &mut T,
@@ -74,17 +77,19 @@ fn take_thread<T: Taker>(
     requires numbered { AreNumbered context.old script.now numbers.now }
     requires placed { All (IsPlaced script.now.attributes script.now.channels script.now.values)
         lines.now }
-    requires noted { length notes.now ≡ length lines.now }
-    requires order { SeesInOrder script.now history.now 0 (zip lines.now notes.now) }
+    requires noted { length note.now.lines ≡ length lines.now }
+    requires order { SeesInOrder script.now history.now 0 (zip lines.now note.now.lines) }
     ensures taken { OnOk result (TakesMore
         (T.has_taken taker.old context.old)
         (T.has_taken taker.new context.new)
-        (taken_from script.now history.now channel.now at_start start (zip lines.now notes.now))) }
+        (taken_by_thread script.now history.now channel.now (lines.now, note.now))) }
     ensures grows { Grows context.old context.new }
 {
+    let start = note.start.unwrap_or(0);
+    let notes = note.lines.as_slice();
     let mut thread = Thread::new(alloc, start);
     for place in 0..lines.len() {
-        let (line, note) = (lines[place], notes[place]);
+        let (line, note) = noted_at(lines, notes, place);
         run_line(
             alloc,
             script,
@@ -100,4 +105,14 @@ fn take_thread<T: Taker>(
         )?;
     }
     Ok(())
+}
+
+/// The line at a place, with its note.
+fn noted_at(lines: &[Line], notes: &[LineNote], place: usize) -> (Line, LineNote)
+    requires line { place < length lines.now }
+    requires note { place < length notes.now }
+    ensures line { (d : script_lines.Line) → result.0 ≡ slice_index_or lines.now place d }
+    ensures note { (d : line_notes.LineNote) → result.1 ≡ slice_index_or notes.now place d }
+{
+    (lines[place], notes[place])
 }

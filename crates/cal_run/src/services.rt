@@ -1,12 +1,12 @@
-ghost use Rattle.std.specs.Prelude.{◌≡◌, ◌<◌, ◌≤◌, [], ◌∷◌, ◌++◌, length, map, sum, OnOk, Some};
+ghost use Rattle.std.specs.Prelude.{◌≡◌, ◌<◌, ◌≤◌, [], ◌∷◌, ◌++◌, length, map, sum, IfOk, OnOk, Some};
 ghost use Rattle.cal_context.specs.Tree.{attribute_at};
 ghost use Rattle.cal_run.specs.Adding.{AddsEntries, AddsShown, MayHavePlaces, ShowsSome};
-ghost use Rattle.cal_run.specs.Held.{HasPlaces};
+ghost use Rattle.cal_run.specs.Held.{HasPlaces, Shows};
 ghost use Rattle.cal_run.specs.Lines.{attribute_of};
 ghost use Rattle.cal_run.specs.Numbers.{AreNumbered, IsNumber};
-ghost use Rattle.cal_run.specs.Snapshots.{duration_entries, event_entries, event_of};
+ghost use Rattle.cal_run.specs.Snapshots.{Sight, board_of, event_entries, event_of};
 ghost use Rattle.cal_run.specs.Snapshots.{inclusive_entries, numbered, probe_entries, probe_of};
-ghost use Rattle.cal_run.specs.Snapshots.{probe_value, time_entries};
+ghost use Rattle.cal_run.specs.Snapshots.{probe_value, time_entries, value_on};
 ghost use Rattle.cal_script.specs.declared.script.ProbeKind.TheVariants as probe;
 
 use crate::closing::event_value;
@@ -86,13 +86,28 @@ fn push_event(
         (λ s. event_entries script.now s (Some op))) }
 {
     let attribute = event_number(script, numbers, op, context);
-    let value = if is_shared(script, op) {
-        event_value(alloc, script, op, moment.process, context)?
-    } else {
-        event_value(alloc, script, op, moment.board, context)?
-    };
+    let value = shown_value(alloc, script, op, moment, context)?;
     out.push(Immediate { attribute, value })?;
     Ok(())
+}
+
+/// The value of an event, by the board of the moment that its operation acts on.
+fn shown_value(
+    alloc: Global,
+    script: &Script,
+    op: Operation,
+    moment: &Moment,
+    context: &Context,
+) -> Result<Variant, OutOfMemory>
+    requires { ShowsSome context.now script.now moment.now }
+    ensures { IfOk result (λ v. (s : Sight) → Shows context.now script.now moment.now s
+        → v ≡ value_on script.now (board_of script.now s op) op.code op) }
+{
+    if is_shared(script, op) {
+        event_value(alloc, script, op, moment.process, context)
+    } else {
+        event_value(alloc, script, op, moment.board, context)
+    }
 }
 
 /// The number of the attribute of an operation's event.
@@ -196,16 +211,23 @@ fn push_probes(
         (map (λ p. numbered (probe_of p) (probe_value p depths.now)) probes.now)) }
 {
     for probe in probes {
-        match probe {
-            ProbeKind::Depth => {
-                push_number(context, numbers.depth, probe_value(*probe, depths), out)?;
-            }
-            ProbeKind::Count => {
-                push_number(context, numbers.count, probe_value(*probe, depths), out)?;
-            }
-        }
+        let attribute = probe_number(numbers, *probe, context);
+        push_number(context, attribute, probe_value(*probe, depths), out)?;
     }
     Ok(())
+}
+
+/// The number of the attribute of a probe.
+fn probe_number(numbers: &Numbers, kind: ProbeKind, context: &Context) -> AttributeNumber
+    requires depth { IsNumber context.now numbers.now.depth (probe_of probe.Depth) }
+    requires count { IsNumber context.now numbers.now.count (probe_of probe.Count) }
+    ensures { IsNumber context.now result (probe_of kind) }
+{
+    let _ = context;
+    match kind {
+        ProbeKind::Depth => numbers.depth,
+        ProbeKind::Count => numbers.count,
+    }
 }
 
 /// What a probe answers on these depths.

@@ -5,4 +5,7 @@ pub mod LinesMore
 pub mod EndLemmas
 pub mod GridLemmas
 pub mod TableLemmas
+pub mod TrailLemmas
+pub mod StandLemmas
+pub mod WalkLemmas
 pub mod NewlineSteps

@@ -29,3 +29,9 @@ parts_more row columns place column l is =
     ∙ ap (λ (k : Column). filter_map (part_of row) (take place columns ++ k ∷ [])) (sym is)
     ∙ filter_map-append (part_of row) (take place columns) (column ∷ [])
     ∙ ap (λ (last : List (List ℕ)). filter_map (part_of row) (take place columns) ++ last) (option_one (part_of row column))
+
+-- one row more behind others
+pub lines_push : (rows : List Rec) (row : Rec) → expand_lines None rows ++ (expand_line None row ++ 10 ∷ []) ≡ expand_lines None (rows ++ row ∷ [])
+lines_push rows row =
+    let line : Rec → List ℕ = λ r. expand_line None r ++ 10 ∷ [] in
+    ap (λ (t : List ℕ). expand_lines None rows ++ t) (sym (append-nil (expand_line None row ++ 10 ∷ []))) ∙ sym (flat_map-append line rows (row ∷ []))

@@ -1,12 +1,13 @@
 -- What is known of a context's attributes and paths while a snapshot is laid out.
-use Rattle.std.specs.Prelude.{◌≡◌, ℕ, ◌<◌, ◌≤◌, List, Some, length, map, slice_get, slice_index_or}
+use Rattle.std.specs.Prelude.{◌≡◌, ℕ, zero, suc, ◌<◌, ◌≤◌, List, [], ◌++◌, Some}
+use Rattle.std.specs.Prelude.{length, map, slice_get, slice_index_or}
 use Rattle.std.specs.List.{All}
 use Rattle.cal_value.specs.declared.attribute.Entry.{Entry}
 use Rattle.cal_context.specs.Tree.{Tree, attribute_at, path_at, value_at}
 use Rattle.cal_context.specs.declared.numbers.AttributeNumber.{AttributeNumber}
 use Rattle.cal_context.specs.declared.numbers.Link.{Link}
 use Rattle.cal_context.specs.declared.numbers.NodeNumber.{NodeNumber}
-use Rattle.cal_rowset.specs.Filling.{Holds, HoldsSome, names}
+use Rattle.cal_tabfmt.specs.Trails.{IsTrail}
 use Rattle.cal_tabfmt.specs.declared.snapshot_cells.SnapshotCells.{SnapshotCells}
 
 -- the attribute and the value of a link are the context's
@@ -37,12 +38,38 @@ pub record KnowsAll (t : Tree) (names : List (List ℕ)) (places : List ℕ) : T
   pub each : KnowsPlaces t names places
   pub all : length t.attributes ≤ length places
 
--- Cells that are ready for a snapshot: they hold one, or none, and know some attributes.
-pub record AreReady (t : Tree) (s : SnapshotCells) : Type 0 where
-  pub holds : HoldsSome s.cells
-  pub places : KnowsPlaces t (names s.cells) s.places.items
+-- the path of the node of a number; that of the root is empty in every tree
+abbrev pub path_numbered : Tree → ℕ → List Entry
+path_numbered t zero = []
+path_numbered t (suc n) = path_at t (record { 0 = suc n })
 
--- Cells that hold these entries of a snapshot, and know all attributes.
+abbrev pub path_to : Tree → NodeNumber → List Entry
+path_to t n = path_numbered t n.0
+
+-- Cells that stand at a node: they hold its path, and know some attributes.
+pub record StandAt (t : Tree) (s : SnapshotCells) : Type 0 where
+  pub trail : IsTrail s.trail (path_at t s.node)
+  pub depth : s.depth ≡ length (path_at t s.node)
+  pub places : KnowsPlaces t s.trail.names s.places.items
+
+-- the same, and they know all
+pub record StandKnowing (t : Tree) (s : SnapshotCells) : Type 0 where
+  pub stand : StandAt t s
+  pub places : KnowsAll t s.trail.names s.places.items
+
+-- Cells that hold the path of a node and then some entries, and know some attributes.
+pub record AreReady (t : Tree) (s : SnapshotCells) : Type 0 where
+  pub within : 0 < s.node.0 → s.node.0 < length t.paths
+  pub more : List Entry
+  pub trail : IsTrail s.trail (path_to t s.node ++ more)
+  pub depth : s.depth ≡ length (path_to t s.node)
+  pub places : KnowsPlaces t s.trail.names s.places.items
+
+-- Cells that hold these entries of a snapshot, the path of a node first, and know all attributes.
 pub record AreFilled (t : Tree) (s : SnapshotCells) (entries : List Entry) : Type 0 where
-  pub holds : Holds s.cells entries
-  pub places : KnowsAll t (names s.cells) s.places.items
+  pub within : s.node.0 < length t.paths
+  pub more : List Entry
+  pub front : entries ≡ path_to t s.node ++ more
+  pub trail : IsTrail s.trail entries
+  pub depth : s.depth ≡ length (path_to t s.node)
+  pub places : KnowsAll t s.trail.names s.places.items

@@ -2,8 +2,8 @@
 //!
 //! `expand_text` and `table_text` give exactly the layouts of `specs/`, and `grid_text` lines in
 //! columns, which trees have too. `ExpandWriter` takes snapshots over a context, and its text is the
-//! plain lines of the records that they mean; it keeps no record, and a record costs its entries.
-//! Nothing is promised of time, nor of a writer that ran out of memory.
+//! plain lines of the records that they mean; it keeps no record, and takes a path up from where it
+//! leaves the one before. Nothing is promised of time, nor of a writer that ran out of memory.
 #![tactic(auto)]
 
 mod column_lines;
@@ -19,7 +19,10 @@ mod shown_text;
 mod snapshot_cells;
 mod table;
 mod table_lines;
+mod trail;
+mod walk;
 mod writer;
+mod written;
 
 pub use grid::grid_text;
 pub use lines::expand_text;

@@ -6,7 +6,7 @@ ghost use Rattle.cal_rowset.specs.Filling.{Shows};
 ghost use Rattle.cal_tabfmt.specs.Expand.{part};
 ghost use Rattle.cal_tabfmt.specs.Parts.{HasParts};
 
-use cal_line::escape;
+use crate::written::append_written;
 use cal_rowset::Cell;
 use cal_value::{OutOfMemory, Text};
 
@@ -26,9 +26,9 @@ pub(crate) fn append_part(
         return Ok(is_first);
     }
     append_comma(out, is_first)?;
-    escape(header.as_str(), out)?;
+    append_written(header.as_str(), out)?;
     out.push_str("=")?;
-    escape(cell.text.as_str(), out)?;
+    append_written(cell.text.as_str(), out)?;
     Ok(false)
 }
 

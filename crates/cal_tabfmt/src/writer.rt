@@ -5,20 +5,22 @@ ghost use Rattle.cal_value.specs.declared.record.Rec.{Rec};
 ghost use Rattle.cal_context.specs.Snapshots.{IsIn, meaning};
 ghost use Rattle.cal_context.specs.Taking.{TakesMore};
 ghost use Rattle.cal_context.specs.Tree.{Tree};
-ghost use Rattle.cal_rowset.specs.Filling.{Holds, names, nth_name};
+ghost use Rattle.cal_rowset.specs.Filling.{nth_name};
 ghost use Rattle.cal_tabfmt.specs.Expand.{expand_line, expand_lines, own_column, part_of};
 ghost use Rattle.cal_tabfmt.specs.Parts.{HasParts};
+ghost use Rattle.cal_tabfmt.specs.Trails.{HoldsRow};
 
 use crate::hierarchy_cell::HierarchyCell;
 use crate::part::append_part;
 use crate::snapshot_cells::SnapshotCells;
+use crate::trail::Trail;
 use cal_context::{Context, Snapshot, Taker};
-use cal_rowset::{Cells, is_path};
+use cal_rowset::is_path;
 use cal_value::{OutOfMemory, Text};
 use std::alloc::Global;
 
 /// Writes the plain line of each record as it comes, by the record's own names. It keeps no record.
-/// A record takes time in its entries.
+/// A record takes time in its text, and in those of its entries that aren't of the path before.
 #[derive(Drop)]
 pub struct ExpandWriter {
     text: Text,
@@ -66,7 +68,7 @@ impl Taker for ExpandWriter {
         self.cells.fill(context, snapshot)?;
         append_line(
             &mut self.text,
-            &self.cells.cells,
+            &self.cells.trail,
             &mut self.hierarchy,
             context,
             snapshot,
@@ -76,21 +78,21 @@ impl Taker for ExpandWriter {
     ghost stays = { HasTaken-stays };
 }
 
-/// Appends the line of a snapshot's record, whose entries the cells hold.
+/// Appends the line of a snapshot's record, whose entries a trail holds.
 fn append_line(
     out: &mut Text,
-    cells: &Cells,
+    trail: &Trail,
     hierarchy: &mut HierarchyCell,
     context: &Context,
     snapshot: &Snapshot,
 ) -> Result<(), OutOfMemory>
     requires { IsIn context.now snapshot.now }
-    ensures { OnOk result (Holds cells.now (flat (meaning context.now snapshot.now))
+    ensures { OnOk result (HoldsRow trail.now (flat (meaning context.now snapshot.now))
         → out.new ≡ out.old ++ (expand_line None (meaning context.now snapshot.now) ++ 10 ∷ [])) }
 {
     let mut is_first = true;
-    for place in cells.used() {
-        is_first = append_place(out, is_first, cells, *place, hierarchy, context, snapshot)?;
+    for place in trail.used.as_slice() {
+        is_first = append_place(out, is_first, trail, *place, hierarchy, context, snapshot)?;
     }
     out.push_str("\n")
 }
@@ -99,7 +101,7 @@ fn append_line(
 fn append_place(
     out: &mut Text,
     is_first: bool,
-    cells: &Cells,
+    trail: &Trail,
     place: usize,
     hierarchy: &mut HierarchyCell,
     context: &Context,
@@ -107,19 +109,20 @@ fn append_place(
 ) -> Result<bool, OutOfMemory>
     requires { IsIn context.now snapshot.now }
     ensures { IfOk result (λ first. (before : List ℕ) (parts : List (List ℕ))
-        → Holds cells.now (flat (meaning context.now snapshot.now)) → place < length (names cells.now)
+        → HoldsRow trail.now (flat (meaning context.now snapshot.now))
+        → place < length trail.now.names
         → HasParts before out.old is_first parts → HasParts before out.new first
         (parts ++ option_to_list (part_of (meaning context.now snapshot.now)
-        (own_column (nth_name (names cells.now) place))))) }
+        (own_column (nth_name trail.now.names place))))) }
 {
-    let Some(name) = cells.names().get(place) else {
+    let Some(name) = trail.names.as_slice().get(place) else {
         return Ok(is_first);
     };
     if is_path(name) {
         hierarchy.show(context, snapshot)?;
         return append_part(out, is_first, name, &hierarchy.cell);
     }
-    match cells.cells().get(place) {
+    match trail.cells.as_slice().get(place) {
         Some(cell) => append_part(out, is_first, name, cell),
         None => Ok(is_first),
     }

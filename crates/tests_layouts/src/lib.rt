@@ -7,4 +7,10 @@
 #[cfg(test)]
 mod answers;
 #[cfg(test)]
+mod lines;
+#[cfg(test)]
 mod objects;
+#[cfg(test)]
+mod tables;
+#[cfg(test)]
+mod trees;

@@ -8,6 +8,8 @@
 #[cfg(test)]
 mod histories;
 #[cfg(test)]
+mod shared_trees;
+#[cfg(test)]
 mod tables;
 #[cfg(test)]
 mod trees;

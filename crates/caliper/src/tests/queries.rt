@@ -150,10 +150,20 @@ fn queries_are_answered(rt: HostRuntime) -> Result<(), Fail> {
         "--globals=join",
         "--q=select host where function order by host desc",
     ];
+    let places = &[
+        "query",
+        "--globals=join",
+        "--q=let place=first(host) select place,host,count() group by place,host",
+    ];
     let rows = [
         written_by(count, TIMES, "function=main,count=1\n"),
         written_by(count, "", ""),
         written_by(hosts, HOSTS, "host=n1/n2\nhost=n0/n1/n2\n"),
+        written_by(
+            places,
+            HOSTS,
+            "place=n2,host=n1/n2,count=2\nplace=n2,host=n0/n1/n2,count=1\n",
+        ),
         refused(
             count,
             "__rec=ctx,ref=12",

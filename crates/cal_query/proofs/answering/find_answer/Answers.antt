@@ -3,5 +3,5 @@ use Rattle.cal_query.proofs.answering.find_answer.Goals as goal
 
 pub returns-clause-answer : goal.returns-clause-answer
 returns-clause-answer g c =
-    sees_what _ _ _ _ _ (λ rows seen. c.in_ok-finish.ensures seen.0 rows seen.1)
-    c.in_ok-folded.ensures.taken
+    sees_what _ _ _ _ _ (λ rows seen. c.in_ok-answer_over.ensures rows seen)
+    c.in_ok-seen.ensures.taken

@@ -11,12 +11,14 @@ use Rattle.cal_query.proofs.joining.hand_on.Given as goal
 abbrev pub invariant-loop-snapshot : goal.invariant-loop-snapshot
 invariant-loop-snapshot g l =
     let taken = g.T.Taker in
-    let joined : List Rec → List Rec = λ rows. map (with_entries (map (entry_of l.context) l.globals)) rows in
+    let joined : List Rec → List Rec = λ rows.
+    map (with_entries (map (entry_of l.context) l.fn.globals.items)) rows in
     let left = into_iter_items l.snapshot-iterator in
     record {
       are_in : All (IsIn l.context) left;
+      globals : l.globals.items ≡ l.fn.globals.items;
       handed : (done : List Rec)
           × TakesMore (taken.has_taken l.fn.taker l.context) (taken.has_taken l.taker l.context) done
           × (done ++ joined (map (meaning l.context) left)
-          ≡ joined (map (meaning l.context) l.fn.kept.snapshots.items));
+          ≡ joined (map (meaning l.context) l.fn.kept.items));
     }

@@ -1,9 +1,6 @@
 use Rattle.cal_query.proofs.Layouts.{sees_plain}
 use Rattle.cal_query.proofs.seeing.see_plain.Goals as goal
 
-pub read_stream-requires : goal.read_stream-requires
-read_stream-requires g c = c.requires c.new.result
-
 pub returns-clause-taken : goal.returns-clause-taken
 returns-clause-taken g c =
     let read = c.in_ok-read.ensures.read in

@@ -1,5 +1,5 @@
 use Rattle.std.proofs.Common.{◌≡◌, ℕ, ◌≤◌, List, ◌++◌, drop}
-use Rattle.std.specs.Prelude.{zip}
+use Rattle.std.specs.Prelude.{unwrap_or, zip}
 use Rattle.cal_context.specs.Taking.{TakesMore}
 use Rattle.cal_context.specs.Tree.{Grows}
 use Rattle.cal_run.specs.Numbers.{AreNumbered}
@@ -19,8 +19,8 @@ invariant-loop-place g l = record {
   so_far : (state : ThreadState) × (previous before : ℕ) × (taken : List Rec)
       × IsThread l.context l.script l.history l.thread state previous
       × (l.thread.process.count ≤ before)
-      × SeesInOrder l.script l.history before (drop l.place (zip l.lines l.notes))
+      × SeesInOrder l.script l.history before (drop l.place (zip l.lines l.note.lines))
       × TakesMore (g.T.Taker.has_taken l.fn.taker l.fn.context) (g.T.Taker.has_taken l.taker l.context) taken
-      × (taken ++ taken_from l.script l.history l.channel state previous (drop l.place (zip l.lines l.notes))
-      ≡ taken_from l.script l.history l.channel at_start l.start (zip l.lines l.notes));
+      × (taken ++ taken_from l.script l.history l.channel state previous (drop l.place (zip l.lines l.note.lines))
+      ≡ taken_from l.script l.history l.channel at_start (unwrap_or l.note.start 0) (zip l.lines l.note.lines));
 }

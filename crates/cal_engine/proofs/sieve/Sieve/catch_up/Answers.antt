@@ -15,7 +15,7 @@ loop-place-preserved c = record {
   grows = Grows-trans c.args.own.now c.loop-place.own c.sifted.new.own c.loop-place.invariant.grows c.in_ok-node.ensures.grows;
   sifts = λ h.
       sifts_next c.args.context.now c.loop-place.own c.sifted.new.own c.loop-place.self _ (record { 0 = c.in-Ok.number }) c.in_ok-node.node
-      c.in_ok-node.ensures.grows refl c.in_ok-push.ensures.items (omega arith)
+      c.in_ok-node.ensures.grows refl c.in_ok-push.ensures (omega arith)
       (c.in_ok-node.ensures.sifted (c.loop-place.invariant.sifts h)) (c.loop-place.invariant.sifts h);
 }
 

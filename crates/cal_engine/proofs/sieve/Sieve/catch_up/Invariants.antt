@@ -6,7 +6,7 @@ use Rattle.cal_engine.proofs.sieve.Sieve.catch_up.Given as goal
 -- the nodes before this one are known
 abbrev pub invariant-loop-place : goal.invariant-loop-place
 invariant-loop-place l = record {
-  counted : length l.self.nodes.items ≡ l.place;
+  counted : length l.self.nodes ≡ l.place;
   same : choice_of l.self ≡ choice_of l.fn.self;
   grows : Grows l.fn.own l.own;
   sifts : Sifts l.context l.fn.own l.fn.self → Sifts l.context l.own l.self;

@@ -13,8 +13,8 @@ returns-then-not-keeps c = λ rs h.
     let t = c.args.context.now in
     let old = c.args.self.now in
     let r = meaning t c.args.snapshot.now in
-    let same : meaning t c.in_ok-full.full ≡ r =
-    λ i. record { paths = map (path_at t) (c.in_ok-full.ensures.nodes i); imms = map (entry_of t) (c.in_ok-full.ensures.imms i) } in
+    let same : meaning t c.copy_into.new.copy ≡ r =
+    λ i. record { paths = map (path_at t) (c.in_ok-copy_into.ensures.nodes i); imms = map (entry_of t) (c.in_ok-copy_into.ensures.imms i) } in
     let full = meaning t c.apply.new.snapshot in
     let filtered = subst (λ (x : Rec). IsFiltered old.query x full c.in_ok-keeps.keeps) same (c.in_ok-keeps.ensures.filtered old.query h.gate) in
     record {
@@ -28,8 +28,8 @@ returns c = λ rs h.
     let t = c.args.context.now in
     let old = c.args.self.now in
     let r = meaning t c.args.snapshot.now in
-    let same : meaning t c.in_ok-full.full ≡ r =
-    λ i. record { paths = map (path_at t) (c.in_ok-full.ensures.nodes i); imms = map (entry_of t) (c.in_ok-full.ensures.imms i) } in
+    let same : meaning t c.copy_into.new.copy ≡ r =
+    λ i. record { paths = map (path_at t) (c.in_ok-copy_into.ensures.nodes i); imms = map (entry_of t) (c.in_ok-copy_into.ensures.imms i) } in
     let full = meaning t c.apply.new.snapshot in
     let filtered = subst (λ (x : Rec). IsFiltered old.query x full c.in_ok-keeps.keeps) same (c.in_ok-keeps.ensures.filtered old.query h.gate) in
     record {

@@ -1,4 +1,4 @@
-use Rattle.std.proofs.Common.{map, subst, sym}
+use Rattle.std.proofs.Common.{map, subst, sym, ◌∙◌}
 use Rattle.std.specs.List.{AllZip}
 use Rattle.std.specs.Vec.{with_items}
 use Rattle.cal_context.specs.Snapshots.{meaning}
@@ -15,11 +15,11 @@ returns c = λ q rs by_name h.
     let t = c.args.context.now in
     let old = c.args.self.now in
     let counters = with_items old.counters c.know_all.new.counters in
-    let new : Tally = record { counters = counters; sieves = c.key_of.new.sieves; own = c.key_of.new.own; groups = c.gather.new.self } in
+    let new : Tally = record { counters = counters; sieves = c.key_of.new.sieves; own = c.key_of.new.own; groups = c.gather.new.self; numbers = c.fill_parts.new.numbers; parts = c.fill_parts.new.parts } in
     let zip = written (CounterCatchesUp t) old.counters c.deref_mut.result.now c.know_all.new.counters c.deref_mut.ensures.value
     c.deref_mut.ensures.len c.in_ok-know_all.ensures in
     let ready = counters_catch_up t (map reading_of q.aggs) old.counters.items counters.items h.counters zip in
-    let read = c.in_ok-parts.ensures (map reading_of q.aggs)
+    let read = c.deref-2.ensures.value ∙ c.in_ok-fill_parts.ensures (map reading_of q.aggs)
     (subst (AllZip (IsReadyCounter t) (map reading_of q.aggs)) (sym c.deref.ensures.value) ready) in
-    tallied t q rs (meaning t c.args.snapshot.now) old new c.in_ok-parts.parts c.in_ok-key.key c.has_each_once.ensures c.has_each_once-2.ensures
-    c.in_ok-key.ensures.grows ready read (c.in_ok-key.ensures.key q by_name h.sieves) c.in_ok-gather.ensures.ok h
+    tallied t q rs (meaning t c.args.snapshot.now) old new c.deref-2.result.now c.in_ok-key.key c.has_each_once.ensures c.has_each_once-2.ensures
+    c.in_ok-key.ensures.grows ready read (c.in_ok-key.ensures.key q by_name h.sieves) c.in_ok-gather.ensures h

@@ -8,6 +8,6 @@ abbrev pub invariant-loop-place : goal.invariant-loop-place
 invariant-loop-place l = record {
   counted : length l.self.named.items ≡ l.place;
   same : Stays l.fn.self l.self;
-  nearest : l.self.nearest.items ≡ l.fn.self.nearest.items;
+  nearest : l.self.nearest ≡ l.fn.self.nearest;
   knows : Knows l.context l.fn.self → Knows l.context l.self;
 }

@@ -20,7 +20,7 @@ returns-else-seeks c = λ k.
     ∙ ap (λ v. seeks (sought c.args.self.now)
     (record { attr = attribute_at c.args.context.now c.in-Some.link.attribute; value = v }))
     c.value_at.ensures in
-    let short : c.in-Some.link.parent.0 < length c.args.self.now.nearest.items =
+    let short : c.in-Some.link.parent.0 < length c.args.self.now.nearest =
     omega (arith, c.in-Some.ensures.linked.child.later) in
     nearest_above c.args.context.now (sought c.args.self.now) c.in-Some.link c.args.node
     c.in-Some.ensures.linked c.nearest.result (sym answer ∙ c.if-seeks.false)

@@ -1,0 +1,19 @@
+use Rattle.std.proofs.Common.{◌≡◌, ◌+◌, ◌<◌, ◌++◌, length, reverse, map, All}
+use Rattle.cal_context.specs.Tree.{path_at}
+use Rattle.cal_tabfmt.specs.Snapshots.{IsEntryOf, link_entry}
+use Rattle.cal_tabfmt.specs.Trails.{IsTrail}
+use Rattle.cal_tabfmt.proofs.walk.walk.Given as goal
+
+-- the node that the trail has come up to, and the links noted so far, from the goal up
+abbrev pub invariant-loop-node : goal.invariant-loop-node
+invariant-loop-node l = record {
+  same : l.trail.names ≡ l.fn.trail.names;
+  node_within : l.node.0 < length l.context.paths;
+  below_within : l.below.0 < length l.context.paths;
+  up : IsTrail l.fn.trail (path_at l.context l.fn.from) → IsTrail l.trail (path_at l.context l.node);
+  down : path_at l.context l.fn.to ≡ path_at l.context l.below ++ map (link_entry l.context) (reverse l.links.items);
+  entries : All (IsEntryOf l.context) l.links.items;
+}
+
+abbrev pub decreases-loop-node : goal.decreases-loop-node
+decreases-loop-node l = l.node.0 + l.below.0
