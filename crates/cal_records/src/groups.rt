@@ -2,7 +2,8 @@ ghost use Rattle.std.specs.Prelude.{◌≡◌, [], ◌∷◌, IfOk, OnOk};
 ghost use Rattle.cal_context.specs.Taking.{TakesMore};
 ghost use Rattle.cal_context.specs.Tree.{Grows};
 ghost use Rattle.cal_ql.specs.Valid.{IsValidQuery};
-ghost use Rattle.cal_records.specs.Groups.{channel_query as query_of, group_records};
+ghost use Rattle.cal_records.specs.Groups.{group_records};
+ghost use Rattle.cal_records.specs.Records.{grouped};
 ghost use Rattle.cal_run.specs.Numbers.{AreNumbered};
 ghost use Rattle.cal_run.specs.Runs.{snapshots};
 ghost use Rattle.cal_run.specs.Seeing.{CanBeRead};
@@ -20,8 +21,8 @@ use cal_script::{Channel, Journal, Script};
 use cal_value::{OutOfMemory, Rec, Seq};
 use std::alloc::Global;
 
-/// Hands the records of a channel's groups to a taker, in the order of groups. It takes time in the
-/// lines, and n log n comparisons of groups.
+/// Hands the records of the groups of a channel with aggregate to a taker, in the order of groups. It
+/// takes time in the lines, and n log n comparisons of groups.
 pub(crate) fn take_groups<T: Taker>(
     alloc: Global,
     script: &Script,
@@ -37,13 +38,16 @@ pub(crate) fn take_groups<T: Taker>(
     ensures taken { OnOk result (TakesMore
         (T.has_taken taker.old context.old)
         (T.has_taken taker.new context.new)
-        (group_records (query_of channel.now.query)
-        (snapshots script.now journal.now channel.now))) }
+        (grouped script.now journal.now channel.now)) }
     ensures grows { Grows context.old context.new }
 {
+    if !channel.aggregate {
+        return Ok(());
+    }
     let query = channel_query(alloc, &channel.query)?;
     let rows = group_rows(alloc, script, journal, channel, &query, numbers, context)?;
-    take_rows(alloc, rows.as_slice(), context, taker)
+    take_rows(alloc, rows.as_slice(), context, taker)?;
+    Ok(())
 }
 
 /// The records of a channel's groups, with entries of their own.
@@ -71,7 +75,8 @@ fn group_rows(
         return Err(OutOfMemory);
     }
     let answer = fold.finish(context)?;
-    sorted_by_group(alloc, query.aggs.as_slice(), answer.rows.rows)
+    let rows = sorted_by_group(alloc, query.aggs.as_slice(), answer.rows.rows)?;
+    Ok(rows)
 }
 
 /// Hands records to a taker.

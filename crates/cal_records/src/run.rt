@@ -1,7 +1,9 @@
-ghost use Rattle.std.specs.Prelude.{◌≡◌, IfOk, OnOk};
+ghost use Rattle.std.specs.Prelude.{◌≡◌, IfErr, IfOk, OnOk};
 ghost use Rattle.cal_context.specs.Taking.{TakesMore};
 ghost use Rattle.cal_context.specs.Tree.{Grows};
 ghost use Rattle.cal_records.specs.Records.{channel_rows, records_of, run_rows, traced};
+ghost use Rattle.cal_run.specs.Broken.{IsLawfulText};
+ghost use Rattle.cal_run.specs.Checking.{IsRefusalOf};
 ghost use Rattle.cal_run.specs.Numbers.{AreNumbered};
 ghost use Rattle.cal_run.specs.Seeing.{CanBeRead};
 ghost use Rattle.cal_valid.specs.Valid.{IsRunnable};
@@ -9,8 +11,8 @@ ghost use Rattle.cal_valid.specs.Valid.{IsRunnable};
 use crate::globals::put_globals;
 use crate::groups::take_groups;
 use cal_context::{Context, Taken, Taker, expand};
-use cal_run::{Numbers, take_channel};
-use cal_script::{Channel, Journal, Script};
+use cal_run::{CoreEnd, Numbers, check_journal, lawful_journal_law, take_channel};
+use cal_script::{Channel, Journal, JournalText, Script};
 use cal_value::{OutOfMemory, Records};
 use std::alloc::Global;
 
@@ -60,9 +62,7 @@ fn take_rows_of<T: Taker>(
     ensures grows { Grows context.old context.new }
 {
     take_trace(alloc, script, journal, channel, numbers, context, taker)?;
-    if channel.aggregate {
-        take_groups(alloc, script, journal, channel, numbers, context, taker)?;
-    }
+    take_groups(alloc, script, journal, channel, numbers, context, taker)?;
     Ok(())
 }
 
@@ -85,9 +85,10 @@ fn take_trace<T: Taker>(
         (traced script.now journal.now channel.now)) }
     ensures grows { Grows context.old context.new }
 {
-    if channel.trace {
-        take_channel(alloc, script, journal, channel, numbers, context, taker)?;
+    if !channel.trace {
+        return Ok(());
     }
+    take_channel(alloc, script, journal, channel, numbers, context, taker)?;
     Ok(())
 }
 
@@ -110,4 +111,22 @@ pub fn run_records(
         rows: taken.into_rows(),
         globals: expand(alloc, &context, &globals)?,
     })
+}
+
+/// The records of a run whose journal was read, or the first rule that the journal breaks. It takes
+/// time in the lengths of all paths.
+pub fn run_serial(
+    alloc: Global,
+    script: &Script,
+    text: &JournalText,
+) -> Result<Records, CoreEnd>
+    requires { IsRunnable script.now }
+    ensures lawful { OnOk result (IsLawfulText script.now text.now) }
+    ensures records { IfOk result (λ records. records ≡ records_of script.now text.now.journal) }
+    ensures refused { IfErr result (IsRefusalOf script.now text.now) }
+{
+    check_journal(alloc, script, text)?;
+    lawful_journal_law();
+    let records = run_records(alloc, script, &text.journal)?;
+    Ok(records)
 }
