@@ -1,5 +1,6 @@
 -- What is taken in several steps.
-use Rattle.std.proofs.Common.{◌≡◌, ℕ, ◌+◌, ◌<◌, List, [], ◌∷◌, ◌++◌, length, get_or, take, sym, ap, subst, ◌∙◌, append-nil}
+use Rattle.std.proofs.Common.{◌≡◌, ℕ, ◌+◌, ◌<◌, List, [], ◌∷◌, ◌++◌, length, get_or, take, sym, ap}
+use Rattle.std.proofs.Common.{subst, ◌∙◌, append-nil}
 use Rattle.std.specs.List.{flat_map}
 use Rattle.std.proofs.lemmas.Grind.{flat_map-append}
 use Rattle.std.proofs.lemmas.List.{take_more}
@@ -23,8 +24,11 @@ taken-more f had then has xs i d below so_far next =
     subst (TakesMore had has) (sym more) (TakesMore-trans had then has _ _ so_far next)
 
 -- the records of a list so far were taken, and so was the next one
-pub record-more : (had then has : List Rec → Type 0) (rs : List Rec) (i : ℕ) (r : Rec) → i < length rs → r ≡ get_or rs i r
-    → TakesMore had then (take i rs) → TakesMore then has (r ∷ []) → TakesMore had has (take (i + 1) rs)
+pub record-more : (had then has : List Rec → Type 0) (rs : List Rec) (i : ℕ) (r : Rec)
+    → i < length rs → r ≡ get_or rs i r
+    → TakesMore had then (take i rs) → TakesMore then has (r ∷ [])
+    → TakesMore had has (take (i + 1) rs)
 record-more had then has rs i r below is so_far next =
-    let all : take (i + 1) rs ≡ take i rs ++ r ∷ [] = take_more rs i r below ∙ ap (λ x. take i rs ++ x ∷ []) (sym is) in
+    let all : take (i + 1) rs ≡ take i rs ++ r ∷ [] = take_more rs i r below
+        ∙ ap (λ x. take i rs ++ x ∷ []) (sym is) in
     subst (TakesMore had has) (sym all) (TakesMore-trans had then has _ _ so_far next)

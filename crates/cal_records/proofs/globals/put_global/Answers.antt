@@ -1,8 +1,18 @@
-use Rattle.std.proofs.Common.{sym, refl, ◌∙◌}
+use Rattle.std.proofs.Common.{◌≡◌, true, false, refl}
 use Rattle.cal_records.proofs.GlobalLemmas.{global-path, global-value}
+use Rattle.cal_value.specs.Props.{is_as_value}
 use Rattle.cal_records.proofs.globals.put_global.Goals as goal
 
-pub returns-then-is_as_value-clause-adds : goal.returns-then-is_as_value-clause-adds
-returns-then-is_as_value-clause-adds c =
-    global-value c.args.context.now c.intern_immediate.new.context c.args.entry.now c.args.snapshot.now _ c.in_ok-intern_immediate.ensures.grows
-    (sym c.is_as_value.ensures ∙ c.if-is_as_value.true) refl c.in_ok-intern_immediate.ensures.adds
+pub returns-in_ok-intern_immediate-clause-adds : goal.returns-in_ok-intern_immediate-clause-adds
+returns-in_ok-intern_immediate-clause-adds c =
+    let put = c.in_ok-intern_immediate.ensures in
+    let yes : is_as_value c.args.entry.now.attr.props ≡ true = cc in
+    global-value c.args.context.now c.intern_immediate.new.context c.args.entry.now
+    c.args.snapshot.now _ put.grows yes refl put.adds
+
+pub returns-in_ok-intern_entry-clause-adds : goal.returns-in_ok-intern_entry-clause-adds
+returns-in_ok-intern_entry-clause-adds c =
+    let put = c.in_ok-intern_entry.ensures in
+    let no : is_as_value c.args.entry.now.attr.props ≡ false = cc in
+    global-path c.args.context.now c.intern_entry.new.context c.args.entry.now
+    c.args.snapshot.now _ put.grows no refl put.adds

@@ -8,5 +8,6 @@ take-requires g c = c.in_ok-intern_record.ensures.means.within
 pub returns-clause-taken : goal.returns-clause-taken
 returns-clause-taken g c = λ rs had.
     let interned = c.in_ok-intern_record.ensures in
-    subst (λ (r : Rec). g.T.Taker.has_taken c.take.new.taker c.intern_record.new.context (rs ++ r ∷ [])) interned.means.means
+    subst (λ (r : Rec). g.T.Taker.has_taken c.take.new.self c.intern_record.new.context
+        (rs ++ r ∷ [])) interned.means.means
     (c.in_ok-take.ensures rs (g.met.T.Taker.stays _ _ _ _ had interned.grows))

@@ -15,7 +15,9 @@ loop-row-preserved g c =
     let has_taken = g.T.Taker.has_taken in
     record {
       grows = Grows-trans _ _ _ old.grows next.grows;
-      taken = record-more (has_taken c.args.taker.now c.args.context.now) (has_taken c.loop-row.taker c.loop-row.context)
-          (has_taken c.take_row.new.taker c.take_row.new.context) c.args.rows.now c.loop-row.row-index c.row-item.result
+      taken = record-more (has_taken c.args.taker.now c.args.context.now)
+          (has_taken c.loop-row.taker c.loop-row.context)
+          (has_taken c.take_row.new.taker c.take_row.new.context) c.args.rows.now
+              c.loop-row.row-index c.row-item.result
           c.loop-row-test.true c.row-item.is old.taken next.taken;
     }

@@ -7,5 +7,6 @@ use Rattle.cal_records.proofs.interning.intern_immediates.Given as goal
 abbrev pub invariant-loop-entry : goal.invariant-loop-entry
 invariant-loop-entry l = record {
   grows : Grows l.fn.context l.context;
-  adds : AddsImmediates l.fn.context l.context (take l.entry-index l.entries) l.fn.imms.items l.imms.items;
+  adds : AddsImmediates l.fn.context l.context (take l.entry-index l.entries) l.fn.imms.items
+      l.imms.items;
 }

@@ -7,5 +7,6 @@ use Rattle.cal_records.proofs.interning.intern_paths.Given as goal
 abbrev pub invariant-loop-path : goal.invariant-loop-path
 invariant-loop-path l = record {
   grows : Grows l.fn.context l.context;
-  adds : AddsPaths l.fn.context l.context (take l.path-index l.paths) l.fn.nodes.items l.nodes.items;
+  adds : AddsPaths l.fn.context l.context (take l.path-index l.paths) l.fn.nodes.items
+      l.nodes.items;
 }

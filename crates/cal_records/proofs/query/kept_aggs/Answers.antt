@@ -13,5 +13,6 @@ loop-value-preserved c =
     record {
       named = next.named;
       kept = next.added ∙ ap (λ kept. with_all_new kept (value_aggs c.as_str.result.now)) old.kept
-          ∙ sym (results-more c.args.values.now c.loop-value.value-index _ c.loop-value-test.true c.value-item.is);
+          ∙ sym (results-more c.args.values.now c.loop-value.value-index _ c.loop-value-test.true
+          c.value-item.is);
     }

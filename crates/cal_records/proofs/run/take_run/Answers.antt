@@ -16,9 +16,12 @@ loop-channel-preserved g c =
     record {
       numbered = AreNumbered-Grows next.grows _ _ old.numbered;
       grows = Grows-trans _ _ _ old.grows next.grows;
-      taken = taken-more (channel_rows script c.args.journal.now) (has_taken c.args.taker.now c.args.context.now)
+      taken = taken-more (channel_rows script c.args.journal.now)
+          (has_taken c.args.taker.now c.args.context.now)
           (has_taken c.loop-channel.taker c.loop-channel.context)
-          (has_taken c.take_rows_of.new.taker c.take_rows_of.new.context) script.channels i c.channel-item.result
-          (subst (λ (xs : List Channel). i < length xs) c.as_slice-channel-items.ensures c.loop-channel-test.true)
+          (has_taken c.take_rows_of.new.taker c.take_rows_of.new.context) script.channels i
+              c.channel-item.result
+          (subst (λ (xs : List Channel). i < length xs) c.as_slice-channel-items.ensures
+              c.loop-channel-test.true)
           old.taken next.taken;
     }

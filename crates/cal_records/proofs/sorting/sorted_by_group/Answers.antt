@@ -1,4 +1,4 @@
-use Rattle.std.proofs.Common.{arith}
+use Rattle.std.proofs.Common.{arith, rules}
 use Rattle.std.proofs.lemmas.Grind.{common_steps}
 use Rattle.cal_records.proofs.Ranking.{sorted_by_ranks}
 use Rattle.cal_records.proofs.sorting.sorted_by_group.Goals as goal
