@@ -1,5 +1,5 @@
 -- Globals are put into a context, one by one.
-use Rattle.std.proofs.Common.{◌≡◌, ℕ, ◌+◌, ◌<◌, true, false, not, List, [], ◌∷◌, ◌++◌, length}
+use Rattle.std.proofs.Common.{◌≡◌, ℕ, ◌+◌, ◌<◌, true, false, List, [], ◌∷◌, ◌++◌, length}
 use Rattle.std.proofs.Common.{get_or, map, take, filter, refl, sym, ap, ◌∙◌, subst, append-nil}
 use Rattle.std.proofs.Common.{arith}
 use Rattle.std.proofs.lemmas.List.{map-append, take_more}
@@ -31,11 +31,11 @@ means-of t s r nodes imms = record {
 -- the paths and the immediates of globals, with those of one more entry
 one-path : (e : Entry) → is_as_value e.attr.props ≡ false
     → globals_of (e ∷ []) ≡ record { paths = (e ∷ []) ∷ []; imms = [] }
-one-path e no = rw no refl
+one-path e refers = rw refers refl
 
 one-value : (e : Entry) → is_as_value e.attr.props ≡ true
     → globals_of (e ∷ []) ≡ record { paths = []; imms = e ∷ [] }
-one-value e yes = rw yes refl
+one-value e valued = rw valued refl
 
 paths-append : (done more : List Entry)
     → (globals_of (done ++ more)).paths ≡ (globals_of done).paths ++ (globals_of more).paths
@@ -55,8 +55,8 @@ pub global-value : (old new : Tree) (e : Entry) (before now : Snapshot) → Grow
     → now.nodes.items ≡ before.nodes.items
     → AddsImmediate old new e before.imms.items now.imms.items
     → AddsGlobals old new (e ∷ []) before now
-global-value old new e before now grows yes same adds done m =
-    let one = one-value e yes in
+global-value old new e before now grows valued same adds done m =
+    let one = one-value e valued in
     let paths : (globals_of (done ++ e ∷ [])).paths ≡ (globals_of done).paths =
     paths-append done (e ∷ []) ∙ ap (λ (r : Rec). (globals_of done).paths ++ r.paths) one
         ∙ append-nil (globals_of done).paths in
@@ -76,8 +76,8 @@ pub global-path : (old new : Tree) (e : Entry) (before now : Snapshot) → Grows
     → now.imms.items ≡ before.imms.items
     → AddsPath old new (e ∷ []) before.nodes.items now.nodes.items
     → AddsGlobals old new (e ∷ []) before now
-global-path old new e before now grows no same adds done m =
-    let one = one-path e no in
+global-path old new e before now grows refers same adds done m =
+    let one = one-path e refers in
     let paths : (globals_of (done ++ e ∷ [])).paths ≡ (globals_of done).paths ++ (e ∷ []) ∷ [] =
     paths-append done (e ∷ []) ∙ ap (λ (r : Rec). (globals_of done).paths ++ r.paths) one in
     let imms : (globals_of (done ++ e ∷ [])).imms ≡ (globals_of done).imms =

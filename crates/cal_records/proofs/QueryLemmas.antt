@@ -65,9 +65,9 @@ module _ (keys : List (List ℕ)) (aggs : List Agg) (kernel : kernels.KernelName
   pub kept_new : new ≡ true
       → aggs ++ record { kernel = kernel; attr = copied; name = name } ∷ []
       ≡ with_new aggs (agg_of kernel attr)
-  kept_new yes =
+  kept_new fresh =
       (λ i. aggs ++ record { kernel = kernel; attr = same i; name = is i } ∷ [])
-      ∙ sym (cond-false _ _ _ (known ∙ ap not yes))
+      ∙ sym (cond-false _ _ _ (known ∙ ap not fresh))
 
   pub kept_old : new ≡ false → aggs ≡ with_new aggs (agg_of kernel attr)
-  kept_old no = sym (cond-true _ _ _ (known ∙ ap not no))
+  kept_old stale = sym (cond-true _ _ _ (known ∙ ap not stale))

@@ -1,5 +1,5 @@
 -- Rows sorted by what stands beside them are the rows in the order of their groups.
-use Rattle.std.proofs.Common.{◌≡◌, Bool, true, false, List, [], ◌∷◌, map, refl, sym, ap, ◌∙◌, Bor}
+use Rattle.std.proofs.Common.{◌≡◌, Bool, true, false, List, [], ◌∷◌, map, refl, ap, ◌∙◌, Bor}
 use Rattle.std.specs.Cmp.{IsStrictWeakOrder}
 use Rattle.std.specs.Fn.{Called, Mut}
 use Rattle.std.specs.List.Sorted.{IsSortedByClosure, IsStableByClosure}

@@ -1,8 +1,7 @@
 -- Queries that only group, compared part by part.
-use Rattle.std.proofs.Common.{◌≡◌, ℕ, ◌+◌, ◌<◌, List, [], ◌∷◌, ◌++◌, Option, None, length, get_or}
+use Rattle.std.proofs.Common.{◌≡◌, ℕ, ◌+◌, ◌<◌, List, [], ◌∷◌, ◌++◌, None, length, get_or}
 use Rattle.std.proofs.Common.{take, sym, ap, ◌∙◌, arith}
-use Rattle.std.proofs.lemmas.List.{take_all, take_more}
-use Rattle.cal_ql.specs.declared.names.Format as formats
+use Rattle.std.proofs.lemmas.List.{take_more}
 use Rattle.cal_ql.specs.declared.names.Format.TheVariants as format
 use Rattle.cal_ql.specs.declared.query.Agg.{Agg}
 use Rattle.cal_ql.specs.declared.query.Query.{Query}

@@ -14,13 +14,14 @@ takes-none had rs is = subst had (sym (append-nil rs)) is
 
 -- what the items of a list so far give was taken, and so was what the next one gives
 pub taken-more : {A : Type 0} (f : A → List Rec) (had then has : List Rec → Type 0) (xs : List A)
-    (i : ℕ) (d : A) → i < length xs → TakesMore had then (flat_map f (take i xs))
-    → TakesMore then has (f (get_or xs i d)) → TakesMore had has (flat_map f (take (i + 1) xs))
-taken-more f had then has xs i d below so_far next =
-    let more : flat_map f (take (i + 1) xs) ≡ flat_map f (take i xs) ++ f (get_or xs i d) =
-    ap (flat_map f) (take_more xs i d below)
-    ∙ flat_map-append f (take i xs) (get_or xs i d ∷ [])
-    ∙ ap (λ ys. flat_map f (take i xs) ++ ys) (append-nil (f (get_or xs i d))) in
+    (i : ℕ) (x : A) → i < length xs → x ≡ get_or xs i x
+    → TakesMore had then (flat_map f (take i xs)) → TakesMore then has (f x)
+    → TakesMore had has (flat_map f (take (i + 1) xs))
+taken-more f had then has xs i x below is so_far next =
+    let more : flat_map f (take (i + 1) xs) ≡ flat_map f (take i xs) ++ f x =
+    ap (flat_map f) (take_more xs i x below ∙ ap (λ y. take i xs ++ y ∷ []) (sym is))
+    ∙ flat_map-append f (take i xs) (x ∷ [])
+    ∙ ap (λ ys. flat_map f (take i xs) ++ ys) (append-nil (f x)) in
     subst (TakesMore had has) (sym more) (TakesMore-trans had then has _ _ so_far next)
 
 -- the records of a list so far were taken, and so was the next one

@@ -75,7 +75,8 @@ fn group_rows(
         return Err(OutOfMemory);
     }
     let answer = fold.finish(context)?;
-    let rows = sorted_by_group(alloc, query.aggs.as_slice(), answer.rows.rows)?;
+    let records = answer.rows;
+    let rows = sorted_by_group(alloc, query.aggs.as_slice(), records.rows)?;
     Ok(rows)
 }
 

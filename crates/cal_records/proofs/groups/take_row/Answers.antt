@@ -1,4 +1,4 @@
-use Rattle.std.proofs.Common.{[], ◌∷◌, ◌++◌, List, subst}
+use Rattle.std.proofs.Common.{[], ◌∷◌, ◌++◌, subst}
 use Rattle.cal_value.specs.declared.record.Rec.{Rec}
 use Rattle.cal_records.proofs.groups.take_row.Goals as goal
 

@@ -8,5 +8,5 @@ use Rattle.cal_records.proofs.query.kept_aggs.Given as goal
 abbrev pub invariant-loop-value : goal.invariant-loop-value
 invariant-loop-value l = record {
   named : AreNamed l.kept;
-  kept : l.kept.aggs ≡ with_all_new [] (aggs_of (take l.value-index l.values));
+  kept : l.kept.aggs ≡ with_all_new [] (aggs_of (take l.value-index l.fn.values));
 }
