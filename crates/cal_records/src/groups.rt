@@ -21,8 +21,8 @@ use cal_script::{Channel, Journal, Script};
 use cal_value::{OutOfMemory, Rec, Seq};
 use std::alloc::Global;
 
-/// Hands the records of the groups of a channel with aggregate to a taker, in the order of groups. It
-/// takes time in the lines, and n log n comparisons of groups.
+/// Hands the records of the groups of a channel with aggregate to a taker, in the order of groups.
+/// It takes time in the lines, and n log n comparisons of groups.
 pub(crate) fn take_groups<T: Taker>(
     alloc: Global,
     script: &Script,
