@@ -1,0 +1,30 @@
+-- What is taken in several steps.
+use Rattle.std.proofs.Common.{◌≡◌, ℕ, ◌+◌, ◌<◌, List, [], ◌∷◌, ◌++◌, length, get_or, take, sym, ap, subst, ◌∙◌, append-nil}
+use Rattle.std.specs.List.{flat_map}
+use Rattle.std.proofs.lemmas.Grind.{flat_map-append}
+use Rattle.std.proofs.lemmas.List.{take_more}
+use Rattle.cal_context.proofs.CallerLemmas.{TakesMore-trans}
+use Rattle.cal_context.specs.Taking.{TakesMore}
+use Rattle.cal_value.specs.declared.record.Rec.{Rec}
+
+-- nothing was taken
+pub takes-none : (had : List Rec → Type 0) → TakesMore had had []
+takes-none had rs is = subst had (sym (append-nil rs)) is
+
+-- what the items of a list so far give was taken, and so was what the next one gives
+pub taken-more : {A : Type 0} (f : A → List Rec) (had then has : List Rec → Type 0) (xs : List A)
+    (i : ℕ) (d : A) → i < length xs → TakesMore had then (flat_map f (take i xs))
+    → TakesMore then has (f (get_or xs i d)) → TakesMore had has (flat_map f (take (i + 1) xs))
+taken-more f had then has xs i d below so_far next =
+    let more : flat_map f (take (i + 1) xs) ≡ flat_map f (take i xs) ++ f (get_or xs i d) =
+    ap (flat_map f) (take_more xs i d below)
+    ∙ flat_map-append f (take i xs) (get_or xs i d ∷ [])
+    ∙ ap (λ ys. flat_map f (take i xs) ++ ys) (append-nil (f (get_or xs i d))) in
+    subst (TakesMore had has) (sym more) (TakesMore-trans had then has _ _ so_far next)
+
+-- the records of a list so far were taken, and so was the next one
+pub record-more : (had then has : List Rec → Type 0) (rs : List Rec) (i : ℕ) (r : Rec) → i < length rs → r ≡ get_or rs i r
+    → TakesMore had then (take i rs) → TakesMore then has (r ∷ []) → TakesMore had has (take (i + 1) rs)
+record-more had then has rs i r below is so_far next =
+    let all : take (i + 1) rs ≡ take i rs ++ r ∷ [] = take_more rs i r below ∙ ap (λ x. take i rs ++ x ∷ []) (sym is) in
+    subst (TakesMore had has) (sym all) (TakesMore-trans had then has _ _ so_far next)

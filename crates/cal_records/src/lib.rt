@@ -1,0 +1,19 @@
+//! The records of a run: the traces and the groups that a script and a journal give.
+//!
+//! `take_run` hands them to a taker as they come, channel by channel; the layer above uses that
+//! the taker has then taken the rows of the run (`run_rows`), and `put_globals` the globals.
+//! `run_records` gives them with entries of their own. Nothing is promised of a taker that ran
+//! out of memory.
+#![tactic(auto)]
+
+mod globals;
+mod groups;
+mod interning;
+mod query;
+mod run;
+mod same;
+mod sorting;
+
+pub use globals::put_globals;
+pub use query::channel_query;
+pub use run::{run_records, take_run};
