@@ -1,7 +1,11 @@
+ghost use Rattle.std.specs.Prelude.{◌≡◌, ℕ};
+ghost use Rattle.cal_journal.specs.declared.kind.JournalKind.{JournalKind};
+ghost use Rattle.cal_run.specs.Broken.{IsFirstBroken, IsLawfulText};
 ghost use Rattle.cal_run.specs.Lawful.{Lawful};
 ghost use Rattle.cal_run.specs.Plain.{plain};
 ghost use Rattle.cal_run.specs.Seeing.{CanBeRead};
 ghost use Rattle.cal_script.specs.declared.journal.Journal.{Journal};
+ghost use Rattle.cal_script.specs.declared.journal.JournalText.{JournalText};
 ghost use Rattle.cal_script.specs.declared.script.Script.{Script};
 
 /// The law of lawful journals: a run can be read off each of them.
@@ -14,4 +18,13 @@ pub fn lawful_journal_law()
 pub fn plain_journal_law()
     ensures lawful { (script : Script) → Lawful script (plain script) }
     ensures read { (script : Script) → CanBeRead script (plain script) }
+{}
+
+/// The law of broken rules: a lawful journal breaks none, and no journal has two first broken ones.
+pub fn first_broken_law()
+    ensures lawful { (script : Script) (text : JournalText) (rule : JournalKind) (line : ℕ)
+        → IsLawfulText script text → ¬ IsFirstBroken script text rule line }
+    ensures one { (script : Script) (text : JournalText) (rule other : JournalKind)
+        (line place : ℕ) → IsFirstBroken script text rule line
+        → IsFirstBroken script text other place → (rule ≡ other) × (line ≡ place) }
 {}

@@ -35,7 +35,7 @@ mod watch;
 
 pub use end::CoreEnd;
 pub use lawful::check_journal;
-pub use laws::{lawful_journal_law, plain_journal_law};
+pub use laws::{first_broken_law, lawful_journal_law, plain_journal_law};
 pub use numbers::{EventNumbers, Numbers};
 pub use operation::{Operation, operation_of};
 pub use plain::plain_journal;
