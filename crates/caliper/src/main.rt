@@ -17,7 +17,7 @@ mod outcome;
 mod query;
 mod report;
 mod run;
-mod run_text;
+mod running;
 mod serial;
 mod serve;
 #[cfg(test)]
@@ -30,7 +30,7 @@ pub use fault::{Fault, InputKind};
 pub use outcome::Outcome;
 pub use report::put_fault;
 pub use run::{INPUT_LIMIT, run};
-pub use run_text::run_text;
+pub use running::run_text;
 pub use serve::serve;
 use std::io;
 use std::process::ExitCode;

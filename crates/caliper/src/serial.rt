@@ -11,7 +11,7 @@ ghost use Rattle.caliper.specs.Tasks.{SerialTask};
 use crate::counting::count_refused;
 use crate::journal::journal_to_use;
 use crate::outcome::Ended;
-use crate::run_text::run_text;
+use crate::running::run_text;
 use crate::{Fault, INPUT_LIMIT, InputKind};
 use cal_base::{ReadEnd, Sink, Source, read_all};
 use cal_journal::{BothEnd, read_both};
