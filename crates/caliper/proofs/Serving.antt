@@ -1,34 +1,21 @@
--- What `serial` answers, by what its run made.
-use Rattle.std.proofs.Common.{◌≡◌, ℕ, ◌<◌, ◌⊎◌, inl, inr, List, refl, sym, subst, arith}
+-- Why `serial` answers a fault behind the reading.
+use Rattle.std.proofs.Common.{ℕ, inr, List}
 use Rattle.std.specs.Prelude.{Option, Some, None}
 use Rattle.cal_base.specs.Change.{Change}
-use Rattle.cal_base.specs.ReadEnds.{ReadsAll}
 use Rattle.cal_journal.specs.Both.{MeansBoth}
-use Rattle.cal_records.specs.Records.{records_of}
-use Rattle.cal_run.specs.Broken.{IsFirstBroken}
 use Rattle.cal_script.specs.declared.journal.Journal.{Journal}
 use Rattle.cal_script.specs.declared.journal.JournalText.{JournalText}
 use Rattle.cal_script.specs.declared.script.Script.{Script}
-use Rattle.cal_write.specs.CanonicalText.{canonical_text}
-use Rattle.caliper.specs.Causes.{Causes, ReadsInput, input_limit}
-use Rattle.caliper.specs.Inputs.{Makes}
-use Rattle.caliper.specs.Runs.{CannotUse, Uses}
+use Rattle.caliper.specs.Causes.{Causes, ReadsInput}
+use Rattle.caliper.specs.Runs.{CannotUse}
 use Rattle.caliper.specs.Tasks.{SerialTask}
 use Rattle.caliper.specs.declared.fault.Fault as faults
 use Rattle.caliper.specs.declared.fault.Fault.TheVariants as fault
 use Rattle.caliper.specs.declared.fault.InputKind.TheVariants as kind
 
 module _ (input : Change) (script : Script) where
-  -- a run's text was made of the bytes that were read
-  pub makes : (behind : Option JournalText) (journal : Journal) (text : List ℕ)
-      → ReadsInput input (λ bytes. MeansBoth bytes (script, behind)) → Uses script behind journal
-      → text ≡ canonical_text (records_of script journal)
-      → ReadsInput input (λ bytes. Makes SerialTask bytes text journal)
-  makes behind journal text reads uses is = (reads.0, reads.1, script,
-    record { behind = behind; means = reads.2; uses = uses }, is)
-
   -- memory ran out behind the reading
-  pub ran_out : (P : List ℕ → Type 0) (output : Change) (journal : Journal) → ReadsInput input P
+  ran_out : (P : List ℕ → Type 0) (output : Change) (journal : Journal) → ReadsInput input P
       → Causes SerialTask input output journal fault.OutOfMemory
   ran_out P output journal reads = (reads.0, reads.1.within, reads.1.taken)
 
