@@ -16,7 +16,8 @@ HasBytes lines = (front : List ℕ) × (lines_of front ≡ lines)
 
 take-onto_first : (byte n : ℕ) (lines : List (List ℕ))
     → take (suc n) (onto_first byte lines) ≡ onto_first byte (take (suc n) lines)
-take-onto_first byte n [] = refl
+take-onto_first byte zero [] = refl
+take-onto_first byte (suc n) [] = refl
 take-onto_first byte n (line ∷ lines) = refl
 
 -- a byte in front of the bytes of some first lines

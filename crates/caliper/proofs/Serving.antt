@@ -24,15 +24,15 @@ module _ (input : Change) (script : Script) where
       → ReadsInput input (λ bytes. MeansBoth bytes (script, behind)) → CannotUse script behind f
       → (output : Change) (journal : Journal) → Causes SerialTask input output journal f
   cannot_use (Some text) (fault.BadInput line (kind.Journal rule)) reads cannot output journal =
-      (reads.0, reads.1, inr (record { script = script; text = text; means = reads.2; broken = cannot }))
-  cannot_use (Some text) (fault.BadInput line (kind.Script k)) reads cannot output journal = absurd cannot
-  cannot_use (Some text) (fault.BadInput line (kind.Stream k)) reads cannot output journal = absurd cannot
-  cannot_use None (fault.BadInput line k) reads cannot output journal = absurd cannot
-  cannot_use behind fault.OutOfMemory reads cannot output journal =
-      ran_out (λ bytes. MeansBoth bytes (script, behind)) output journal reads
-  cannot_use behind (fault.LinesRefused lines) reads cannot output journal = absurd cannot
-  cannot_use behind (fault.Usage word) reads cannot output journal = absurd cannot
-  cannot_use behind (fault.BadQuery place k) reads cannot output journal = absurd cannot
-  cannot_use behind fault.ReadFault reads cannot output journal = absurd cannot
-  cannot_use behind fault.WriteFault reads cannot output journal = absurd cannot
-  cannot_use behind fault.TooLong reads cannot output journal = absurd cannot
+      (reads.0, reads.1, inr (record {
+        script = script;
+        text = text;
+        means = reads.2;
+        broken = cannot;
+      }))
+  cannot_use (Some text) fault.OutOfMemory reads cannot output journal =
+      ran_out (λ bytes. MeansBoth bytes (script, Some text)) output journal reads
+  cannot_use (Some text) f reads cannot output journal = absurd cannot
+  cannot_use None fault.OutOfMemory reads cannot output journal =
+      ran_out (λ bytes. MeansBoth bytes (script, None)) output journal reads
+  cannot_use None f reads cannot output journal = absurd cannot
