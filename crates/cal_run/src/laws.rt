@@ -20,11 +20,12 @@ pub fn plain_journal_law()
     ensures read { (script : Script) → CanBeRead script (plain script) }
 {}
 
-/// The law of broken rules: a lawful journal breaks none, and no journal has two first broken ones.
+/// The law of the first broken rule: one thing is said of a journal. A lawful one breaks no rule, and
+/// another breaks one rule first, on one line.
 pub fn first_broken_law()
     ensures lawful { (script : Script) (text : JournalText) (rule : JournalKind) (line : ℕ)
         → IsLawfulText script text → ¬ IsFirstBroken script text rule line }
-    ensures one { (script : Script) (text : JournalText) (rule other : JournalKind)
-        (line place : ℕ) → IsFirstBroken script text rule line
-        → IsFirstBroken script text other place → (rule ≡ other) × (line ≡ place) }
+    ensures one { (script : Script) (text : JournalText) (rule other : JournalKind) (line place : ℕ)
+        → IsFirstBroken script text rule line → IsFirstBroken script text other place
+        → (rule ≡ other) × (line ≡ place) }
 {}

@@ -207,7 +207,7 @@ fault_and_run law bytes script journal line (kind.Script k) f x =
     script_falls (lines_of bytes) line k f (stands (lines_of bytes) script x.means.script)
 fault_and_run law bytes script journal line (kind.Journal k) f x = elim f [
   | inl form ↦ fault_and_text (script_length (lines_of bytes)) (journal_lines (lines_of bytes)) line k
-    x.behind form.1 x.means.journal
+      x.behind form.1 x.means.journal
   | inr broken ↦ run_broken law bytes script journal line k broken x
 ]
 fault_and_run law bytes script journal line (kind.Stream k) f x = f
@@ -244,7 +244,7 @@ one_journal_fault : IsOneRule → (bytes : List ℕ) (line other : ℕ) (k j : J
 one_journal_fault law bytes line other k j f g = elim f [
   | inl form ↦ elim g [
     | inl also ↦ one_fault_behind (script_length (lines_of bytes)) (journal_lines (lines_of bytes))
-      line other k j form.1 also.1
+        line other k j form.1 also.1
     | inr broken ↦ absurd (form_and_rule bytes line other k j form.1 broken)
   ]
   | inr broken ↦ elim g [

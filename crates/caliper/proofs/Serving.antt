@@ -23,13 +23,16 @@ module _ (input : Change) (script : Script) where
   pub cannot_use : (behind : Option JournalText) (f : faults.Fault)
       → ReadsInput input (λ bytes. MeansBoth bytes (script, behind)) → CannotUse script behind f
       → (output : Change) (journal : Journal) → Causes SerialTask input output journal f
-  cannot_use (Some text) (fault.BadInput line (kind.Journal rule)) reads cannot output journal =
-      (reads.0, reads.1, inr (record {
-        script = script;
-        text = text;
-        means = reads.2;
-        broken = cannot;
-      }))
+  cannot_use (Some text) (fault.BadInput line (kind.Journal rule)) reads cannot output journal = (
+    reads.0,
+    reads.1,
+    inr (record {
+      script = script;
+      text = text;
+      means = reads.2;
+      broken = cannot;
+    }),
+  )
   cannot_use (Some text) fault.OutOfMemory reads cannot output journal =
       ran_out (λ bytes. MeansBoth bytes (script, Some text)) output journal reads
   cannot_use (Some text) f reads cannot output journal = absurd cannot

@@ -20,5 +20,12 @@ overflow_add-refused c =
     let refuses = λ (n : LineNote). is_refusal n.reply in
     let part = sum_by_more_le_part refused_of count threads place thread within
     (λ t. count_by-le-length refuses t.lines) in
-    omega (arith, part, ap count at, count_by-le-length refuses thread.lines,
-    c.loop-thread.invariant, c.count_in-refused.ensures, c.requires)
+    omega (
+      arith,
+      part,
+      ap count at,
+      count_by-le-length refuses thread.lines,
+      c.loop-thread.invariant,
+      c.count_in-refused.ensures,
+      c.requires,
+    )
