@@ -1,6 +1,7 @@
 -- The bytes of an input decide the answer: they have one first fault or a text, and not both.
-use Rattle.std.proofs.Common.{◌≡◌, ℕ, ◌<◌, ◌≤◌, ◌⊎◌, inl, inr, List, [], length, length-append, lit≤, Option, Some, None, IfSome, Result, Ok, Err, refl, sym, ap, subst, ◌∙◌, arith}
-use Rattle.std.specs.Option.{IsSomeAnd, IsNone}
+use Rattle.std.proofs.Common.{◌≡◌, ℕ, ◌<◌, ◌≤◌, inl, inr, List, [], length, length-append, lit≤}
+use Rattle.std.proofs.Common.{Option, Some, None, IfSome, Result, Ok, Err, refl, sym, ap, subst}
+use Rattle.std.proofs.Common.{◌∙◌, arith}
 use Rattle.std.proofs.lemmas.Option.{IfSome_then}
 use Rattle.cal_base.specs.Change.{Change, HasFailed}
 use Rattle.cal_base.specs.Told.{TakesOver}
@@ -11,7 +12,8 @@ use Rattle.cal_input.specs.FirstFault.{after_lines}
 use Rattle.cal_line.specs.Lines as lines
 use Rattle.cal_read.specs.Stream.{line_step, no_lines}
 use Rattle.cal_script.specs.declared.journal.Journal.{Journal}
-use Rattle.caliper.specs.Causes.{input_limit, Answers, BytesDecide, HasFault, HasText, IsDue, ReadsInput}
+use Rattle.caliper.specs.Causes.{input_limit, Answers, BytesDecide, HasFault, HasText, IsDue}
+use Rattle.caliper.specs.Causes.{ReadsInput}
 use Rattle.caliper.specs.Causes.{Stops, WorksOn, bytes_for}
 use Rattle.caliper.specs.Inputs.{IsFaultOf, Makes}
 use Rattle.caliper.specs.Refusals.{refused_lines}

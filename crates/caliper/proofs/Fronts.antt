@@ -1,12 +1,11 @@
 -- The script in front of a journal is one that some bytes mean, so it can be run.
-use Rattle.std.proofs.Common.{◌≡◌, ℕ, zero, suc, Bool, true, false, cond, eqb, List, [], ◌∷◌, take, refl, ap, sym, subst, ◌∙◌}
-use Rattle.std.specs.Prelude.{Option, Ok}
+use Rattle.std.proofs.Common.{◌≡◌, ℕ, zero, suc, Bool, true, false, cond, eqb, List, [], ◌∷◌, take}
+use Rattle.std.proofs.Common.{refl, ap, sym, ◌∙◌}
+use Rattle.std.specs.Prelude.{Option}
 use Rattle.std.specs.List.{onto_first}
 use Rattle.cal_journal.specs.Both.{MeansBoth, script_length}
-use Rattle.cal_input.specs.FirstFault.{after_lines}
 use Rattle.cal_script.specs.Lines.{lines_of}
-use Rattle.cal_script.specs.Reading.{IsValidScript, line_after, meaning}
-use Rattle.cal_script.specs.State.{no_lines, script_of}
+use Rattle.cal_script.specs.Reading.{IsValidScript}
 use Rattle.cal_script.specs.declared.journal.JournalText.{JournalText}
 use Rattle.cal_script.specs.declared.script.Script.{Script}
 

@@ -1,10 +1,12 @@
 -- Bytes that mean a script, with a journal or none, mean one run, or have one first fault.
-use Rattle.std.proofs.Common.{◌≡◌, ◌≢◌, ℕ, zero, suc, ◌+◌, ◌-◌, ◌<◌, ◌⊎◌, inl, inr, List, [], ◌∷◌, length, refl, sym, ap, ◌∙◌, arith}
-use Rattle.std.specs.Prelude.{Option, Some, None, Result, Ok, Err}
+use Rattle.std.proofs.Common.{◌≡◌, ◌≢◌, ℕ, zero, suc, ◌+◌, ◌-◌, ◌<◌, ◌⊎◌, inl, inr, List, []}
+use Rattle.std.proofs.Common.{length, refl, sym, ap, ◌∙◌, arith}
+use Rattle.std.specs.Prelude.{Option, Some, None, Ok, Err}
 use Rattle.cal_input.specs.FirstFault.{after_lines, IsFirstFault}
 use Rattle.cal_input.proofs.FirstFaults.{falls_whole, one_first}
 use Rattle.cal_journal.specs.Both.{HasFaultBehind, HasScriptFault, MeansBoth, SaysJournalBehind}
-use Rattle.cal_journal.specs.Both.{SaysScript, StandsScript, journal_lines, script_length, script_lines}
+use Rattle.cal_journal.specs.Both.{SaysScript, StandsScript, journal_lines, script_length}
+use Rattle.cal_journal.specs.Both.{script_lines}
 use Rattle.cal_journal.specs.Reading.{State, begin_at, journal_of, line_after}
 use Rattle.cal_journal.specs.declared.kind.JournalKind.{JournalKind}
 use Rattle.cal_journal.specs.declared.kind.JournalKind.TheVariants as journal_kind
@@ -22,7 +24,8 @@ use Rattle.caliper.specs.declared.fault.InputKind.TheVariants as kind
 
 -- ---- the script
 
-one_script : (lines : List (List ℕ)) (a b : Script) → SaysScript lines a → SaysScript lines b → a ≡ b
+one_script : (lines : List (List ℕ)) (a b : Script) → SaysScript lines a → SaysScript lines b
+    → a ≡ b
 one_script lines a b x y =
     let state : x.0 ≡ y.0 = cc (x.1, y.1) in x.2 ∙ ap states.script_of state ∙ sym y.2
 
@@ -90,7 +93,8 @@ module _ (before : ℕ) (lines : List (List ℕ)) where
   falls_all line k f = falls_whole line_after (begin_at before) lines (line - before) k f
 
   -- a first fault is at a line
-  at_a_line : (n : ℕ) (k : JournalKind) → IsFirstFault line_after (begin_at before) lines n k → 0 < n
+  at_a_line : (n : ℕ) (k : JournalKind) → IsFirstFault line_after (begin_at before) lines n k
+      → 0 < n
   at_a_line zero k f = let stands = f.stands in let falls = f.falls in absurd (cc (stands, falls))
   at_a_line (suc n) k f = omega arith
 
@@ -177,7 +181,8 @@ uses_same script None (Some b) j k is u v = absurd (cc is)
 uses_same script (Some a) None j k is u v = absurd (cc is)
 
 -- bytes say one run
-pub one_run : (bytes : List ℕ) (a b : Script) (j k : Journal) → SaysRun bytes a j → SaysRun bytes b k
+pub one_run : (bytes : List ℕ) (a b : Script) (j k : Journal) → SaysRun bytes a j
+    → SaysRun bytes b k
     → (a ≡ b) × (j ≡ k)
 one_run bytes a b j k x y =
     let both = one_both bytes a b x.behind y.behind x.means y.means in

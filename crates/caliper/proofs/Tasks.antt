@@ -1,5 +1,6 @@
 -- What is answered where the text of a query is refused, or memory runs out while it is read.
-use Rattle.std.proofs.Common.{◌≡◌, ◌⊎◌, ℕ, Bool, List, [], Option, Some, None, Result, Ok, Err, refl, sym, subst, arith, inl, inr}
+use Rattle.std.proofs.Common.{◌≡◌, ◌⊎◌, ℕ, Bool, List, [], Option, Some, None, Result, Ok, Err}
+use Rattle.std.proofs.Common.{refl, sym, subst, arith, inl, inr}
 use Rattle.std.specs.Prelude.{String, IsErr}
 use Rattle.std.specs.Global.{Global}
 use Rattle.cal_base.specs.Change.{Change}

@@ -1,5 +1,6 @@
 -- What a call answers, and why, by what it did to the input and the output that it was lent.
-use Rattle.std.specs.Prelude.{◌≡◌, ◌≢◌, ◌⊎◌, ℕ, ◌<◌, ◌≤◌, ◌↔◌, List, [], length, Option, None, Some, IfSome, Result, Ok, Err}
+use Rattle.std.specs.Prelude.{◌≡◌, ◌≢◌, ◌⊎◌, ℕ, ◌<◌, ◌≤◌, ◌↔◌, List, [], length, Option, None, Some}
+use Rattle.std.specs.Prelude.{IfSome, Result, Ok, Err}
 use Rattle.cal_base.specs.Change.{Change, HasFailed}
 use Rattle.cal_base.specs.ReadEnds.{ReadsAll, StopsAt}
 use Rattle.cal_base.specs.Told.{Appends, AppendsFront}
@@ -42,8 +43,8 @@ WritesFront task input output journal = WorksOn task input (λ bytes.
     (text : List ℕ) × Makes task bytes text journal × AppendsFront output.old output.new text)
 
 -- Which fault has which cause, where the words ask for a task (ours). Where lines were refused, the
--- text was written whole. None is Usage or BadQuery; and of want of memory it says only that no more
--- than the limit was read.
+-- text was written whole. None is Usage or BadQuery; and of want of memory it says only that no
+-- more than the limit was read.
 abbrev pub Causes : Task → Change → Change → Journal → faults.Fault → Type 0
 Causes task input output journal (fault.LinesRefused lines) =
     Writes task input output journal × (lines ≡ refused_lines journal) × (0 < lines)
@@ -79,8 +80,8 @@ HasText task bytes refused = (length bytes ≤ input_limit)
     × (text : List ℕ) × (journal : Journal) × Makes task bytes text journal
     × (refused_lines journal ≡ refused)
 
--- The answer is the one that these bytes call for: they are too many, or have a first fault, or a text,
--- which is written whole unless the output fails, and then lines were refused or none.
+-- The answer is the one that these bytes call for: they are too many, or have a first fault, or a
+-- text, which is written whole unless the output fails, and then lines were refused or none.
 pub record IsDue (task : Task) (bytes : List ℕ) (output : Change)
     (answer : Option faults.Fault) : Type 0 where
   pub too_long : (answer ≡ Some fault.TooLong) ↔ (input_limit < length bytes)
@@ -95,8 +96,8 @@ abbrev pub bytes_for : Task → Change → Option (List ℕ)
 bytes_for (GenTask seed threads lines) input = Some []
 bytes_for _ input = input.old
 
--- Where memory doesn't run out, a text that is refused decides the answer; and where a task is asked
--- for and the input doesn't fail, the bytes of an input that tells them do.
+-- Where memory doesn't run out, a text that is refused decides the answer; and where a task is
+-- asked for and the input doesn't fail, the bytes of an input that tells them do.
 abbrev pub BytesDecide : Result Task Refusal → Change → Change → Option faults.Fault → Type 0
 BytesDecide (Err (by_word place)) input output answer = Unit {0}
 BytesDecide (Err (by_text f)) input output answer =

@@ -1,5 +1,6 @@
 -- What a fault is told as (ours).
-use Rattle.std.specs.Prelude.{ℕ, ◌+◌, Bool, true, false, List, [], ◌++◌, Option, Some, None, codes, decimal}
+use Rattle.std.specs.Prelude.{ℕ, ◌+◌, Bool, true, false, List, [], ◌++◌, Option, Some, None, codes}
+use Rattle.std.specs.Prelude.{decimal}
 use Rattle.cal_ql.specs.Kinds as text
 use Rattle.cal_read.specs.Kinds as stream
 use Rattle.cal_script.specs.Kinds as script

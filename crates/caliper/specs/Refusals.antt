@@ -1,5 +1,5 @@
 -- Which lines of a journal were refused. (Giltmoth's rule.)
-use Rattle.std.specs.Prelude.{ℕ, ◌≤◌, Bool, true, false, List, [], length, sum_by, count_by}
+use Rattle.std.specs.Prelude.{ℕ, ◌≤◌, Bool, true, false, [], length, sum_by, count_by}
 use Rattle.cal_script.specs.declared.journal.Journal.{Journal}
 use Rattle.cal_script.specs.declared.journal.Reply as replies
 use Rattle.cal_script.specs.declared.journal.Reply.TheVariants as reply

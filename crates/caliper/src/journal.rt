@@ -8,8 +8,8 @@ use cal_run::{CoreEnd, check_journal, lawful_journal_law, plain_journal, plain_j
 use cal_script::{Journal, JournalText, Script};
 use std::alloc::Global;
 
-/// The journal that a run uses: the one behind its script, which is to be lawful, or else that of the
-/// threads one after another.
+/// The journal that a run uses: the one behind its script, which is to be lawful, or else that of
+/// the threads one after another.
 pub fn journal_to_use(
     alloc: Global,
     script: &Script,

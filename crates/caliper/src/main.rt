@@ -1,9 +1,10 @@
 //! The program `caliper`: its top call `run`, and the words, faults and texts that a person meets.
 //!
-//! What stands on `run` is the promise of the whole program: with status 0 or 1 the output has grown
-//! by exactly the text that the command makes of its input, as `serial` the records of the run that a
-//! script and its journal give, and every other status has its cause. What standard input holds, and
-//! where standard output leads, no contract can say: `main` only lends them to `serve`.
+//! What stands on `run` is the promise of the whole program: with status 0 or 1 the output has
+//! grown by exactly the text that the command makes of its input, as `serial` the records of the
+//! run that a script and its journal give, and every other status has its cause. What standard
+//! input holds, and where standard output leads, no contract can say: `main` only lends them to
+//! `serve`.
 #![tactic(auto)]
 
 mod about;

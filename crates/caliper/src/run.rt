@@ -20,10 +20,10 @@ pub const INPUT_LIMIT: u64 = 268_435_456;
 
 /// Does what the words ask for. It reads the input to its end, makes the whole text, and only then
 /// writes it on the output; where it does less, or a line of a run was refused, the fault says why,
-/// and its line is put on `errors`. What is asked first is refused first: the words, then the text of
-/// a query, then reading, then the script and the journal or the stream, then writing; memory may be
-/// refused at any point before the first byte is written. It takes time in the bytes of the input and
-/// the text, and for each channel in the lines of a script.
+/// and its line is put on `errors`. What is asked first is refused first: the words, then the text
+/// of a query, then reading, then the script and the journal or the stream, then writing; memory
+/// may be refused at any point before the first byte is written. It takes time in the bytes of the
+/// input and the text, and for each channel in the lines of a script.
 pub fn run<S: Source, W: Sink, E: Sink>(
     alloc: Global,
     words: &[String],

@@ -7,6 +7,7 @@ use Rattle.caliper.proofs.counting.count_in.Given as goal
 -- the notes so far
 abbrev pub invariant-loop-note : goal.invariant-loop-note
 invariant-loop-note l = record {
-  counted : l.refused ≡ count_by (λ (n : LineNote). is_refusal n.reply) (take l.note-index l.thread.lines);
+  counted : l.refused ≡ count_by (λ (n : LineNote). is_refusal n.reply)
+      (take l.note-index l.thread.lines);
   few : l.refused ≤ l.note-index;
 }
