@@ -1,9 +1,11 @@
 -- What is answered where the text of a query is refused, or memory runs out while it is read.
-use Rattle.std.proofs.Common.{◌≡◌, ◌⊎◌, ℕ, Bool, List, [], Option, Some, None, Result, Ok, Err, refl, sym, subst, arith, inl, inr}
+use Rattle.std.proofs.Common.{◌≡◌, ◌⊎◌, ℕ, Bool, List, [], Option, Some, None, Result, Ok, Err}
+use Rattle.std.proofs.Common.{refl, sym, subst, arith, inl, inr}
 use Rattle.std.specs.Prelude.{String, IsErr}
 use Rattle.std.specs.Global.{Global}
 use Rattle.cal_base.specs.Change.{Change}
 use Rattle.cal_base.specs.Told.{Takes, TakesUpTo}
+use Rattle.cal_script.specs.declared.journal.Journal.{Journal}
 use Rattle.cal_ql.specs.Clauses.{reading}
 use Rattle.cal_ql.specs.Tokens.{Fault}
 use Rattle.cal_ql.specs.declared.query.Query.{Query}
@@ -22,23 +24,23 @@ takes_nothing (Some left) = refl
 pub nothing_read : (limit : ℕ) (told : Option (List ℕ)) → TakesUpTo limit told told
 nothing_read limit told = ([], omega arith, takes_nothing told)
 
-module _ (input output : Change) (same : input.new ≡ input.old) where
+module _ (input output : Change) (journal : Journal) (same : input.new ≡ input.old) where
   ran_out : (join : Bool) (read : Result Query Fault)
-      → Answers (query_task join read) input output (Some fault.OutOfMemory)
+      → Answers (query_task join read) input output journal (Some fault.OutOfMemory)
   ran_out join (Err found) = inr refl
   ran_out join (Ok query) =
       subst (λ (new : Option (List ℕ)). TakesUpTo input_limit input.old new) (sym same)
       (nothing_read input_limit input.old)
 
   told : (tasked : Result Task Refusal) (f : faults.Fault) → tasked ≡ Err (by_text f)
-      → Answers tasked input output (Some f)
+      → Answers tasked input output journal (Some f)
   told tasked f is = rw is (inl refl)
 
   -- the text of a query is refused, or memory ran out
   pub text_refused : (words : List (String Global)) (q : Option ℕ) (join : Bool) (f : faults.Fault)
       → (f ≡ fault.OutOfMemory)
       ⊎ ((j : Bool) → task_of words (command.Query q j) ≡ Err (by_text f))
-      → Answers (task_of words (command.Query q join)) input output (Some f)
+      → Answers (task_of words (command.Query q join)) input output journal (Some f)
   text_refused words q join f (inl memory) =
       rw memory (ran_out join (reading (text_at words q)))
   text_refused words q join f (inr refused) =

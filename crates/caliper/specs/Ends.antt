@@ -1,5 +1,6 @@
 -- How a call of the program ends, and what a person is told.
-use Rattle.std.specs.Prelude.{◌≡◌, ℕ, ◌≤◌, List, map, Option, None, Some, IfSome, IsNone, String, string_bytes}
+use Rattle.std.specs.Prelude.{◌≡◌, ℕ, ◌≤◌, List, map, Option, None, Some, IfSome, IsNone, String}
+use Rattle.std.specs.Prelude.{string_bytes}
 use Rattle.std.specs.Global.{Global}
 use Rattle.cal_base.specs.Change.{Change, HasFailed}
 use Rattle.cal_base.specs.Told.{Appends, AppendsFront}
@@ -7,6 +8,7 @@ use Rattle.caliper.specs.Causes.{Answers, BytesDecide}
 use Rattle.caliper.specs.Faults.{report_of, status_of}
 use Rattle.caliper.specs.Tasks.{tasked}
 use Rattle.caliper.specs.Words.{told_about}
+use Rattle.cal_script.specs.declared.journal.Journal.{Journal}
 use Rattle.caliper.specs.declared.fault.Fault as faults
 use Rattle.caliper.specs.declared.fault.Fault.TheVariants.{WriteFault}
 
@@ -27,11 +29,12 @@ Shows text output (Some f) =
 pub record Serves (help version : List ℕ) (words : List (String Global)) (status : ℕ)
     (input output errors : Change) : Type 0 where
   pub answer : Option faults.Fault
+  pub journal : Journal
   pub meant : status ≡ status_of answer
   pub told : Tells (report_of answer) errors
   pub shown : IfSome (told_about help version (map string_bytes words)) (λ text.
       Shows text output answer)
   pub ran : IsNone (told_about help version (map string_bytes words))
-      → Answers (tasked words) input output answer
+      → Answers (tasked words) input output journal answer
   pub decided : IsNone (told_about help version (map string_bytes words))
       → BytesDecide (tasked words) input output answer

@@ -1,8 +1,9 @@
 pub mod GenWords
 pub mod Words
 pub mod Tasks
-pub mod Texts
 pub mod Faults
+pub mod Refusals
+pub mod Runs
 pub mod Inputs
 pub mod Causes
 pub mod Ends

@@ -8,7 +8,8 @@ caliper: runs annotation scripts and queries their .cali streams, in whole numbe
 
 usage: caliper COMMAND < INPUT > OUTPUT
 
-    serial      reads a script, and writes the .cali text of its records, the threads one after another
+    serial      reads a script and a journal behind it, or none, and writes the .cali text of the
+                run; without a journal its threads run one after another
     query [--q=TEXT] [--globals=off|join]
                 reads a .cali stream, and writes the answer of the query TEXT over its rows, a line
                 for each; with join the globals stand at the end of each row that the query sees
@@ -19,7 +20,8 @@ usage: caliper COMMAND < INPUT > OUTPUT
     --version   the version, and what it is proved with
 
 A fault is told on standard error, and by the status. The guide is the README of the repository;
-docs/FORMATS.md there has the scripts, the streams and the faults, docs/CALQL.md the queries.
+docs/FORMATS.md there has the scripts, the journals, the streams and the faults, docs/RUNS.md the
+runs, docs/CALQL.md the queries.
 ";
 
 /// What `--version` tells: the version, and the logic by which the proofs were checked. Kits of the

@@ -1,13 +1,16 @@
 ghost use Rattle.std.specs.Prelude.{◌≡◌, Some};
 ghost use Rattle.caliper.specs.Faults.{input_kind_name, status_of};
 
-use cal_first_form::ScriptKind;
+use cal_journal::JournalKind;
 use cal_ql::QueryKind;
 use cal_read::StreamKind;
+use cal_script::ScriptKind;
 
-/// Why a call wrote less than it was asked for.
+/// Why a call wrote less than it was asked for, or that lines of its run were refused.
 #[derive(Clone, Copy, Debug, PartialEq, Eq)]
 pub enum Fault {
+    /// The text was written whole, and so many lines of the run were refused.
+    LinesRefused { lines: u64 },
     /// The words break the word rule: the place, from 0, of the first that does, or the number of
     /// words where one is missing.
     Usage { word: u32 },
@@ -26,6 +29,7 @@ pub enum Fault {
 #[derive(Clone, Copy, Debug, PartialEq, Eq)]
 pub enum InputKind {
     Script(ScriptKind),
+    Journal(JournalKind),
     Stream(StreamKind),
 }
 
@@ -36,6 +40,7 @@ impl InputKind {
     {
         match self {
             InputKind::Script(kind) => kind.name(),
+            InputKind::Journal(kind) => kind.name(),
             InputKind::Stream(kind) => kind.name(),
         }
     }
@@ -47,6 +52,7 @@ impl Fault {
         ensures { result ≡ status_of (Some self.now) }
     {
         match self {
+            Fault::LinesRefused { .. } => 1,
             Fault::Usage { .. } => 2,
             Fault::BadInput { .. } => 3,
             Fault::BadQuery { .. } => 4,

@@ -1,7 +1,9 @@
-ghost use Rattle.std.specs.Prelude.{◌≡◌, ◌≢◌, Ok, IfErr};
+ghost use Rattle.std.specs.Prelude.{◌≡◌, false, Ok};
 ghost use Rattle.std.specs.Result.{result_err};
 ghost use Rattle.cal_base.specs.Change.{change_of};
 ghost use Rattle.caliper.specs.Causes.{Answers};
+ghost use Rattle.caliper.specs.Faults.{writes};
+ghost use Rattle.caliper.specs.Refusals.{no_journal};
 ghost use Rattle.caliper.specs.Tasks.{GenTask};
 
 use crate::Fault;
@@ -20,9 +22,9 @@ pub fn write_generated<S: Source, W: Sink>(
 ) -> Result<(), Fault>
     ensures answers { Answers (Ok (GenTask seed threads lines))
         (change_of S.left S.faults input.old input.new)
-        (change_of W.written W.faults output.old output.new) (result_err result) }
+        (change_of W.written W.faults output.old output.new) no_journal (result_err result) }
     ensures input { input.new ≡ input.old }
-    ensures output { IfErr result (λ fault. fault ≢ Fault.WriteFault → output.new ≡ output.old) }
+    ensures output { writes (result_err result) ≡ false → output.new ≡ output.old }
 {
     let _ = input;
     let Ok(text) = generate(alloc, seed, threads, lines) else {

@@ -1,20 +1,24 @@
 //! The program `caliper`: its top call `run`, and the words, faults and texts that a person meets.
 //!
-//! What stands on `run` is the promise of the whole program: with status 0 the output has grown by
-//! exactly the text of the records of the script that the input holds, and every other status has
-//! its cause. What standard input holds, and where standard output leads, no contract can say:
-//! `main` only lends them to `serve`.
+//! What stands on `run` is the promise of the whole program: with status 0 or 1 the output has
+//! grown by exactly the text that the command makes of its input, as `serial` the records of the
+//! run that a script and its journal give, and every other status has its cause. What standard
+//! input holds, and where standard output leads, no contract can say: `main` only lends them to
+//! `serve`.
 #![tactic(auto)]
 
 mod about;
 mod asking;
+mod counting;
 mod fault;
 mod gen_words;
 mod generating;
+mod journal;
 mod outcome;
 mod query;
 mod report;
 mod run;
+mod running;
 mod serial;
 mod serve;
 #[cfg(test)]
@@ -27,7 +31,7 @@ pub use fault::{Fault, InputKind};
 pub use outcome::Outcome;
 pub use report::put_fault;
 pub use run::{INPUT_LIMIT, run};
-pub use serial::serial_text;
+pub use running::run_text;
 pub use serve::serve;
 use std::io;
 use std::process::ExitCode;

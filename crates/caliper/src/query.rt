@@ -1,9 +1,11 @@
-ghost use Rattle.std.specs.Prelude.{◌≡◌, ◌≢◌, IsErr, IfOk, IfErr};
+ghost use Rattle.std.specs.Prelude.{◌≡◌, false, IsErr, IfOk, IfErr};
 ghost use Rattle.std.specs.Result.{result_err};
 ghost use Rattle.cal_base.specs.Change.{Change, change_of};
 ghost use Rattle.cal_ql.specs.Valid.{IsValidQuery};
 ghost use Rattle.caliper.specs.Causes.{Answers, Causes, ReadsInput};
-ghost use Rattle.caliper.specs.Inputs.{IsTextOf};
+ghost use Rattle.caliper.specs.Faults.{writes};
+ghost use Rattle.caliper.specs.Inputs.{Makes};
+ghost use Rattle.caliper.specs.Refusals.{no_journal};
 ghost use Rattle.caliper.specs.Tasks.{QueryTask, task_of};
 
 use crate::asking::asked_query;
@@ -25,9 +27,9 @@ pub fn query<S: Source, W: Sink>(
 ) -> Result<(), Fault>
     ensures answers { Answers (task_of words.now (Command.Query q join))
         (change_of S.left S.faults input.old input.new)
-        (change_of W.written W.faults output.old output.new) (result_err result) }
+        (change_of W.written W.faults output.old output.new) no_journal (result_err result) }
     ensures input { IsErr (task_of words.now (Command.Query q join)) → input.new ≡ input.old }
-    ensures output { IfErr result (λ fault. fault ≢ Fault.WriteFault → output.new ≡ output.old) }
+    ensures output { writes (result_err result) ≡ false → output.new ≡ output.old }
 {
     let query = asked_query(alloc, words, q)?;
     let text = layout(alloc, &query, join, input)?;
@@ -42,12 +44,12 @@ fn layout<S: Source>(alloc: Global, query: &Query, join: bool, input: &mut S) ->
     requires { IsValidQuery query.now }
     ensures read { IfOk result (λ text. ReadsInput
         (change_of S.left S.faults input.old input.new)
-        (λ bytes. IsTextOf (QueryTask query.now join) bytes text)) }
+        (λ bytes. Makes (QueryTask query.now join) bytes text no_journal)) }
 
     // The cause lies in the input, whatever becomes of the output.
     ensures caused { IfErr result (λ fault. (output : Change)
         → Causes (QueryTask query.now join)
-        (change_of S.left S.faults input.old input.new) output fault) }
+        (change_of S.left S.faults input.old input.new) output no_journal fault) }
 {
     match query_text(alloc, input, INPUT_LIMIT, join, query) {
         Ok(text) => Ok(text),

@@ -40,6 +40,10 @@ fn add_message(line: &mut Line, fault: &Fault)
     ensures short { array_string_len line.new ≤ 95 }
 {
     match fault {
+        Fault::LinesRefused { lines } => {
+            add(line, "refused lines: ");
+            add_number(line, *lines);
+        }
         Fault::Usage { word } => {
             add(line, "usage: word ");
             add_number(line, u64::from(*word) + 1);

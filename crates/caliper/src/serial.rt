@@ -1,22 +1,120 @@
-ghost use Rattle.std.specs.Prelude.{◌≡◌, IfOk};
-ghost use Rattle.cal_first_form.specs.Shape.{IsScript};
-ghost use Rattle.caliper.specs.Texts.{text_of};
+ghost use Rattle.std.specs.Prelude.{◌≡◌, false, IfErr, IfOk, Ok};
+ghost use Rattle.cal_base.specs.Change.{Change, change_of};
+ghost use Rattle.cal_journal.specs.Both.{MeansBoth};
+ghost use Rattle.cal_valid.specs.Valid.{IsRunnable};
+ghost use Rattle.caliper.specs.Causes.{Answers, Causes, ReadsInput};
+ghost use Rattle.caliper.specs.Faults.{writes};
+ghost use Rattle.caliper.specs.Inputs.{Makes};
+ghost use Rattle.caliper.specs.Refusals.{no_journal, refused_lines};
+ghost use Rattle.caliper.specs.Tasks.{SerialTask};
 
-use cal_context::{Context, Snapshot};
-use cal_core::run_script;
-use cal_first_form::Script;
-use cal_value::{OutOfMemory, Text};
-use cal_write::Writer;
+use crate::counting::count_refused;
+use crate::journal::journal_to_use;
+use crate::outcome::Ended;
+use crate::running::run_text;
+use crate::{Fault, INPUT_LIMIT, InputKind};
+use cal_base::{ReadEnd, Sink, Source, read_all};
+use cal_journal::{BothEnd, read_both};
+use cal_script::{Journal, JournalText, Script};
+use cal_valid::valid_script_law;
+use cal_value::Text;
 use std::alloc::Global;
 
-/// The `.cali` text of the records of a script's run, its threads one after another. It takes time
-/// in the lines of the script and the length of the text, however deep the open values are.
-pub fn serial_text(alloc: Global, script: &Script) -> Result<Text, OutOfMemory>
-    requires { IsScript script.now }
-    ensures { IfOk result (λ text. text ≡ text_of script.now) }
+/// The text of a run's records, and the journal that the run used.
+#[derive(Drop)]
+pub struct Made {
+    text: Text,
+    journal: Journal,
+    /// How many of its lines were refused.
+    refused: u64,
+}
+
+/// Reads a script and a journal behind it, or none, and writes the text of the run.
+pub fn serial<S: Source, W: Sink>(alloc: Global, input: &mut S, output: &mut W) -> Ended
+    ensures answers { Answers (Ok SerialTask) (change_of S.left S.faults input.old input.new)
+        (change_of W.written W.faults output.old output.new) result.journal result.fault }
+    ensures output { writes result.fault ≡ false → output.new ≡ output.old }
+    ensures journal { writes result.fault ≡ false → result.journal ≡ no_journal }
 {
-    let mut context = Context::new(alloc);
-    let mut writer = Writer::new(alloc)?;
-    run_script(alloc, script, &mut context, &mut writer)?;
-    writer.finish(&context, &Snapshot::new(alloc))
+    let made = match made_run(alloc, input) {
+        Ok(made) => made,
+        Err(fault) => return Ended::without_journal(alloc, Some(fault)),
+    };
+    let fault = match output.put(made.text.as_str().as_bytes()) {
+        Ok(()) if made.refused == 0 => None,
+        Ok(()) => Some(Fault::LinesRefused {
+            lines: made.refused,
+        }),
+        Err(_) => Some(Fault::WriteFault),
+    };
+    Ended {
+        fault,
+        journal: made.journal,
+    }
+}
+
+/// The run of the script that the input has left, with the journal behind it, if there is one.
+fn made_run<S: Source>(alloc: Global, input: &mut S) -> Result<Made, Fault>
+    ensures read { IfOk result (λ made. ReadsInput (change_of S.left S.faults input.old input.new)
+        (λ bytes. Makes SerialTask bytes made.text made.journal)) }
+    ensures refused { IfOk result (λ made. made.refused ≡ refused_lines made.journal) }
+
+    // The cause lies in the input, whatever becomes of the output.
+    ensures caused { IfErr result (λ fault. (output : Change) → Causes SerialTask
+        (change_of S.left S.faults input.old input.new) output no_journal fault) }
+{
+    let (script, behind) = read_input(alloc, input)?;
+    let journal = journal_to_use(alloc, &script, behind)?;
+    let Ok(text) = run_text(alloc, &script, &journal) else {
+        return Err(Fault::OutOfMemory);
+    };
+    let refused = count_refused(&journal);
+    Ok(Made {
+        text,
+        journal,
+        refused,
+    })
+}
+
+/// Reads the script and the journal behind it that the input has left, and the end behind them.
+fn read_input<S: Source>(
+    alloc: Global,
+    input: &mut S,
+) -> Result<(Script, Option<JournalText>), Fault>
+    ensures read { IfOk result (λ both. ReadsInput
+        (change_of S.left S.faults input.old input.new) (λ bytes. MeansBoth bytes both)) }
+    ensures runnable { IfOk result (λ both. IsRunnable both.0) }
+
+    // The cause lies in the input, whatever becomes of the output.
+    ensures caused { IfErr result (λ fault. (output : Change) → Causes SerialTask
+        (change_of S.left S.faults input.old input.new) output no_journal fault) }
+{
+    valid_script_law();
+    let bytes = match read_all(alloc, input, INPUT_LIMIT) {
+        Ok(bytes) => bytes,
+        Err(ReadEnd::ReadFault) => return Err(Fault::ReadFault),
+        Err(ReadEnd::TooLong) => return Err(Fault::TooLong),
+        Err(ReadEnd::OutOfMemory) => return Err(Fault::OutOfMemory),
+    };
+    let read = read_both(alloc, bytes.as_slice());
+    give_back(bytes);
+    match read {
+        Ok(both) => Ok(both),
+        Err(BothEnd::Script { line, kind }) => Err(Fault::BadInput {
+            line,
+            kind: InputKind::Script(kind),
+        }),
+        Err(BothEnd::Journal { line, kind }) => Err(Fault::BadInput {
+            line,
+            kind: InputKind::Journal(kind),
+        }),
+        Err(BothEnd::OutOfMemory) => Err(Fault::OutOfMemory),
+    }
+}
+
+/// Drops the input, shrunk first: where a big block is freed at once, glibc takes later ones from
+/// its heap, in which each that outgrows its place leaves a hole.
+fn give_back(mut bytes: Vec<u8>) {
+    bytes.truncate(1);
+    bytes.shrink_to_fit();
 }

@@ -6,7 +6,7 @@ ghost use Rattle.caliper.specs.Faults.{fault_line, status_of};
 ghost use Rattle.caliper.specs.Tasks.{LeavesInput, tasked};
 
 use crate::about::{HELP, VERSION};
-use crate::outcome::end;
+use crate::outcome::{Ended, end};
 use crate::{Fault, Outcome, about, run};
 use cal_base::{Sink, Source};
 use std::alloc::Global;
@@ -34,12 +34,13 @@ pub fn serve<S: Source, W: Sink, E: Sink>(
 
     // What is left as it was.
     ensures unread { IfOk words (λ words. LeavesInput (tasked words.items) → input.new ≡ input.old) }
-    ensures output { exit_status result ≢ 0 → exit_status result ≢ 6 → output.new ≡ output.old }
+    ensures output { exit_status result ≢ 0 → exit_status result ≢ 1 → exit_status result ≢ 6
+        → output.new ≡ output.old }
     ensures errors { exit_status result ≡ 0 → errors.new ≡ errors.old }
 {
     let outcome = match words {
         Ok(words) => answer(alloc, words.as_slice(), input, output, errors),
-        Err(fault) => end(errors, Some(fault)),
+        Err(fault) => end(errors, Ended::without_journal(alloc, Some(fault))),
     };
     ExitCode::from(outcome.status)
 }
@@ -57,11 +58,12 @@ fn answer<S: Source, W: Sink, E: Sink>(
         (change_of W.written W.faults output.old output.new)
         (change_of E.written E.faults errors.old errors.new) }
     ensures input { LeavesInput (tasked words.now) → input.new ≡ input.old }
-    ensures output { result.status ≢ 0 → result.status ≢ 6 → output.new ≡ output.old }
+    ensures output { result.status ≢ 0 → result.status ≢ 1 → result.status ≢ 6
+        → output.new ≡ output.old }
     ensures errors { result.status ≡ 0 → errors.new ≡ errors.old }
 {
     match about(words) {
-        Some(text) => end(errors, show(text, output)),
+        Some(text) => end(errors, Ended::without_journal(alloc, show(text, output))),
         None => run(alloc, words, input, output, errors),
     }
 }

@@ -1,7 +1,9 @@
 mod failing;
 mod generated;
+mod journals;
 mod queries;
 mod rows;
+mod runs;
 mod scripts;
 mod served;
 mod streams;

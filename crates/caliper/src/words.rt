@@ -9,7 +9,7 @@ use std::alloc::Global;
 /// What the program is asked to do.
 #[derive(Clone, Copy, Debug, PartialEq, Eq)]
 pub enum Command {
-    /// Runs the threads of a script one after another, and writes the `.cali` text of its records.
+    /// Reads a script and a journal behind it, or none, and writes the `.cali` text of the run.
     Serial,
     /// Reads a stream and lays out the answer of a query, with the globals joined to each row where
     /// that is asked. The text of the query stands in the word at the place `q`, if it is there.

@@ -1,4 +1,4 @@
-//! Tests of the layers below the program: of values, contexts, scripts, runs and streams.
+//! Tests of the layers below the program: of values, contexts and streams.
 //!
 //! Each file is one layer's table of worked rows and hand-written answers. It promises nothing
 //! that a contract says; it shows what no clause can say, that calls succeed with ample memory.
@@ -10,10 +10,6 @@ mod bytes;
 mod context;
 #[cfg(test)]
 mod line;
-#[cfg(test)]
-mod runs;
-#[cfg(test)]
-mod script;
 #[cfg(test)]
 mod values;
 #[cfg(test)]

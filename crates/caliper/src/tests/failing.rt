@@ -75,6 +75,10 @@ fn each_fault_has_its_line(rt: HostRuntime) -> Result<(), Fail> {
     let alloc = rt.alloc();
     let lines = [
         (
+            Fault::LinesRefused { lines: u64::MAX },
+            "caliper: refused lines: 18446744073709551615\n",
+        ),
+        (
             Fault::Usage { word: u32::MAX },
             "caliper: usage: word 4294967296\n",
         ),

@@ -30,6 +30,17 @@ pub fn written_by(words: &'static [&'static str], script: &'static str, text: &'
     }
 }
 
+/// A row of `serial` that writes a text, and tells of lines that were refused.
+pub fn lines_refused(script: &'static str, text: &'static str, told: &'static str) -> Row {
+    Row {
+        words: &["serial"],
+        script,
+        text,
+        told,
+        status: 1,
+    }
+}
+
 /// A row that is refused.
 pub fn refused(
     words: &'static [&'static str],
@@ -94,17 +105,22 @@ fn faults_are_told(rt: HostRuntime) -> Result<(), Fail> {
     let serial = &["serial"];
     let first = "caliper: usage: word 1\n";
     let rows = [
-        refused(serial, "channel t trace\n", "caliper: line 1: NotYet\n", 3),
         refused(
             serial,
-            "\n# a comment\nattribute count string 276\n",
-            "caliper: line 3: NotYet\n",
+            "channel t trace\nbegin function main\n",
+            "caliper: line 2: Misplaced\n",
+            3,
+        ),
+        refused(
+            serial,
+            "\n# a comment\nthread\nthread now\n",
+            "caliper: line 4: WrongArity\n",
             3,
         ),
         refused(
             serial,
             "attribute a string 276\nchannel t trace\nthread\nend a\nend b\n",
-            "caliper: line 4: NotYet\n",
+            "caliper: line 5: UnknownName\n",
             3,
         ),
         refused(&[], FIRST, first, 2),

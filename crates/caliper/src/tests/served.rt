@@ -36,7 +36,7 @@ fn words_are_served(rt: HostRuntime) -> Result<(), Fail> {
     ];
     for (word, text, status, told) in rows {
         let words = texts(rt.alloc(), &[word])?;
-        assert_served(&rt, Ok(words), 1000, status, text, told)?;
+        assert_served(&rt, Ok(words), 2000, status, text, told)?;
     }
     Ok(())
 }

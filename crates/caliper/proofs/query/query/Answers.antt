@@ -8,7 +8,8 @@ pub returns-in_err-query-clause-answers : goal.returns-in_err-query-clause-answe
 returns-in_err-query-clause-answers g c =
     let gone = c.from_residual in
     let p = err_from_is_err_and gone.result gone.ensures.1 in
-    rw (p.1, p.2) (text_refused _ _ refl c.args.words.now c.args.q c.args.join _ c.in_err-query.ensures.refused)
+    rw (p.1, p.2)
+    (text_refused _ _ _ refl c.args.words.now c.args.q c.args.join _ c.in_err-query.ensures.refused)
 
 -- the cause that reading gave
 pub returns-in_err-text-clause-answers : goal.returns-in_err-text-clause-answers

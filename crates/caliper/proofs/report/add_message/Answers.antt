@@ -1,13 +1,22 @@
 use Rattle.std.proofs.Common.{ℕ, ◌+◌, List, ◌++◌, ◌∙◌, ap, append_assoc, codes, decimal}
 use Rattle.caliper.proofs.report.add_message.Goals as goal
 
+pub returns-in-LinesRefused-clause-told : goal.returns-in-LinesRefused-clause-told
+returns-in-LinesRefused-clause-told c =
+    let line = c.args.line.now.bytes in
+    let number = decimal c.in-LinesRefused.lines in
+    rw c.in-LinesRefused.is
+    (c.add_number.ensures.digits
+    ∙ (ap (λ (front : List ℕ). front ++ number) c.add.ensures
+    ∙ append_assoc line (codes "refused lines: ") number))
+
 pub returns-in-Usage-clause-told : goal.returns-in-Usage-clause-told
 returns-in-Usage-clause-told c =
     let line = c.args.line.now.bytes in
     let number = decimal (c.from.result + 1) in
     rw c.in-Usage.is
-    (c.add_number.ensures.digits
-    ∙ (ap (λ (front : List ℕ). front ++ number) c.add.ensures
+    (c.add_number-in-Usage.ensures.digits
+    ∙ (ap (λ (front : List ℕ). front ++ number) c.add-in-Usage.ensures
     ∙ (append_assoc line (codes "usage: word ") number
     ∙ ap (λ (n : ℕ). line ++ (codes "usage: word " ++ decimal (n + 1))) c.from.ensures)))
 

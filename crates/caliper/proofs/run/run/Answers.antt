@@ -1,6 +1,10 @@
 use Rattle.caliper.proofs.Deciding.{answers_decide}
+use Rattle.caliper.proofs.RunFaults.{IsOneRule}
 use Rattle.caliper.proofs.run.run.Goals as goal
 
 pub returns-clause-decided : goal.returns-clause-decided
 returns-clause-decided g c =
-    rw c.end.ensures.fault (answers_decide _ _ _ _ c.carry_out-fault.ensures.answers)
+    let broken = c.first_broken_law.ensures in
+    let law : IsOneRule = record { lawful = broken.lawful; one = broken.one } in
+    rw c.end.ensures.fault
+    (answers_decide law _ _ _ _ _ c.carry_out-ended.ensures.answers)

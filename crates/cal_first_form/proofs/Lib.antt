@@ -1,5 +1,0 @@
-pub mod Cuts
-pub mod Values
-pub mod Threads
-pub mod Runs
-pub mod Forms
