@@ -12,3 +12,5 @@ mod ReadLemmas
 mod StreamLemmas
 mod RecordLemmas
 mod WholeLemmas
+mod UsualLemmas
+mod UsualRowLemmas

@@ -14,3 +14,4 @@ pub mod Standing
 pub mod Cuts
 pub mod Reading
 pub mod Owned
+pub mod Usual

@@ -15,7 +15,7 @@ pub(crate) fn read_id(alloc: Global, piece: &Piece) -> Result<u64, LineEnd>
     id_in(alloc, text.as_str())
 }
 
-fn id_in(alloc: Global, text: &str) -> Result<u64, LineEnd>
+pub(crate) fn id_in(alloc: Global, text: &str) -> Result<u64, LineEnd>
     ensures { Answers result (id_of text.now) }
 {
     match parse_value(alloc, Kind::Uint, text) {

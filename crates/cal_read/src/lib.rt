@@ -16,6 +16,8 @@ mod record_line;
 mod sort;
 mod stream;
 mod stream_reader;
+mod usual;
+mod usual_row;
 mod whole;
 
 pub use end::StreamEnd;
