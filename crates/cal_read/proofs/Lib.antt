@@ -12,5 +12,6 @@ mod ReadLemmas
 mod StreamLemmas
 mod RecordLemmas
 mod WholeLemmas
+mod ShortLemmas
 mod UsualLemmas
 mod UsualRowLemmas

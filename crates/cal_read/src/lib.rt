@@ -13,6 +13,7 @@ mod nodes;
 mod place;
 mod reader;
 mod record_line;
+mod short;
 mod sort;
 mod stream;
 mod stream_reader;

@@ -6,9 +6,9 @@ ghost use Rattle.cal_read.specs.Usual.{IsUsualRow, ReadsImms};
 
 use crate::nodes::Nodes;
 use crate::record_line::{Columns, push_found, push_nodes, push_numbers};
+use crate::short::value_in;
 use crate::usual::{Unusual, plain_end, read_columns};
 use cal_context::{AttributeNumber, Context, Immediate, Snapshot};
-use cal_value::parse_value;
 use std::alloc::Global;
 
 /// Reads a row in one go from a line like `__rec=ctx,ref=7,attr=8=9,data=a=b`, in which nothing is
@@ -65,7 +65,7 @@ fn push_imms_at(
         let attribute = *number;
         let end = plain_end(line, place + 1);
         let kind = context.attribute_at(attribute).kind;
-        let value = parse_value(alloc, kind, &line[place + 1..end])?;
+        let value = value_in(alloc, kind, &line[place + 1..end])?;
         imms.push(Immediate { attribute, value })?;
         place = end;
     }

@@ -19,6 +19,6 @@ loop-number-preserved c =
     let sign : get_or c.args.line.now c.loop-number.place 0 ≡ 61 = rw c.as_bytes-bytes.ensures.value at c.if-bytes-place-ne61.false in
     let there = slice_get-get_or c.args.numbers.now c.loop-number.number-index _ c.loop-number-test.true in
     let known = c.requires.known c.loop-number.number-index _ c.loop-number-test.true in
-    let is = rw (c.attribute_at.ensures, c.range.ensures.value) at c.in_ok-value.ensures.value in
+    let is = rw (c.attribute_at.ensures, c.range.ensures.value) at c.in_ok-value.ensures in
     imms_more c.args.context.now c.args.numbers.now c.loop-number.number-index _ there c.args.line.now c.args.start c.loop-number.place c.plain_end-end.result c.loop-number.imms.items c.push.new.self.items c.in_ok-value.value
     c.loop-number.invariant known within sign c.plain_end-end.ensures is c.in_ok-push.ensures.items
