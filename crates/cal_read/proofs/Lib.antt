@@ -12,6 +12,5 @@ mod ReadLemmas
 mod StreamLemmas
 mod RecordLemmas
 mod WholeLemmas
-mod ShortLemmas
 mod UsualLemmas
 mod UsualRowLemmas
