@@ -14,3 +14,4 @@ mod RecordLemmas
 mod WholeLemmas
 mod UsualLemmas
 mod UsualRowLemmas
+mod UsualNodeLemmas

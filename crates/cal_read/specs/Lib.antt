@@ -15,3 +15,4 @@ pub mod Cuts
 pub mod Reading
 pub mod Owned
 pub mod Usual
+pub mod UsualNodes

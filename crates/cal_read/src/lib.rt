@@ -18,6 +18,7 @@ mod sort;
 mod stream;
 mod stream_reader;
 mod usual;
+mod usual_node;
 mod usual_row;
 mod whole;
 

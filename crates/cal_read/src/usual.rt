@@ -65,7 +65,7 @@ fn read_head(alloc: Global, line: &str, refs: &mut Vec<u64>) -> Result<usize, Un
 }
 
 /// The place behind these bytes, where they stand at a place.
-fn behind(line: &str, place: usize, bytes: &[u8]) -> Result<usize, Unusual>
+pub(crate) fn behind(line: &str, place: usize, bytes: &[u8]) -> Result<usize, Unusual>
     requires { place ≤ length line.now }
     ensures { IfOk result (λ end. IsThere line.now place bytes.now end) }
 {
