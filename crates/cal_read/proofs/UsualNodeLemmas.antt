@@ -93,8 +93,13 @@ module _ (id attribute text : List ℕ) where
   node_is_fields (Some parent) =
       IsFields-written rec_field (id_field id ∷ attr_field attribute ∷ data_field text ∷ parent_field parent ∷ []) (
         record { key = some_byte 95 _; values = some_text _ _ },
-        (record { key = some_byte 105 _; values = some_text _ _ }, (record { key = some_byte 97 _; values = some_text _ _ },
-        (record { key = some_byte 100 _; values = some_text _ _ }, (record { key = some_byte 112 _; values = some_text _ _ }, tt)))),
+        (
+          record { key = some_byte 105 _; values = some_text _ _ },
+          (
+            record { key = some_byte 97 _; values = some_text _ _ },
+            (record { key = some_byte 100 _; values = some_text _ _ }, (record { key = some_byte 112 _; values = some_text _ _ }, tt)),
+          ),
+        ),
       )
 
   node_once : (parent : Option (List ℕ)) → repeats_key (node_fields id attribute text parent) ≡ false
