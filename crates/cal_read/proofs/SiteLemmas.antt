@@ -1,6 +1,6 @@
 -- Where a node is to stand, and what has its id already.
-use Rattle.std.proofs.Common.{◌≡◌, ℕ, ◌<◌, Bool, true, false, ◌==◌, ◌&&◌, List, [], ◌∷◌, length, nat_eq, nat_lt, not, Option, Some, None, refl, sym, ap, ◌∙◌, subst, arith, if◌then◌else◌}
-use Rattle.std.specs.Prelude.{Result, Ok, Err, is_some}
+use Rattle.std.proofs.Common.{◌≡◌, ℕ, ◌<◌, Bool, true, false, ◌==◌, ◌&&◌, List, ◌∷◌, length, nat_eq, nat_lt, not, Option, Some, None, refl, sym, ap, ◌∙◌, subst, arith, if◌then◌else◌}
+use Rattle.std.specs.Prelude.{Ok, Err, is_some}
 use Rattle.std.specs.Option.{option_eq}
 use Rattle.std.specs.Ordering.{eq_by_cmp}
 use Rattle.std.proofs.lemmas.Bool.Decides.{nat_tests}
@@ -9,15 +9,13 @@ use Rattle.cal_context.specs.declared.numbers.AttributeNumber.{AttributeNumber}
 use Rattle.cal_input.specs.FirstFault.{◌>>=◌}
 use Rattle.cal_value.specs.Order.{value_cmp}
 use Rattle.cal_value.specs.declared.variant.Variant.{Variant}
-use Rattle.cal_read.specs.Fields.{or_fault, if_there}
+use Rattle.cal_read.specs.Fields.{if_there}
 use Rattle.cal_read.specs.Held.{held_at, IsAt, IsNumberOf, IsHeld, AreHeld}
 use Rattle.cal_read.specs.NodeLines as lines
 use Rattle.cal_read.specs.NodeLines.{known, as_attribute, misfit, steps_down, site_of, same_content, with_node}
-use Rattle.cal_read.specs.Nodes.{Step, Node, Named, kind_below, steps_to, attribute_of, node_at}
-use Rattle.cal_read.specs.Sites.{IsSite, IsToBe}
-use Rattle.cal_read.specs.declared.kind.StreamKind.{StreamKind}
+use Rattle.cal_read.specs.Nodes.{Step, Node, Named, kind_below, attribute_of, node_at}
+use Rattle.cal_read.specs.Sites.{IsSite}
 use Rattle.cal_read.specs.declared.kind.StreamKind.TheVariants as kind
-use Rattle.cal_read.specs.declared.node_line.Site as sites
 use Rattle.cal_read.specs.declared.node_texts.NodeIds.{NodeIds}
 use Rattle.cal_read.specs.declared.nodes.Held.{Held}
 use Rattle.cal_read.specs.declared.nodes.Nodes.{Nodes}

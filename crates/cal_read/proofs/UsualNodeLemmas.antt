@@ -6,8 +6,8 @@ use Rattle.std.proofs.lemmas.List.{drop_all, drop_more}
 use Rattle.std.proofs.lemmas.List.Folds.{drop_split}
 use Rattle.cal_input.specs.FirstFault.{◌>>=◌}
 use Rattle.cal_line.specs.Escapes.{escaped}
-use Rattle.cal_line.specs.Fields.{IsFields, fields_of}
-use Rattle.cal_line.specs.WrittenFields.{IsWritable, written_fields}
+use Rattle.cal_line.specs.Fields.{IsFields}
+use Rattle.cal_line.specs.WrittenFields.{written_fields}
 use Rattle.cal_line.specs.declared.field.Field.{Field}
 use Rattle.cal_line.proofs.FieldSteps.{fields_of-IsFields}
 use Rattle.cal_line.proofs.Written.{IsFields-written}
@@ -19,7 +19,6 @@ use Rattle.cal_read.specs.Nodes.{Named}
 use Rattle.cal_read.specs.Usual.{IsPlain, IsThere}
 use Rattle.cal_read.specs.UsualNodes.{IsIdBehind, IsParentAt, IsUsualNode, written_parent}
 use Rattle.cal_read.specs.declared.kind.StreamKind.TheVariants as kind
-use Rattle.cal_read.specs.declared.node_texts.NodeIds.{NodeIds}
 use Rattle.cal_read.specs.declared.sort.Sort.TheVariants.{OfNode}
 
 -- ---- an id behind bytes

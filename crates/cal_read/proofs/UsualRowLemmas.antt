@@ -1,7 +1,7 @@
 -- Rows that are read in one go: their fields, and the record that they are.
-use Rattle.std.proofs.Common.{◌≡◌, ◌≢◌, ◌<◌, ◌≤◌, ℕ, false, List, [], ◌∷◌, ◌++◌, length, map, drop, Some, refl, sym, ap, ◌∙◌, subst, append_assoc, append-nil, arith}
+use Rattle.std.proofs.Common.{◌≡◌, ◌≢◌, ◌≤◌, ℕ, false, List, [], ◌∷◌, ◌++◌, length, map, drop, Some, refl, sym, ap, ◌∙◌, subst, append_assoc, append-nil, arith}
 use Rattle.std.specs.Prelude.{Result, Ok, codes}
-use Rattle.std.specs.List.{AllByRecursion, zip}
+use Rattle.std.specs.List.{zip}
 use Rattle.std.proofs.lemmas.List.{drop_all, length-map}
 use Rattle.cal_context.specs.Snapshots.{entry_of as imm_entry}
 use Rattle.cal_context.specs.Tree.{Tree, attribute_at}
@@ -9,7 +9,7 @@ use Rattle.cal_context.specs.declared.numbers.AttributeNumber.{AttributeNumber}
 use Rattle.cal_context.specs.declared.snapshot.Snapshot.{Snapshot}
 use Rattle.cal_line.specs.Escapes.{escaped}
 use Rattle.cal_line.specs.Fields.{IsFields, fields_of}
-use Rattle.cal_line.specs.WrittenFields.{IsWritable, written_pieces, written_fields}
+use Rattle.cal_line.specs.WrittenFields.{written_pieces, written_fields}
 use Rattle.cal_line.specs.declared.field.Field.{Field}
 use Rattle.cal_line.proofs.FieldSteps.{fields_of-IsFields}
 use Rattle.cal_line.proofs.Written.{IsFields-written}

@@ -1,5 +1,5 @@
 -- Rows that are read in one go from their lines (private).
-use Rattle.std.specs.Prelude.{◌≡◌, ◌≢◌, ◌+◌, ◌<◌, ℕ, ◌≤◌, List, [], ◌∷◌, ◌++◌, Some, false, Ok}
+use Rattle.std.specs.Prelude.{◌≡◌, ◌≢◌, ◌<◌, ℕ, ◌≤◌, List, [], ◌∷◌, ◌++◌, Some, false, Ok}
 use Rattle.std.specs.Prelude.{codes, drop, length, map, slice_range}
 use Rattle.std.specs.List.{All, zip}
 use Rattle.std.specs.Str.{IsCharBoundary}

@@ -1,9 +1,6 @@
-use Rattle.std.proofs.Common.{◌≡◌, ◌<◌, ◌+◌, Some, length, get_or, ap, arith}
-use Rattle.std.specs.List.{between}
+use Rattle.std.proofs.Common.{◌≡◌, ◌<◌, length, get_or, ap, arith}
 use Rattle.std.proofs.lemmas.Option.{slice_get-get_or}
 use Rattle.std.proofs.lemmas.Str.{IsCharBoundary-after_ascii}
-use Rattle.cal_context.specs.Tree.{attribute_at}
-use Rattle.cal_value.specs.Reading.{value_of}
 use Rattle.cal_read.proofs.UsualLemmas.{imms_more}
 use Rattle.cal_read.proofs.usual_row.push_imms_at.Goals as goal
 
