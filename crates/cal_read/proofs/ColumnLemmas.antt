@@ -1,6 +1,6 @@
 -- Columns of a record, as a loop goes on.
-use Rattle.std.proofs.Common.{◌≡◌, ℕ, suc, zero, ◌+◌, ◌<◌, ◌≤◌, List, [], ◌∷◌, ◌++◌, length, map, take, get_or, Option, Some, None, refl, sym, ap, ◌∙◌, subst, add-one, arith}
-use Rattle.std.specs.Prelude.{slice_get, Result, Ok, Err}
+use Rattle.std.proofs.Common.{◌≡◌, ℕ, suc, zero, ◌+◌, ◌<◌, ◌≤◌, List, [], ◌∷◌, ◌++◌, length, map, take, get_or, Option, Some, None, refl, sym, ap, ◌∙◌, subst, arith}
+use Rattle.std.specs.Prelude.{slice_get, Ok, Err}
 use Rattle.std.specs.List.{All, zip}
 use Rattle.std.specs.Option.{option_map}
 use Rattle.std.proofs.lemmas.Slice.Zip.{length-zip}
@@ -27,11 +27,10 @@ use Rattle.cal_read.specs.Fields.{each, or_fault}
 use Rattle.cal_read.specs.Held.{held_at, IsHeld, IsNumberOf, AreHeld}
 use Rattle.cal_read.specs.NodeLines.{known, as_attribute}
 use Rattle.cal_read.specs.Nodes.{Node, Named, path_of, attribute_of, node_at}
-use Rattle.cal_read.specs.declared.kind.StreamKind.{StreamKind}
 use Rattle.cal_read.specs.declared.kind.StreamKind.TheVariants as kind
 use Rattle.cal_read.specs.declared.nodes.Held.{Held}
 use Rattle.cal_read.specs.declared.nodes.Nodes.{Nodes}
-use Rattle.cal_read.proofs.EachLemmas.{each_at, each_falls, each_all}
+use Rattle.cal_read.proofs.EachLemmas.{each_at, each_falls}
 use Rattle.cal_read.proofs.HeldLemmas.{if_held, if_none}
 
 pub known_some : (named : List Named) (id : ℕ) (n : Node) → node_at named id ≡ Some n → known named id ≡ Ok n

@@ -1,9 +1,9 @@
 -- A line more: what it makes, or the first fault that it is.
-use Rattle.std.proofs.Common.{◌≡◌, ℕ, suc, ◌+◌, ◌-◌, ◌<◌, ◌≤◌, List, [], ◌∷◌, ◌++◌, length, take, refl, sym, ap, ◌∙◌, add-one, arith, inl, inr}
+use Rattle.std.proofs.Common.{◌≡◌, ℕ, ◌+◌, ◌-◌, List, [], ◌∷◌, ◌++◌, length, refl, sym, ap, ◌∙◌, arith, inl, inr}
 use Rattle.std.specs.Prelude.{Result, Ok, Err}
 use Rattle.std.proofs.lemmas.Bool.{cases_lt}
 use Rattle.std.proofs.lemmas.List.{take_all, take_at, take-append-le, length-append}
-use Rattle.cal_input.specs.FirstFault.{◌>>=◌, after_lines, IsFirstFault}
+use Rattle.cal_input.specs.FirstFault.{after_lines, IsFirstFault}
 use Rattle.cal_input.proofs.FirstFaults.{after_lines-append}
 
 module _ {S K : Type 0} (step : S → List ℕ → Result S K) where

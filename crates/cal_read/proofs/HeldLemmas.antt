@@ -1,21 +1,17 @@
 -- What is held of nodes, as a context grows and nodes are added.
 use Rattle.std.proofs.Common.{◌≡◌, ℕ, ◌+◌, ◌<◌, Bool, true, false, List, [], ◌∷◌, ◌++◌, length, map, eqb, ◌==◌, Option, Some, None, refl, sym, ap, ◌∙◌, subst, arith, if◌then◌else◌}
-use Rattle.std.specs.Prelude.{unwrap_or, slice_get}
+use Rattle.std.specs.Prelude.{unwrap_or}
 use Rattle.std.specs.Option.{option_and_then}
-use Rattle.std.proofs.lemmas.Bool.{cases_Bool}
 use Rattle.std.proofs.lemmas.List.{same_from_push, map-append, length-append}
 use Rattle.std.proofs.lemmas.List.Sums.{fold-append}
 use Rattle.std.proofs.lemmas.Option.{get_or_from_slice_get, slice_get_within}
-use Rattle.cal_context.specs.Children.{IsChild, IsLinked, AddsAttribute, AddsChild}
-use Rattle.cal_context.specs.Snapshots.{IsBelowRoot}
+use Rattle.cal_context.specs.Children.{IsLinked, AddsAttribute, AddsChild}
 use Rattle.cal_context.specs.Tree.{Tree, Grows, no_attribute, attribute_at, value_at, path_at}
 use Rattle.cal_context.specs.declared.numbers.AttributeNumber.{AttributeNumber}
 use Rattle.cal_context.specs.declared.numbers.Link.{Link}
 use Rattle.cal_context.specs.declared.numbers.NodeNumber.{NodeNumber}
-use Rattle.cal_context.proofs.CallerLemmas.{Grows-trans, attribute_at-Grows, path_at-Grows, within_attributes, within_paths}
+use Rattle.cal_context.proofs.CallerLemmas.{attribute_at-Grows, path_at-Grows, within_attributes, within_paths}
 use Rattle.cal_value.specs.declared.attribute.Attribute.{Attribute}
-use Rattle.cal_value.specs.declared.attribute.Entry.{Entry}
-use Rattle.cal_value.specs.declared.kind.Kind.{Kind}
 use Rattle.cal_value.specs.declared.variant.Variant.{Variant}
 use Rattle.cal_read.specs.Held.{held_at, IsAt, IsNumberOf, IsHeld, IsHeldIf, AreHeld}
 use Rattle.cal_read.specs.Nodes.{Step, Node, Named, steps_to, nearest, kind_in, props_in, text_in, kind_below, props_below, attribute_named, attribute_of, node_at}

@@ -12,3 +12,6 @@ mod ReadLemmas
 mod StreamLemmas
 mod RecordLemmas
 mod WholeLemmas
+mod UsualLemmas
+mod UsualRowLemmas
+mod UsualNodeLemmas

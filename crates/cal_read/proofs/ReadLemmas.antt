@@ -1,6 +1,6 @@
 -- What a reader has read, as bytes come and lines end.
-use Rattle.std.proofs.Common.{◌≡◌, ℕ, ◌+◌, ◌<◌, List, [], ◌∷◌, ◌++◌, length, Some, None, refl, sym, ap, ◌∙◌, subst, append_assoc, arith}
-use Rattle.std.specs.Prelude.{Result, Ok, Err, IsErr}
+use Rattle.std.proofs.Common.{◌≡◌, ℕ, ◌+◌, ◌<◌, List, [], ◌∷◌, ◌++◌, length, Some, None, refl, sym, ap, ◌∙◌, subst, append_assoc}
+use Rattle.std.specs.Prelude.{Ok, Err}
 use Rattle.std.proofs.lemmas.List.{length-append}
 use Rattle.cal_context.specs.Snapshots.{meaning}
 use Rattle.cal_context.specs.Tree.{Tree, Grows}
@@ -9,7 +9,7 @@ use Rattle.cal_input.specs.FirstFault.{after_lines, IsFirstFault}
 use Rattle.cal_line.specs.Lines.{lines_of, HasNoNewline}
 use Rattle.cal_value.specs.declared.record.Rec.{Rec}
 use Rattle.cal_read.specs.Cuts.{ended_lines, IsCut}
-use Rattle.cal_read.specs.Reading.{HasEnded, HasRead, IsReady, IsReadyIf, IsRefusalOf, TakesBytes, TakesEnd, Ends, rows_made, rows_of_lines, rows_before}
+use Rattle.cal_read.specs.Reading.{HasEnded, HasRead, IsReady, IsReadyIf, IsRefusalOf, TakesBytes, Ends, rows_made, rows_of_lines, rows_before}
 use Rattle.cal_read.specs.Standing.{Stands, TakesUpTo}
 use Rattle.cal_read.specs.Stream as streams
 use Rattle.cal_read.specs.Stream.{no_lines, line_step}

@@ -1,5 +1,5 @@
 -- The record of a line, step by step.
-use Rattle.std.proofs.Common.{◌≡◌, ◌≢◌, ◌<◌, ℕ, Bool, true, false, ◌==◌, eqb, List, [], ◌∷◌, length, map, refl, sym, ap, ◌∙◌, subst, if◌then◌else◌}
+use Rattle.std.proofs.Common.{◌≡◌, ◌≢◌, ◌<◌, ℕ, List, length, map, ap, ◌∙◌, if◌then◌else◌}
 use Rattle.std.specs.Prelude.{Result, Ok, Err, codes}
 use Rattle.std.specs.List.{All, zip}
 use Rattle.std.proofs.lemmas.Bool.{ne_eqb}
@@ -10,8 +10,6 @@ use Rattle.cal_context.specs.declared.snapshot.Snapshot.{Snapshot}
 use Rattle.cal_input.specs.FirstFault.{◌>>=◌}
 use Rattle.cal_line.specs.declared.field.Field.{Field}
 use Rattle.cal_value.specs.declared.attribute.Attribute.{Attribute}
-use Rattle.cal_value.specs.declared.attribute.Entry.{Entry}
-use Rattle.cal_value.specs.declared.record.Rec.{Rec}
 use Rattle.cal_read.specs.Columns.{AreEnds}
 use Rattle.cal_read.specs.Fields.{each, values_of, id_of}
 use Rattle.cal_read.specs.NodeLines.{known, as_attribute}

@@ -1,28 +1,38 @@
 -- Where a node is to stand, and what has its id already.
-use Rattle.std.proofs.Common.{◌≡◌, ℕ, ◌<◌, Bool, true, false, ◌==◌, ◌&&◌, List, [], ◌∷◌, length, nat_eq, Option, Some, None, refl, sym, ap, ◌∙◌, subst, if◌then◌else◌}
-use Rattle.std.specs.Prelude.{Result, Ok, Err}
+use Rattle.std.proofs.Common.{◌≡◌, ℕ, ◌<◌, Bool, true, false, ◌==◌, ◌&&◌, List, ◌∷◌, length, nat_eq, nat_lt, not, Option, Some, None, refl, sym, ap, ◌∙◌, subst, arith, if◌then◌else◌}
+use Rattle.std.specs.Prelude.{Ok, Err, is_some}
 use Rattle.std.specs.Option.{option_eq}
 use Rattle.std.specs.Ordering.{eq_by_cmp}
+use Rattle.std.proofs.lemmas.Bool.Decides.{nat_tests}
 use Rattle.cal_context.specs.Tree.{Tree, Grows, attribute_at}
 use Rattle.cal_context.specs.declared.numbers.AttributeNumber.{AttributeNumber}
 use Rattle.cal_input.specs.FirstFault.{◌>>=◌}
 use Rattle.cal_value.specs.Order.{value_cmp}
 use Rattle.cal_value.specs.declared.variant.Variant.{Variant}
-use Rattle.cal_read.specs.Fields.{or_fault, if_there}
+use Rattle.cal_read.specs.Fields.{if_there}
 use Rattle.cal_read.specs.Held.{held_at, IsAt, IsNumberOf, IsHeld, AreHeld}
 use Rattle.cal_read.specs.NodeLines as lines
-use Rattle.cal_read.specs.NodeLines.{known, as_attribute, steps_down, site_of, same_content, with_node}
-use Rattle.cal_read.specs.Nodes.{Node, Named, steps_to, attribute_of, node_at}
-use Rattle.cal_read.specs.Sites.{IsSite, IsToBe}
-use Rattle.cal_read.specs.declared.kind.StreamKind.{StreamKind}
+use Rattle.cal_read.specs.NodeLines.{known, as_attribute, misfit, steps_down, site_of, same_content, with_node}
+use Rattle.cal_read.specs.Nodes.{Step, Node, Named, kind_below, attribute_of, node_at}
+use Rattle.cal_read.specs.Sites.{IsSite}
 use Rattle.cal_read.specs.declared.kind.StreamKind.TheVariants as kind
-use Rattle.cal_read.specs.declared.node_line.Site as sites
 use Rattle.cal_read.specs.declared.node_texts.NodeIds.{NodeIds}
 use Rattle.cal_read.specs.declared.nodes.Held.{Held}
 use Rattle.cal_read.specs.declared.nodes.Nodes.{Nodes}
 use Rattle.cal_read.specs.declared.nodes.Place.{Place}
 use Rattle.cal_read.proofs.ColumnLemmas.{known_some, known_none, attribute_is, attribute_is_none}
 use Rattle.cal_read.proofs.HeldLemmas.{if_held, if_none, AreHeld-Grows, AreHeld-insert}
+
+-- a node that fits has room below it
+room_below : (p q : Bool) → None ≡ (if p then Some kind.NoKind else (if q then None else Some kind.TooDeep)) → q ≡ true
+room_below true q fits = cc
+room_below false true fits = refl
+room_below false false fits = cc
+
+pub not_too_deep : (id depth : ℕ) (above : List Step) → depth ≡ length above → None ≡ misfit id above → depth < 1024
+not_too_deep id depth above is fits =
+    let room : nat_lt (length above) 1024 ≡ true = room_below (id == 8 && not (is_some (kind_below above))) (nat_lt (length above) 1024) fits in
+    grind (arith, nat_tests)
 
 -- the content of a node that is held
 pub content : (t : Tree) (old : Held) (ids : NodeIds) (v : Variant) (n m : Node) → IsHeld t old n → m.own.attribute ≡ ids.attribute → m.own.entry.value ≡ v → m.parent ≡ ids.parent

@@ -1,5 +1,5 @@
 -- What lines of each sort make.
-use Rattle.std.proofs.Common.{◌≡◌, ◌<◌, ℕ, Bool, true, false, not, Some, None, List, [], ◌∷◌, ◌++◌, length, map, refl, sym, ap, ◌∙◌, subst, if◌then◌else◌}
+use Rattle.std.proofs.Common.{◌≡◌, ◌<◌, ℕ, true, false, not, Some, None, List, [], ◌∷◌, ◌++◌, length, map, refl, sym, ap, ◌∙◌, subst, if◌then◌else◌}
 use Rattle.std.specs.Prelude.{Result, Ok, Err}
 use Rattle.std.specs.List.{All}
 use Rattle.std.specs.Str.{IsUtf8, is_utf8}
@@ -8,7 +8,6 @@ use Rattle.std.proofs.lemmas.List.{map-append}
 use Rattle.std.proofs.lemmas.List.Elements.{All-append}
 use Rattle.std.proofs.lemmas.Str.{IsUtf8-from_is_utf8, is_utf8-from_IsUtf8}
 use Rattle.cal_context.specs.Snapshots.{IsIn, IsBelowRoot, meaning, entry_of}
-use Rattle.cal_context.specs.Taking.{TakesMore}
 use Rattle.cal_context.specs.Tree.{Tree, Grows, path_at}
 use Rattle.cal_context.specs.declared.snapshot.Snapshot.{Snapshot}
 use Rattle.cal_input.specs.FirstFault.{◌>>=◌}
@@ -25,7 +24,7 @@ use Rattle.cal_read.proofs.ReadLemmas.{TakesUpTo-none}
 use Rattle.cal_read.specs.Steps.{AnswersFor}
 use Rattle.cal_read.specs.declared.end.LineEnd as ends
 use Rattle.cal_read.specs.declared.end.LineEnd.TheVariants as end
-use Rattle.cal_read.specs.Standing.{Stands, TakesUpTo, TakesLine}
+use Rattle.cal_read.specs.Standing.{Stands, TakesLine}
 use Rattle.cal_read.specs.Stream as streams
 use Rattle.cal_read.specs.Stream.{no_lines, with_record, step_by_sort, step_by_fields, step_by_list, step_by_text, line_step}
 use Rattle.cal_read.specs.declared.kind.StreamKind.{StreamKind}

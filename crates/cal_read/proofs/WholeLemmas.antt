@@ -1,6 +1,6 @@
 -- Records with entries of their own, piece by piece and as a whole.
-use Rattle.std.proofs.Common.{◌≡◌, ℕ, List, [], ◌∷◌, ◌++◌, refl, sym, ap, ◌∙◌, subst}
-use Rattle.std.specs.Prelude.{Result, Ok, Err, IsErr, IfErr}
+use Rattle.std.proofs.Common.{◌≡◌, ℕ, List, [], ◌++◌, sym, ap, ◌∙◌, subst}
+use Rattle.std.specs.Prelude.{Result, Err, IsErr, IfErr}
 use Rattle.std.specs.Result.{IsErrAnd}
 use Rattle.std.proofs.lemmas.Result.{err_from_is_err_and}
 use Rattle.cal_line.specs.Lines.{lines_of}
@@ -8,7 +8,7 @@ use Rattle.cal_value.specs.declared.record.Rec.{Rec}
 use Rattle.cal_read.specs.Owned.{AppendsRows}
 use Rattle.cal_read.specs.Reading.{Ends, rows_made, rows_of_lines, rows_before}
 use Rattle.cal_read.specs.Standing.{TakesUpTo}
-use Rattle.cal_read.specs.Stream.{Stream, IsStream, IsStreamOf}
+use Rattle.cal_read.specs.Stream.{IsStream, IsStreamOf}
 use Rattle.cal_read.specs.declared.end.StreamEnd.{StreamEnd}
 
 -- a refusal that is passed on

@@ -1,7 +1,6 @@
 -- What is held of the nodes of a stream, over a context (private).
 use Rattle.std.specs.Prelude.{◌≡◌, ℕ, ◌<◌, List, Option, Some, None, length, map, nat_eq}
 use Rattle.std.specs.Prelude.{slice_index_or}
-use Rattle.cal_context.specs.Snapshots.{IsBelowRoot}
 use Rattle.cal_context.specs.Tree.{Tree, attribute_at, path_at}
 use Rattle.cal_context.specs.declared.numbers.AttributeNumber.{AttributeNumber}
 use Rattle.cal_value.specs.declared.attribute.Attribute.{Attribute}

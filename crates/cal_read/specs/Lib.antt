@@ -14,3 +14,5 @@ pub mod Standing
 pub mod Cuts
 pub mod Reading
 pub mod Owned
+pub mod Usual
+pub mod UsualNodes

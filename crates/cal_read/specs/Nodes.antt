@@ -1,5 +1,5 @@
 -- The nodes of a stream, by their ids.
-use Rattle.std.specs.Prelude.{ℕ, ℤ, pos, ◌==◌, ◌^◌, nat_lt, List, [], ◌∷◌, ◌++◌, map, fold}
+use Rattle.std.specs.Prelude.{ℕ, pos, ◌==◌, ◌^◌, nat_lt, List, [], ◌∷◌, ◌++◌, map, fold}
 use Rattle.std.specs.Prelude.{Option, Some, None, unwrap_or, if◌then◌else◌}
 use Rattle.std.specs.Option.{option_and_then, option_map}
 use Rattle.cal_value.specs.declared.attribute.Attribute.{Attribute}

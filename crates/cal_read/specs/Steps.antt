@@ -1,5 +1,5 @@
 -- What the steps of the reader answer (private).
-use Rattle.std.specs.Prelude.{◌≡◌, ℕ, List, [], Result, Ok, Err}
+use Rattle.std.specs.Prelude.{◌≡◌, Result, Ok, Err}
 use Rattle.cal_read.specs.declared.end.LineEnd as ends
 use Rattle.cal_read.specs.declared.end.LineEnd.TheVariants as end
 use Rattle.cal_read.specs.declared.kind.StreamKind.{StreamKind}

@@ -3,6 +3,7 @@ ghost use Rattle.cal_read.specs.Steps.{Answers};
 
 use crate::StreamKind;
 use crate::end::LineEnd;
+use crate::short::short_number;
 use cal_line::Piece;
 use cal_value::{Kind, ValueFault, Variant, parse_value};
 use std::alloc::Global;
@@ -15,9 +16,12 @@ pub(crate) fn read_id(alloc: Global, piece: &Piece) -> Result<u64, LineEnd>
     id_in(alloc, text.as_str())
 }
 
-fn id_in(alloc: Global, text: &str) -> Result<u64, LineEnd>
+pub(crate) fn id_in(alloc: Global, text: &str) -> Result<u64, LineEnd>
     ensures { Answers result (id_of text.now) }
 {
+    if let Some(id) = short_number(text.as_bytes()) {
+        return Ok(id);
+    }
     match parse_value(alloc, Kind::Uint, text) {
         Ok(Variant::Uint(id)) => Ok(id),
         Err(ValueFault::OutOfMemory) => Err(LineEnd::OutOfMemory),

@@ -13,9 +13,13 @@ mod nodes;
 mod place;
 mod reader;
 mod record_line;
+mod short;
 mod sort;
 mod stream;
 mod stream_reader;
+mod usual;
+mod usual_node;
+mod usual_row;
 mod whole;
 
 pub use end::StreamEnd;

@@ -5,7 +5,8 @@ ghost use Rattle.cal_value.specs.Order.{value_cmp};
 ghost use Rattle.cal_context.specs.Snapshots.{IsBelowRoot};
 ghost use Rattle.cal_context.specs.Tree.{Grows, attribute_at};
 ghost use Rattle.cal_read.specs.Held.{AreHeld, HoldsSome, IsHeld};
-ghost use Rattle.cal_read.specs.NodeLines.{node_step, node_value, same_content, site_of, with_node};
+ghost use Rattle.cal_read.specs.NodeLines.{node_step, node_value, same_content, site_of, with_ids};
+ghost use Rattle.cal_read.specs.NodeLines.{with_node};
 ghost use Rattle.cal_read.specs.Nodes.{Named, Node, node_at};
 ghost use Rattle.cal_read.specs.Sites.{IsSite, IsToBe};
 ghost use Rattle.cal_read.specs.Steps.{Answers, AnswersFor};
@@ -17,7 +18,7 @@ use crate::node_texts::{NodeIds, ids_of, texts_of};
 use crate::nodes::{Held, Nodes, Place};
 use crate::place::{misfit, number_of, place_below, props_in, root};
 use cal_context::{AttributeNumber, Context};
-use cal_line::{Fields, Piece};
+use cal_line::Fields;
 use cal_value::{OutOfMemory, ValueFault, Variant, parse_value};
 use std::alloc::Global;
 
@@ -42,12 +43,29 @@ pub(crate) fn read_node(
 {
     let texts = texts_of(alloc, fields)?;
     let ids = ids_of(alloc, &texts)?;
-    let site = site_of(nodes, &ids, context)?;
-    let value = node_value(alloc, context, ids.attribute, site.attribute, &texts.value)?;
+    let text = texts.value.text(alloc)?;
+    add_node(alloc, nodes, &ids, text.as_str(), context)
+}
+
+/// Adds the node of these ids and this text. After an `Err` the nodes are of no more use.
+pub(crate) fn add_node(
+    alloc: Global,
+    nodes: &mut Nodes,
+    ids: &NodeIds,
+    text: &str,
+    context: &mut Context,
+) -> Result<(), LineEnd>
+    requires { HoldsSome context.old nodes.old }
+    ensures grows { Grows context.old context.new }
+    ensures read { (named : List Named) → AreHeld context.old nodes.old named
+        → AnswersFor (λ _. AreHeld context.new nodes.new) result (with_ids named ids.now text.now) }
+{
+    let site = site_of(nodes, ids, context)?;
+    let value = node_value(alloc, context, ids.attribute, site.attribute, text)?;
     if let Some(kind) = misfit(ids.attribute, &site.above) {
         return Err(LineEnd::Bad(kind));
     }
-    put_node(alloc, nodes, &ids, &site, &value, context)
+    put_node(alloc, nodes, ids, &site, &value, context)
 }
 
 /// The attribute and the place above, of these ids.
@@ -76,19 +94,18 @@ fn site_of(nodes: &Nodes, ids: &NodeIds, context: &Context) -> Result<Site, Line
     })
 }
 
-/// The value that a piece has.
+/// The value that a text has.
 fn node_value(
     alloc: Global,
     context: &Context,
     id: u64,
     number: AttributeNumber,
-    piece: &Piece,
+    text: &str,
 ) -> Result<Variant, LineEnd>
     requires { number.0 < length context.now.attributes }
-    ensures { Answers result (node_value id (attribute_at context.now number) piece.now) }
+    ensures { Answers result (node_value id (attribute_at context.now number) text.now) }
 {
-    let text = piece.text(alloc)?;
-    match parse_value(alloc, context.attribute_at(number).kind, text.as_str()) {
+    match parse_value(alloc, context.attribute_at(number).kind, text) {
         Ok(value) => {
             if id == BuiltIn::OfProps.id() && props_in(&value).is_none() {
                 return Err(LineEnd::Bad(StreamKind::BadValue));

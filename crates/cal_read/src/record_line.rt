@@ -26,10 +26,10 @@ use std::alloc::Global;
 /// what is known of these.
 #[derive(Drop)]
 pub(crate) struct Columns {
-    refs: Vec<u64>,
-    ids: Vec<u64>,
-    found: Vec<Option<AttributeNumber>>,
-    numbers: Vec<AttributeNumber>,
+    pub(crate) refs: Vec<u64>,
+    pub(crate) ids: Vec<u64>,
+    pub(crate) found: Vec<Option<AttributeNumber>>,
+    pub(crate) numbers: Vec<AttributeNumber>,
 }
 
 impl Columns {
@@ -133,7 +133,11 @@ fn fill(
 }
 
 /// Pushes the nodes of ids.
-fn push_nodes(nodes: &Nodes, ids: &[u64], ends: &mut Vec<NodeNumber>) -> Result<(), LineEnd>
+pub(crate) fn push_nodes(
+    nodes: &Nodes,
+    ids: &[u64],
+    ends: &mut Vec<NodeNumber>,
+) -> Result<(), LineEnd>
     requires { ends.old.items ≡ [] }
     ensures { (t : Tree) (named : List Named) → AreHeld t nodes.now named
         → AnswersFor (λ _. AreEnds t ends.new.items) result (each (known named) ids.now) }
@@ -148,7 +152,7 @@ fn push_nodes(nodes: &Nodes, ids: &[u64], ends: &mut Vec<NodeNumber>) -> Result<
 }
 
 /// Pushes what is known of the attributes that the nodes of ids are.
-fn push_found(
+pub(crate) fn push_found(
     nodes: &Nodes,
     ids: &[u64],
     found: &mut Vec<Option<AttributeNumber>>,
@@ -167,7 +171,7 @@ fn push_found(
 }
 
 /// Pushes the attributes that nodes are, where each is one.
-fn push_numbers(
+pub(crate) fn push_numbers(
     found: &[Option<AttributeNumber>],
     numbers: &mut Vec<AttributeNumber>,
 ) -> Result<(), LineEnd>

@@ -9,10 +9,12 @@ use crate::StreamKind;
 use crate::built_in::built_in_nodes;
 use crate::end::LineEnd;
 use crate::keys::repeats_key;
-use crate::node_line::read_node;
+use crate::node_line::{add_node, read_node};
 use crate::nodes::Nodes;
 use crate::record_line::{Columns, read_record};
 use crate::sort::{Sort, sort_of};
+use crate::usual_node::usual_node;
+use crate::usual_row::read_usual_row;
 use cal_context::{Context, Snapshot, Taker};
 use cal_line::{FieldEnd, Fields, Splitter};
 use cal_value::OutOfMemory;
@@ -86,6 +88,56 @@ impl Stream {
     }
 
     fn read_text<T: Taker>(
+        &mut self,
+        alloc: Global,
+        splitter: &mut Splitter,
+        line: &str,
+        context: &mut Context,
+        taker: &mut T,
+    ) -> Result<(), LineEnd>
+        requires { StandsForSome context.old self.old }
+        ensures grows { Grows context.old context.new }
+        ensures read { (s : streams.Stream) → Stands context.old self.old s → AnswersFor
+            (λ _. TakesLine context.new self.new
+            (T.has_taken taker.old context.old) (T.has_taken taker.new context.new) s)
+            result (streams.step_by_list s line.now) }
+    {
+        match read_usual_row(
+            alloc,
+            &self.nodes,
+            &mut self.columns,
+            line,
+            context,
+            &mut self.row,
+        ) {
+            Ok(()) => Ok(taker.take(context, &self.row)?),
+            Err(_) => self.read_other(alloc, splitter, line, context, taker),
+        }
+    }
+
+    fn read_other<T: Taker>(
+        &mut self,
+        alloc: Global,
+        splitter: &mut Splitter,
+        line: &str,
+        context: &mut Context,
+        taker: &mut T,
+    ) -> Result<(), LineEnd>
+        requires { StandsForSome context.old self.old }
+        ensures grows { Grows context.old context.new }
+        ensures read { (s : streams.Stream) → Stands context.old self.old s → AnswersFor
+            (λ _. TakesLine context.new self.new
+            (T.has_taken taker.old context.old) (T.has_taken taker.new context.new) s)
+            result (streams.step_by_list s line.now) }
+    {
+        match usual_node(line) {
+            Ok(node) => add_node(alloc, &mut self.nodes, &node.ids, node.text, context),
+            Err(_) => self.read_split(alloc, splitter, line, context, taker),
+        }
+    }
+
+    /// Reads a line field by field.
+    fn read_split<T: Taker>(
         &mut self,
         alloc: Global,
         splitter: &mut Splitter,

@@ -1,4 +1,4 @@
-use Rattle.std.proofs.Common.{◌≡◌, sym, ◌∙◌, ap}
+use Rattle.std.proofs.Common.{◌≡◌}
 use Rattle.std.specs.Prelude.{Result, Ok, Err}
 use Rattle.cal_input.specs.FirstFault.{after_lines}
 use Rattle.cal_input.proofs.FirstFaults.{falls_whole}

@@ -1,4 +1,4 @@
-use Rattle.std.proofs.Common.{sym, ◌∙◌, ◌==◌, ◌&&◌, nat_eq, false, ap}
+use Rattle.std.proofs.Common.{sym, ◌∙◌, ◌&&◌, ap}
 use Rattle.std.specs.Ordering.{eq_by_cmp}
 use Rattle.cal_value.specs.Order.{value_cmp}
 use Rattle.cal_read.proofs.SiteLemmas.{content}

@@ -1,4 +1,4 @@
-use Rattle.std.proofs.Common.{[], sym, ap, subst}
+use Rattle.std.proofs.Common.{sym, ap, subst}
 use Rattle.std.proofs.lemmas.Result.{IfErr-weaker, on_ok_weaker}
 use Rattle.cal_line.specs.Lines.{lines_of}
 use Rattle.cal_read.specs.Reading.{IsRefusalOf, rows_before, rows_of_lines}

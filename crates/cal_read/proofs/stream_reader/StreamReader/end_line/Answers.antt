@@ -1,4 +1,4 @@
-use Rattle.std.proofs.Common.{◌+◌, sym, ap, ◌∙◌, refl}
+use Rattle.std.proofs.Common.{sym, ap, ◌∙◌, refl}
 use Rattle.cal_read.specs.Standing.{TakesLine}
 use Rattle.cal_read.specs.Stream.{line_step}
 use Rattle.cal_read.proofs.ReadLemmas.{read_ended, takes_ended, fault_ended}

@@ -1,0 +1,73 @@
+ghost use Rattle.std.specs.Prelude.{◌≡◌, ◌<◌, ◌≤◌, List, [], length, IfOk};
+ghost use Rattle.std.specs.List.{All};
+ghost use Rattle.cal_read.specs.Held.{AreHeld, HoldsSome};
+ghost use Rattle.cal_read.specs.Nodes.{Named};
+ghost use Rattle.cal_read.specs.Usual.{IsUsualRow, ReadsImms};
+
+use crate::nodes::Nodes;
+use crate::record_line::{Columns, push_found, push_nodes, push_numbers};
+use crate::short::value_in;
+use crate::usual::{Unusual, plain_end, read_columns};
+use cal_context::{AttributeNumber, Context, Immediate, Snapshot};
+use std::alloc::Global;
+
+/// Reads a row in one go from a line like `__rec=ctx,ref=7,attr=8=9,data=a=b`, in which nothing is
+/// escaped. An `Err` says nothing of the line.
+pub(crate) fn read_usual_row(
+    alloc: Global,
+    nodes: &Nodes,
+    columns: &mut Columns,
+    line: &str,
+    context: &Context,
+    snapshot: &mut Snapshot,
+) -> Result<(), Unusual>
+    requires { HoldsSome context.now nodes.now }
+    ensures { IfOk result (λ _. (named : List Named) → AreHeld context.now nodes.now named
+        → IsUsualRow context.now named line.now snapshot.new) }
+{
+    snapshot.clear();
+    columns.found.clear();
+    columns.numbers.clear();
+    let start = read_columns(alloc, line, &mut columns.refs, &mut columns.ids)?;
+    push_nodes(nodes, &columns.refs, &mut snapshot.nodes)?;
+    push_found(nodes, &columns.ids, &mut columns.found)?;
+    push_numbers(&columns.found, &mut columns.numbers)?;
+    let imms = &mut snapshot.imms;
+    let end = push_imms_at(alloc, context, &columns.numbers, line, start, imms)?;
+    if end < line.len() {
+        return Err(Unusual);
+    }
+    Ok(())
+}
+
+/// Pushes the immediates that pair attributes with the values at a place, and answers where these
+/// end.
+fn push_imms_at(
+    alloc: Global,
+    context: &Context,
+    numbers: &[AttributeNumber],
+    line: &str,
+    start: usize,
+    imms: &mut Vec<Immediate>,
+) -> Result<usize, Unusual>
+    requires known { All (λ n. n.0 < length context.now.attributes) numbers.now }
+    requires start { start ≤ length line.now }
+    requires none { imms.old.items ≡ [] }
+    ensures { IfOk result (λ end.
+        ReadsImms context.now numbers.now line.now start end imms.new.items) }
+{
+    let bytes = line.as_bytes();
+    let mut place = start;
+    for number in numbers {
+        if place == bytes.len() || bytes[place] != b'=' {
+            return Err(Unusual);
+        }
+        let attribute = *number;
+        let end = plain_end(line, place + 1);
+        let kind = context.attribute_at(attribute).kind;
+        let value = value_in(alloc, kind, &line[place + 1..end])?;
+        imms.push(Immediate { attribute, value })?;
+        place = end;
+    }
+    Ok(place)
+}
