@@ -32,15 +32,15 @@ among_word (first ∷ names) name all found =
 
 service_words : All IsWord service_names
 service_words =
-    All-cons IsWord (codes "time.duration.ns") _ (literal (codes "time.duration.ns") refl refl)
-    (All-cons IsWord (codes "time.inclusive.duration.ns") _ (literal (codes "time.inclusive.duration.ns") refl refl)
-    (All-cons IsWord (codes "region.depth") _ (literal (codes "region.depth") refl refl)
+    All-cons IsWord (codes "time.duration.ns") (codes "time.inclusive.duration.ns" ∷ codes "region.depth" ∷ codes "region.count" ∷ []) (literal (codes "time.duration.ns") refl refl)
+    (All-cons IsWord (codes "time.inclusive.duration.ns") (codes "region.depth" ∷ codes "region.count" ∷ []) (literal (codes "time.inclusive.duration.ns") refl refl)
+    (All-cons IsWord (codes "region.depth") (codes "region.count" ∷ []) (literal (codes "region.depth") refl refl)
     (All-cons IsWord (codes "region.count") [] (literal (codes "region.count") refl refl) (All-nil IsWord))))
 
 front_words : All IsWord event_fronts
 front_words =
-    All-cons IsWord (codes "event.begin") _ (literal (codes "event.begin") refl refl)
-    (All-cons IsWord (codes "event.end") _ (literal (codes "event.end") refl refl)
+    All-cons IsWord (codes "event.begin") (codes "event.end" ∷ codes "event.set" ∷ []) (literal (codes "event.begin") refl refl)
+    (All-cons IsWord (codes "event.end") (codes "event.set" ∷ []) (literal (codes "event.end") refl refl)
     (All-cons IsWord (codes "event.set") [] (literal (codes "event.set") refl refl) (All-nil IsWord)))
 
 both : (a b : Bool) → (a && b) ≡ true → (a ≡ true) × (b ≡ true)
@@ -62,11 +62,11 @@ event_word declared name (front ∷ attribute ∷ more ∷ parts) all cut is = a
 
 known_word : (declared : List (List ℕ)) (name : List ℕ) → All IsWord declared → is_known declared name ≡ true → IsWord name
 known_word declared name all is =
-    either (is_among declared name) (is_among service_names name || is_event_name declared (pieces 35 name)) is
+    either (is_among declared name || is_among service_names name) (is_event_name declared (pieces 35 name)) is
+    (λ is. either (is_among declared name) (is_among service_names name) is
     (λ found. among_word declared name all found)
-    (λ is. either (is_among service_names name) (is_event_name declared (pieces 35 name)) is
-    (λ found. among_word service_names name service_words found)
-    (λ is. event_word declared name (pieces 35 name) all refl is))
+    (λ found. among_word service_names name service_words found))
+    (λ is. event_word declared name (pieces 35 name) all refl is)
 
 -- ---- more declared names
 
@@ -91,11 +91,14 @@ event_more declared more (front ∷ attribute ∷ next ∷ parts) is = absurd cc
 
 known_more : (declared more : List (List ℕ)) (name : List ℕ) → is_known declared name ≡ true → is_known (declared ++ more) name ≡ true
 known_more declared more name is =
-    either (is_among declared name) (is_among service_names name || is_event_name declared (pieces 35 name)) is
-    (λ found. or_true (is_among (declared ++ more) name) _ (among_more declared more name found))
-    (λ is. or_right (is_among (declared ++ more) name) _ (either (is_among service_names name) (is_event_name declared (pieces 35 name)) is
-    (λ found. or_true (is_among service_names name) _ found)
-    (λ is. or_right (is_among service_names name) _ (event_more declared more (pieces 35 name) is))))
+    let here : Bool = is_among (declared ++ more) name in
+    let service : Bool = is_among service_names name in
+    let event : Bool = is_event_name (declared ++ more) (pieces 35 name) in
+    either (is_among declared name || is_among service_names name) (is_event_name declared (pieces 35 name)) is
+    (λ is. or_true (here || service) event (either (is_among declared name) (is_among service_names name) is
+    (λ found. or_true here service (among_more declared more name found))
+    (λ found. or_right here service found)))
+    (λ is. or_right (here || service) event (event_more declared more (pieces 35 name) is))
 
 -- ---- a line of names
 

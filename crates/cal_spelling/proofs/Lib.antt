@@ -6,3 +6,8 @@ pub mod Growth
 pub mod Chains
 pub mod Known
 pub mod Services
+pub mod Legible
+pub mod HeaderLines
+pub mod ReaderLines
+pub mod WrittenHeader
+pub mod WrittenThreads

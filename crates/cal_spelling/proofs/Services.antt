@@ -1,5 +1,5 @@
 -- The services of a channel.
-use Rattle.std.proofs.Common.{◌≡◌, ◌≢◌, ℕ, ◌≤◌, Bool, true, false, ◌||◌, ◌&&◌, cond, eqb, List, [], ◌∷◌, ◌++◌, length, map, refl, sym, ap, subst, ◌∙◌, arith, lit≤, lit<}
+use Rattle.std.proofs.Common.{◌≡◌, ◌≢◌, ℕ, ◌≤◌, Bool, true, false, ◌||◌, ◌&&◌, cond, eqb, List, [], ◌∷◌, ◌++◌, length, map, refl, sym, ap, subst, ◌∙◌, append_assoc, arith, lit≤, lit<}
 use Rattle.std.specs.Prelude.{Result, Ok, Err, codes}
 use Rattle.std.specs.List.{All, join_with_byte, list_all, list_any}
 use Rattle.std.specs.Str.{bytes_eq}
@@ -33,7 +33,7 @@ bare_query = record { by_default = true; keys = []; values = [] }
 
 -- what the services leave of a channel
 pub record IsServed (name : List ℕ) (channel : Channel) : Type 0 where
-  pub name : channel.name ≡ name
+  pub same : channel.name ≡ name
   pub query : channel.query ≡ bare_query
   pub probes : are_probes channel.probes ≡ true
 
@@ -70,14 +70,14 @@ probe_served name channel next p served is =
     let made : Channel = record channel { probes = channel.probes ++ p ∷ [] } in
     let passed = unless_ok (list_any (is_probe p) channel.probes) BadService (Ok made) next is in
     made_served name made next (Ok made) refl passed.1
-    (record { name = served.name; query = served.query; probes = probes_more channel.probes p served.probes passed.0 })
+    (record { same = served.same; query = served.query; probes = probes_more channel.probes p served.probes passed.0 })
 
 service_served : (name : List ℕ) (channel next : Channel) (word : List ℕ) → IsServed name channel → with_service channel word ≡ Ok next → IsServed name next
 service_served name channel next word served is =
-    choice_ok (bytes_eq word (codes "event")) _ _ next is (λ e. flag_served name channel.event (record channel { event = true }) next (record { name = served.name; query = served.query; probes = served.probes }) e) (λ is.
-    choice_ok (bytes_eq word (codes "timer")) _ _ next is (λ e. flag_served name channel.timer (record channel { timer = true }) next (record { name = served.name; query = served.query; probes = served.probes }) e) (λ is.
-    choice_ok (bytes_eq word (codes "trace")) _ _ next is (λ e. flag_served name channel.trace (record channel { trace = true }) next (record { name = served.name; query = served.query; probes = served.probes }) e) (λ is.
-    choice_ok (bytes_eq word (codes "aggregate")) _ _ next is (λ e. flag_served name channel.aggregate (record channel { aggregate = true }) next (record { name = served.name; query = served.query; probes = served.probes }) e) (λ is.
+    choice_ok (bytes_eq word (codes "event")) _ _ next is (λ e. flag_served name channel.event (record channel { event = true }) next (record { same = served.same; query = served.query; probes = served.probes }) e) (λ is.
+    choice_ok (bytes_eq word (codes "timer")) _ _ next is (λ e. flag_served name channel.timer (record channel { timer = true }) next (record { same = served.same; query = served.query; probes = served.probes }) e) (λ is.
+    choice_ok (bytes_eq word (codes "trace")) _ _ next is (λ e. flag_served name channel.trace (record channel { trace = true }) next (record { same = served.same; query = served.query; probes = served.probes }) e) (λ is.
+    choice_ok (bytes_eq word (codes "aggregate")) _ _ next is (λ e. flag_served name channel.aggregate (record channel { aggregate = true }) next (record { same = served.same; query = served.query; probes = served.probes }) e) (λ is.
     choice_ok (bytes_eq word (codes "region.depth")) _ _ next is (λ e. probe_served name channel next probe.Depth served e) (λ is.
     choice_ok (bytes_eq word (codes "region.count")) _ _ next is (λ e. probe_served name channel next probe.Count served e) (λ is. absurd cc))))))
 
@@ -91,19 +91,21 @@ services_served name (word ∷ words) channel next served is =
 
 -- a service is a word without a comma
 record IsService (word : List ℕ) : Type 0 where
-  word : IsWord word
+  fine : IsWord word
   whole : All (λ byte. eqb byte 44 ≡ false) word
+
+neither : (a b : Bool) → (a || b) ≡ false → (a ≡ false) × (b ≡ false)
+neither true b is = absurd cc
+neither false b is = (refl, is)
 
 no_commas : (word : List ℕ) → list_any (λ byte. eqb byte 44) word ≡ false → All (λ byte. eqb byte 44 ≡ false) word
 no_commas [] is = All-nil (λ byte. eqb byte 44 ≡ false)
-no_commas (byte ∷ word) is = by_first (eqb byte 44) refl is
-  where
-    by_first : (same : Bool) → eqb byte 44 ≡ same → (same || list_any (λ byte. eqb byte 44) word) ≡ false → All (λ byte. eqb byte 44 ≡ false) (byte ∷ word)
-    by_first true first is = absurd cc
-    by_first false first is = All-cons (λ byte. eqb byte 44 ≡ false) byte word first (no_commas word is)
+no_commas (byte ∷ word) is =
+    let none = neither (eqb byte 44) (list_any (λ byte. eqb byte 44) word) is in
+    All-cons (λ byte. eqb byte 44 ≡ false) byte word none.0 (no_commas word none.1)
 
 service : (word : List ℕ) → IsWord word → list_any (λ byte. eqb byte 44) word ≡ false → IsService word
-service word is none = record { word = is; whole = no_commas word none }
+service word is none = record { fine = is; whole = no_commas word none }
 
 flag_services : (has : Bool) (word : List ℕ) → IsService word → All IsService (cond has (word ∷ []) [])
 flag_services true word is = All-cons IsService word [] is (All-nil IsService)
@@ -134,9 +136,9 @@ pieces_joined first (next ∷ words) all =
     ∙ ap (λ more. first ∷ more) (pieces_joined next words (All-tail IsService first (next ∷ words) all))
 
 joined_word : (first : List ℕ) (words : List (List ℕ)) → All IsService (first ∷ words) → IsWord (join_with_byte 44 (first ∷ words))
-joined_word first [] all = (All-head IsService first [] all).word
+joined_word first [] all = (All-head IsService first [] all).fine
 joined_word first (next ∷ words) all =
-    word_between first (join_with_byte 44 (next ∷ words)) 44 (lit≤ tt, lit< tt) (All-head IsService first (next ∷ words) all).word
+    word_between first (join_with_byte 44 (next ∷ words)) 44 (lit≤ tt, lit< tt) (All-head IsService first (next ∷ words) all).fine
     (joined_word next words (All-tail IsService first (next ∷ words) all))
 
 -- a channel with these services so far
@@ -215,6 +217,9 @@ not_none false false false false more kept none = absurd cc
 
 pub are_services : (channel : Channel) → are_probes channel.probes ≡ true → (channel.trace || channel.aggregate) ≡ true → AreServices channel
 are_services channel are kept =
-    some_services channel (services channel) refl (all_services channel.event channel.timer channel.trace channel.aggregate channel.probes)
+    let nested : List (List ℕ) =
+    cond channel.event (codes "event" ∷ []) [] ++ (cond channel.timer (codes "timer" ∷ []) [] ++ (cond channel.trace (codes "trace" ∷ []) [] ++ (cond channel.aggregate (codes "aggregate" ∷ []) [] ++ map probe_name channel.probes))) in
+    let same : services channel ≡ nested = simp append_assoc in
+    some_services channel nested same (all_services channel.event channel.timer channel.trace channel.aggregate channel.probes)
     (not_none channel.event channel.timer channel.trace channel.aggregate (map probe_name channel.probes) kept)
     (made_said channel.name channel.event channel.timer channel.trace channel.aggregate channel.probes are)

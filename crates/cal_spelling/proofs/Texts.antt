@@ -1,6 +1,9 @@
 -- The text of a value is UTF-8, where the value of a text is.
-use Rattle.std.proofs.Common.{◌+◌, ◌/◌, ◌%◌, ◌<◌, ◌≤◌, ◌^◌, ℕ, zero, suc, ℤ, pos, negsuc, Bool, true, false, List, [], ◌∷◌, refl, arith, lit<, lit≤}
-use Rattle.std.specs.Prelude.{unsigned_abs, codes, decimal, if◌then◌else◌}
+use Rattle.std.proofs.Common.{◌≡◌, ◌+◌, ◌/◌, ◌%◌, ◌<◌, ◌≤◌, ◌^◌, ℕ, zero, suc, ℤ, pos, negsuc, Bool, true, false, List, [], ◌∷◌, refl, arith, lit<, lit≤}
+use Rattle.std.specs.Prelude.{nat_lt, unsigned_abs, codes, decimal, if◌then◌else◌}
+use Rattle.std.specs.List.{list_all}
+use Rattle.std.specs.Cmp.{first_so, second_so}
+use borrow.Author.Tests.{ltb-true}
 use Rattle.std.specs.Char.{digit_value}
 use Rattle.std.specs.Fmt.{digits, signed_decimal}
 use Rattle.std.specs.Str.{IsAscii, IsUtf8}
@@ -8,7 +11,7 @@ use Rattle.std.specs.Str.Parse.{AllDigits}
 use Rattle.std.proofs.Math.Nat.{div-lt_iff_lt-mul, one-le-pow, pow-suc}
 use Rattle.std.proofs.lemmas.Bool.Decides.{nat_tests}
 use Rattle.std.proofs.lemmas.Fmt.{IsAscii-decimal_wide, digits_is_IsNumeral}
-use Rattle.std.proofs.lemmas.Str.{IsAscii-append, IsUtf8-from_ascii, IsUtf8-from_is_utf8}
+use Rattle.std.proofs.lemmas.Str.{IsAscii-append, IsUtf8-from_ascii}
 use Rattle.std.proofs.lemmas.Str.Ascii.{IsAscii-nil, IsAscii-cons}
 use Rattle.cal_value.specs.Decimals.{decimal_text, digits_behind, fixed_text, rest_text}
 use Rattle.cal_value.specs.Values.{address_text}
@@ -64,6 +67,13 @@ address_utf8 a small =
     (IsAscii-cons 48 (120 ∷ digits 16 false a) (lit< tt)
     (IsAscii-cons 120 (digits 16 false a) (lit< tt) (ascii_hexadecimal (digits 16 false a) is.0.1)))
 
+ascii_all : (bs : List ℕ) → list_all (λ b. nat_lt b 128) bs ≡ true → IsAscii bs
+ascii_all [] is = IsAscii-nil
+ascii_all (b ∷ bs) is =
+    let first = first_so (nat_lt b 128) (list_all (λ b. nat_lt b 128) bs) is in
+    let rest = second_so (nat_lt b 128) (list_all (λ b. nat_lt b 128) bs) is in
+    IsAscii-cons b bs (ltb-true b 128 first) (ascii_all bs rest)
+
 pub truth_utf8 : (b : Bool) → IsUtf8 (if b then codes "true" else codes "false")
-truth_utf8 true = IsUtf8-from_is_utf8 (codes "true") refl
-truth_utf8 false = IsUtf8-from_is_utf8 (codes "false") refl
+truth_utf8 true = IsUtf8-from_ascii (codes "true") (ascii_all (codes "true") refl)
+truth_utf8 false = IsUtf8-from_ascii (codes "false") (ascii_all (codes "false") refl)

@@ -1,5 +1,5 @@
 -- Texts that are UTF-8, cut at bytes of ASCII and spelled with escapes.
-use Rattle.std.proofs.Common.{◌≡◌, ◌≢◌, ℕ, ◌+◌, ◌<◌, ◌≤◌, Bool, true, false, ◌||◌, eqb, List, [], ◌∷◌, ◌++◌, length, get_or, take, drop, map, refl, sym, ap, subst, ◌∙◌, append_assoc, append-nil, arith, lit<}
+use Rattle.std.proofs.Common.{◌≡◌, ◌≢◌, ℕ, zero, suc, ◌+◌, ◌<◌, ◌≤◌, Bool, true, false, ◌||◌, eqb, List, [], ◌∷◌, ◌++◌, length, get_or, take, drop, map, refl, sym, ap, subst, ◌∙◌, append_assoc, add-one, arith, lit<}
 use Rattle.std.specs.Prelude.{slice_index, Some}
 use Rattle.std.specs.Str.{IsUtf8, IsCharBoundary}
 use Rattle.std.proofs.lemmas.Bool.{eqb-true, ne_eqb}
@@ -19,9 +19,12 @@ byte_or : (front rest : List ℕ) (byte : ℕ) → get_or (front ++ byte ∷ res
 byte_or [] rest byte = refl
 byte_or (first ∷ front) rest byte = byte_or front rest byte
 
+seam : (front rest : List ℕ) (byte : ℕ) → drop (suc (length front)) (front ++ byte ∷ rest) ≡ rest
+seam [] rest byte = refl
+seam (first ∷ front) rest byte = seam front rest byte
+
 after_seam : (front rest : List ℕ) (byte : ℕ) → drop (length front + 1) (front ++ byte ∷ rest) ≡ rest
-after_seam [] rest byte = refl
-after_seam (first ∷ front) rest byte = after_seam front rest byte
+after_seam front rest byte = rw add-one (seam front rest byte)
 
 -- what stands before a byte of ASCII is UTF-8, and so is what stands behind it
 pub utf8_before : (front rest : List ℕ) (byte : ℕ) → byte < 128 → IsUtf8 (front ++ byte ∷ rest) → IsUtf8 front

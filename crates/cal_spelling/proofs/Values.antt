@@ -1,7 +1,7 @@
 -- A value that a line says is said by its own text.
 use Rattle.std.proofs.Common.{◌≡◌, ◌≢◌, ℕ, ℤ, pos, negsuc, ◌<◌, ◌≤◌, ◌^◌, Bool, true, false, ◌&&◌, ◌||◌, cond, eqb, leb, List, [], ◌∷◌, ◌++◌, length, refl, sym, ap, subst, ◌∙◌, arith, lit≤}
-use Rattle.std.specs.Prelude.{Option, Some, None, Ok, Result, unwrap_or, unsigned_abs, not, ◌==◌, nat_le}
-use Rattle.std.specs.List.{All, list_all}
+use Rattle.std.specs.Prelude.{Option, Some, None, Ok, Result, unwrap_or, unsigned_abs, codes, drop, not, ◌==◌, nat_eq, nat_le, if◌then◌else◌}
+use Rattle.std.specs.List.{All, list_all, starts_with}
 use Rattle.std.specs.Option.{ok_or, option_map}
 use Rattle.std.specs.Cmp.{second_so}
 use Rattle.std.specs.Str.{IsUtf8}
@@ -145,6 +145,10 @@ refused_kind : (found : Option kinds.Kind) (value : variants.Variant) → option
 refused_kind None value is fine = absurd cc
 refused_kind (Some k) value is fine = refused (variant.Kind k) value is refl fine
 
+-- the digits of an address
+abbrev digits_of : List ℕ → List ℕ
+digits_of text = if starts_with nat_eq text (codes "0x") then drop 2 text else text
+
 read_of : (k : kinds.Kind) (text : List ℕ) (value : variants.Variant) → IsUtf8 text → value_of k text ≡ Some value → is_allowed value ≡ true → IsReadOf text value
 read_of kind.Usr text value utf8 is fine = absurd (refused (variant.Usr text) value is refl fine)
 read_of kind.Int text value utf8 is fine = read_int text (int_of text) value is fine
@@ -152,7 +156,7 @@ read_of kind.Uint text value utf8 is fine = read_uint text (uint_of text) value 
 read_of kind.Str text value utf8 is fine =
     let same : variant.Text text ≡ value = cc in
     subst (IsReadOf text) same (record { range = tt; small = tt; proper = tt; utf8 = utf8 })
-read_of kind.Addr text value utf8 is fine = read_address text (address_of text) value (λ n found. hexadecimal_small _ n _ refl found) is
+read_of kind.Addr text value utf8 is fine = read_address text (address_of text) value (λ n found. hexadecimal_small (digits_of text) n (nat_le (length (digits_of text)) 16) refl found) is
 read_of kind.Double text value utf8 is fine = read_double text (fixed_of text) value refl utf8 is fine
 read_of kind.Bool text value utf8 is fine = read_truth text (truth_of text) value is
 read_of kind.TypeName text value utf8 is fine = absurd (refused_kind (kind_named text) value is fine)

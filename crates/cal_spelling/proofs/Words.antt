@@ -62,8 +62,7 @@ three true false c is = absurd cc
 three true true c is = (refl, refl, is)
 
 longer : (word : List ℕ) → 1 ≤ length word → is_word word ≡ true
-longer [] some = absurd (omega arith)
-longer (byte ∷ word) some = refl
+longer word some = grind (arith, nat_tests)
 
 pub name_word : (name : List ℕ) → is_name name ≡ true → IsWord name
 name_word name is =
@@ -94,7 +93,7 @@ kind_word kind.Ptr = literal (codes "ptr") refl refl
 pub word_between : (front rest : List ℕ) (byte : ℕ) → IsWordByte byte → IsWord front → IsWord rest → IsWord (front ++ byte ∷ rest)
 word_between [] rest byte is before behind = absurd (let bad = before.some in cc)
 word_between (first ∷ front) rest byte is before behind =
-    record { some = refl; bytes = All-append IsWordByte (first ∷ front) (byte ∷ rest) before.bytes (All-cons IsWordByte byte rest is behind.bytes) }
+    record { some = longer ((first ∷ front) ++ byte ∷ rest) (omega arith); bytes = All-append IsWordByte (first ∷ front) (byte ∷ rest) before.bytes (All-cons IsWordByte byte rest is behind.bytes) }
 
 -- ---- words in a line
 
