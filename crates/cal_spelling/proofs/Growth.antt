@@ -44,7 +44,7 @@ tree_grows t u a b threads arenas =
     let whole : (t + 1) * a ≤ (u + 1) * b = mul-le-mul (omega arith) arenas in
     omega (arith, quarter, whole)
 
-six_true : (a b c d e f : Bool) → a ≡ true → b ≡ true → c ≡ true → d ≡ true → e ≡ true → f ≡ true → (a && b && c && d && e && f) ≡ true
+pub six_true : (a b c d e f : Bool) → a ≡ true → b ≡ true → c ≡ true → d ≡ true → e ≡ true → f ≡ true → (a && b && c && d && e && f) ≡ true
 six_true a b c d e f p q r s t u = λ i. p i && q i && r i && s i && t i && u i
 
 all_six : (a b c d e f : Bool) → (a && b && c && d && e && f) ≡ true

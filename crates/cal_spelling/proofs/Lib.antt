@@ -11,3 +11,4 @@ pub mod HeaderLines
 pub mod ReaderLines
 pub mod WrittenHeader
 pub mod WrittenThreads
+pub mod Whole

@@ -64,9 +64,9 @@ abbrev pub heading : List Attribute → List Channel → Bool → List Entry →
 heading attributes channels valued globals =
     standing attributes channels valued globals [] [] None (record { lines = 0; process_lines = 0; shared = 0; own = 0; most = 0 })
 
-heading_grows : (attributes more : List Attribute) (channels others : List Channel) (valued later : Bool) (globals rest : List Entry)
-    → length attributes ≤ length more → length channels ≤ length others → Grows (heading attributes channels valued globals) (heading more others later rest)
-heading_grows attributes more channels others valued later globals rest fewer less = record {
+heading_grows : (attributes longer : List Attribute) (channels others : List Channel) (valued later : Bool) (globals rest : List Entry)
+    → length attributes ≤ length longer → length channels ≤ length others → Grows (heading attributes channels valued globals) (heading longer others later rest)
+heading_grows attributes longer channels others valued later globals rest fewer less = record {
   attributes = fewer;
   channels = less;
   threads = omega arith;
