@@ -1,10 +1,7 @@
 -- What is counted only grows from line to line, so that what fits at the end fits before.
-use Rattle.std.proofs.Common.{◌≡◌, ℕ, ◌+◌, ◌*◌, ◌/◌, ◌≤◌, Bool, true, false, ◌&&◌, leb, List, [], ◌∷◌, ◌++◌, length, max, refl, arith}
-use Rattle.std.specs.Prelude.{Option, Some, None}
-use Rattle.std.specs.Option.{option_to_list}
+use Rattle.std.proofs.Common.{◌≡◌, ℕ, ◌+◌, ◌*◌, ◌/◌, ◌≤◌, Bool, true, false, ◌&&◌, leb, length, refl, arith}
 use Rattle.std.proofs.Math.Nat.{mul-le-mul}
 use Rattle.std.proofs.lemmas.Bool.{le-leb, leb-true}
-use Rattle.std.proofs.lemmas.List.{length-append}
 use Rattle.cal_script.specs.Limits.{arena, fits, thread_count, tree_words}
 use Rattle.cal_script.specs.State.{State, counted, next_thread}
 use Rattle.cal_script.specs.declared.tally.Tally.{Tally}

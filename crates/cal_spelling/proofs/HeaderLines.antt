@@ -1,13 +1,12 @@
 -- What the lines of the header make can be written again.
-use Rattle.std.proofs.Common.{◌≡◌, ℕ, ◌≤◌, Bool, true, false, ◌||◌, ◌&&◌, cond, List, [], ◌∷◌, ◌++◌, length, map, refl, sym, ap, subst, ◌∙◌, arith, lit≤}
+use Rattle.std.proofs.Common.{◌≡◌, ℕ, ◌≤◌, Bool, true, false, ◌||◌, ◌&&◌, cond, List, [], ◌∷◌, ◌++◌, refl, sym, ap, subst, ◌∙◌, arith, lit≤}
 use Rattle.std.specs.Prelude.{Option, Some, None, Result, Ok, Err, codes, decimal, nat_le, not}
 use Rattle.std.specs.List.{All}
 use Rattle.std.specs.Option.{ok_or, option_map}
 use Rattle.std.specs.Cmp.{first_so}
 use Rattle.std.proofs.lemmas.Option.{get_or_from_slice_get, slice_get_within}
 use Rattle.std.proofs.lemmas.Bool.Decides.{nat_tests}
-use Rattle.std.proofs.lemmas.List.{map-append}
-use Rattle.std.proofs.lemmas.List.Elements.{All-map, All-nil, All-cons}
+use Rattle.std.proofs.lemmas.List.Elements.{All-nil, All-cons}
 use Rattle.cal_input.specs.FirstFault.{◌>>=◌, after_lines}
 use Rattle.cal_value.specs.Kinds.{kind_name, kind_named}
 use Rattle.cal_value.specs.Numerals.{at_most, number_of}
@@ -25,16 +24,16 @@ use Rattle.cal_script.specs.declared.script.Channel.{Channel}
 use Rattle.cal_script.specs.declared.script.ChannelQuery.{ChannelQuery}
 use Rattle.cal_script.specs.Lines.{pieces}
 use Rattle.cal_script.specs.Names.{is_attribute_name, is_name, is_reserved}
-use Rattle.cal_script.specs.Parts.{attribute_named, attribute_names, attribute_of, bare_channel, channel_names, channel_of, declarable, declared_props, is_among, is_event_name, is_known, is_text_kind, new_name, place_of, service_names, value_said, with_default_values, with_name, with_service}
+use Rattle.cal_script.specs.Parts.{attribute_named, attribute_names, attribute_of, bare_channel, channel_names, channel_of, declarable, declared_props, is_among, is_event_name, is_text_kind, new_name, place_of, service_names, value_said, with_default_values, with_name, with_service}
 use Rattle.cal_script.specs.Reading.{global_names, global_of, keyed, names_said, with_values}
 use Rattle.cal_script.specs.State.{State}
 use Rattle.std.specs.Str.{IsUtf8}
 use Rattle.cal_valid.proofs.Binds.{bind_ok, if_ok, ok_or_ok, unless_ok}
 use Rattle.cal_valid.proofs.Values.{named_at}
 use Rattle.cal_spelling.proofs.Chains.{found_itself, found_more, found_name}
-use Rattle.cal_spelling.proofs.Known.{names_taken, said_names, taken_more}
+use Rattle.cal_spelling.proofs.Known.{both, names_taken, said_names, taken_more}
 use Rattle.cal_spelling.proofs.Legible.{AreSaid, HasKeys, HasValues, IsNamed, IsNewAttribute, IsNewChannel, IsNewGlobal, IsQueried}
-use Rattle.cal_spelling.proofs.Services.{IsServed, are_probes, bare_query, services_served}
+use Rattle.cal_spelling.proofs.Services.{IsServed, bare_query, services_served}
 use Rattle.cal_spelling.proofs.Values.{spoken}
 use Rattle.cal_spelling.proofs.Words.{IsWord, literal, name_word}
 
@@ -45,7 +44,7 @@ pub record IsNew (allowed : List ℕ → Bool) (names : List (List ℕ)) (name :
   pub said : new_name (allowed name) names name ≡ Ok name
   pub fine : allowed name ≡ true
 
-not_false : (b : Bool) → not b ≡ false → b ≡ true
+pub not_false : (b : Bool) → not b ≡ false → b ≡ true
 not_false true is = refl
 not_false false is = absurd cc
 
@@ -123,10 +122,6 @@ attribute_again done words attribute is =
 
 -- ---- channels
 
-both_true : (a b : Bool) → (a && b) ≡ true → (a ≡ true) × (b ≡ true)
-both_true true b is = (refl, is)
-both_true false b is = absurd cc
-
 or_known : (a b c : Bool) → b ≡ true → (a || b || c) ≡ true
 or_known true b c is = refl
 or_known false true c is = refl
@@ -149,7 +144,7 @@ defaults names done channel true is bare new =
     let keys : [] ≡ channel.query.keys = sym (ap (λ (q : ChannelQuery). q.keys) bare) in
     let values : duration ∷ [] ≡ channel.query.values ++ duration ∷ [] = sym (ap (λ (q : ChannelQuery). q.values ++ duration ∷ []) bare) in
     let said : AreSaid names next false (duration ∷ []) = record {
-      aggregates = (both_true channel.aggregate channel.timer is).0;
+      aggregates = (both channel.aggregate channel.timer is).0;
       taken = duration_known names;
       words = All-cons IsWord duration [] (literal duration refl refl) (All-nil IsWord);
     } in (

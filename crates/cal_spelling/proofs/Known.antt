@@ -43,7 +43,7 @@ front_words =
     (All-cons IsWord (codes "event.end") (codes "event.set" ∷ []) (literal (codes "event.end") refl refl)
     (All-cons IsWord (codes "event.set") [] (literal (codes "event.set") refl refl) (All-nil IsWord)))
 
-both : (a b : Bool) → (a && b) ≡ true → (a ≡ true) × (b ≡ true)
+pub both : (a b : Bool) → (a && b) ≡ true → (a ≡ true) × (b ≡ true)
 both true b is = (refl, is)
 both false b is = absurd cc
 

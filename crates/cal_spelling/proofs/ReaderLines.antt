@@ -1,16 +1,15 @@
 -- Each line keeps that what stands can be written again.
-use Rattle.std.proofs.Common.{◌≡◌, ℕ, zero, suc, ◌+◌, ◌-◌, ◌<◌, ◌≤◌, ◌^◌, Bool, true, false, cond, List, [], ◌∷◌, ◌++◌, length, map, refl, sym, ap, subst, ◌∙◌, arith, lit<}
+use Rattle.std.proofs.Common.{◌≡◌, ℕ, ◌+◌, ◌<◌, ◌^◌, Bool, true, false, cond, List, [], ◌∷◌, ◌++◌, length, refl, sym, ap, subst, ◌∙◌, arith, lit<}
 use Rattle.std.specs.Prelude.{Option, Some, None, Result, Ok, Err, codes, is_some, not, slice_get, unwrap_or}
 use Rattle.std.specs.List.{All}
 use Rattle.std.specs.Option.{ok_or, option_to_list}
 use Rattle.std.specs.Str.{IsUtf8, bytes_eq, is_utf8}
-use Rattle.std.proofs.lemmas.Bool.Decides.{nat_tests}
 use Rattle.std.proofs.lemmas.List.{length_push, map-append}
 use Rattle.std.proofs.lemmas.List.Elements.{All-head, All-map, All-nil, All-push, All-cons, All-tail, All-weaker}
 use Rattle.std.proofs.lemmas.Option.{get_or_from_slice_get, slice_get_within}
 use Rattle.std.proofs.lemmas.Str.{IsUtf8-from_is_utf8}
 use Rattle.cal_input.specs.FirstFault.{◌>>=◌, after_lines}
-use Rattle.cal_value.specs.Numerals.{at_most, number_of}
+use Rattle.cal_value.specs.Numerals.{number_of}
 use Rattle.cal_value.specs.Props.{has_process_scope}
 use Rattle.cal_value.specs.Reading.{uint_of}
 use Rattle.cal_value.specs.declared.attribute.Attribute.{Attribute}
@@ -20,7 +19,7 @@ use Rattle.cal_script.specs.Lines.{is_skipped, is_word, joined, lines_of, no_wor
 use Rattle.cal_script.specs.Limits.{fits}
 use Rattle.cal_script.specs.Parts.{attribute_named, attribute_names, attribute_of, channel_named, channel_names, channel_of, number_said, place_of, value_said}
 use Rattle.cal_script.specs.Reading.{IsValidScript, attribute_after, channel_after, earlier_channels, end_after, flush_after, global_after, global_of, key_after, keyed, last_channel, limited, line_after, opening_after, opening_said, snapshot_after, text_after, thread_after, tick_after, value_after, with_values, words_after}
-use Rattle.cal_script.specs.State.{State, made_words, next_thread, no_lines, opening, script_of, with_line, with_opening}
+use Rattle.cal_script.specs.State.{State, next_thread, no_lines, opening, script_of, with_line, with_opening}
 use Rattle.cal_script.specs.declared.kind.ScriptKind.{ScriptKind}
 use Rattle.cal_script.specs.declared.kind.ScriptKind.TheVariants.{BadValue, Misplaced, NotAggregate, NotText, TooMany, WrongArity}
 use Rattle.cal_script.specs.declared.script.Channel.{Channel}
@@ -32,11 +31,11 @@ use Rattle.cal_script.proofs.Cuts.{joined_words}
 use Rattle.cal_valid.proofs.Binds.{bind_ok, choice_ok, if_ok, ok_or_ok, unless_ok}
 use Rattle.cal_valid.proofs.Values.{named_at}
 use Rattle.cal_spelling.proofs.Utf8.{utf8_behind}
-use Rattle.cal_spelling.proofs.Values.{IsSpoken, spoken}
+use Rattle.cal_spelling.proofs.Values.{bounded, spoken}
 use Rattle.cal_spelling.proofs.Words.{IsWord}
 use Rattle.cal_spelling.proofs.Chains.{Chain, chain-front, chain-last, chain-push, chain-weaker, found_itself, last_item}
-use Rattle.cal_spelling.proofs.Legible.{AreLines, AreNext, AreThreads, IsEnded, IsFlush, IsHeader, IsLegible, IsNamed, IsNewAttribute, IsNewChannel, IsNewGlobal, IsNext, IsOpened, IsQueried, IsWritable, behind_line, behind_lines, behind_threads, behind-push, lines_more, next-push, threads_counted, threads_legible, threads_more}
-use Rattle.cal_spelling.proofs.HeaderLines.{attribute_again, channel_again, global_again, global_more, keyed_again, named_word, new_kept, queried_more, valued_again}
+use Rattle.cal_spelling.proofs.Legible.{AreLines, IsEnded, IsFlush, IsHeader, IsLegible, IsNamed, IsNewAttribute, IsNewChannel, IsNewGlobal, IsNext, IsOpened, IsQueried, IsWritable, behind_line, behind_lines, behind_threads, behind-push, lines_more, next-push, threads_counted, threads_legible, threads_more}
+use Rattle.cal_spelling.proofs.HeaderLines.{attribute_again, channel_again, global_again, global_more, keyed_again, named_word, new_kept, not_false, queried_more, valued_again}
 
 header_ok : (thread : Option (List lines.Line)) (said : Result State ScriptKind) (next : State) → cond (is_some thread) (Err Misplaced) said ≡ Ok next → (thread ≡ None) × (said ≡ Ok next)
 header_ok None said next is = (refl, is)
@@ -317,10 +316,6 @@ flushed_legible state next words is legible =
     } in
     made_legible (make named.0) next made.1 (line_legible state (line.Flush named.0.0) false 0 fine refl legible)
 
-bounded : (most n : ℕ) (found : Option ℕ) → at_most most found ≡ Some n → n ≤ most
-bounded most n None is = absurd cc
-bounded most n (Some m) is = grind (arith, nat_tests)
-
 ticked_legible : (state next : State) (words : List (List ℕ)) → tick_after state words ≡ Ok next → IsLegible state → IsLegible next
 ticked_legible state next words is legible =
     let make : ℕ → State = λ n. with_line (line.Tick n) false 0 state in
@@ -349,15 +344,11 @@ words_legible state next (word ∷ words) utf8 is legible =
     choice_ok (bytes_eq word (codes "flush")) _ _ next is (λ e. flushed_legible state next words e legible) (λ is.
     choice_ok (bytes_eq word (codes "tick")) _ _ next is (λ e. ticked_legible state next words e legible) (λ is. absurd cc))))))))))))
 
-not_not : (b : Bool) → not b ≡ false → b ≡ true
-not_not true is = refl
-not_not false is = absurd cc
-
 line_kept : (state next : State) (line : List ℕ) → IsLegible state → line_after state line ≡ Ok next → IsLegible next
 unfolding line_after
 line_kept state next line legible is =
     let text = unless_ok (not (is_utf8 line)) NotText _ next is in
-    let utf8 = IsUtf8-from_is_utf8 line (not_not (is_utf8 line) text.0) in
+    let utf8 = IsUtf8-from_is_utf8 line (not_false (is_utf8 line) text.0) in
     choice_ok (is_skipped line) (Ok state) (text_after state line) next text.1
     (λ same. made_legible state next same legible)
     (λ says.

@@ -1,14 +1,14 @@
 -- Texts that are UTF-8, cut at bytes of ASCII and spelled with escapes.
-use Rattle.std.proofs.Common.{◌≡◌, ◌≢◌, ℕ, zero, suc, ◌+◌, ◌<◌, ◌≤◌, Bool, true, false, ◌||◌, eqb, List, [], ◌∷◌, ◌++◌, length, get_or, take, drop, map, refl, sym, ap, subst, ◌∙◌, append_assoc, add-one, arith, lit<}
+use Rattle.std.proofs.Common.{◌≡◌, ℕ, zero, suc, ◌+◌, ◌<◌, Bool, true, false, ◌||◌, eqb, List, [], ◌∷◌, ◌++◌, length, get_or, drop, map, refl, sym, subst, append_assoc, add-one, arith, lit<}
 use Rattle.std.specs.Prelude.{slice_index, Some}
 use Rattle.std.specs.Str.{IsUtf8, IsCharBoundary}
-use Rattle.std.proofs.lemmas.Bool.{eqb-true, ne_eqb}
+use Rattle.std.proofs.lemmas.Bool.{eqb-true}
 use Rattle.std.proofs.lemmas.List.{length-append}
 use Rattle.std.proofs.lemmas.Bool.Decides.{nat_tests}
 use Rattle.std.proofs.lemmas.Str.{IsUtf8-append, IsUtf8-take, IsUtf8-drop, IsUtf8-from_ascii, IsCharBoundary-after_ascii}
-use Rattle.std.proofs.Math.Seq.{take-append_seam, drop-append_seam}
+use Rattle.std.proofs.Math.Seq.{take-append_seam}
 use Rattle.cal_line.specs.Escapes.{escaped, escaped_byte}
-use Rattle.cal_line.specs.Tokens.{Spell, Spells, nothing, itself, behind_backslash, byte_of, character, comma, equals, spelled_text, taken, token}
+use Rattle.cal_line.specs.Tokens.{Spell, nothing, itself, behind_backslash, byte_of, spelled_text, taken, token}
 use Rattle.cal_line.proofs.TokenSteps.{Spells-spelled_text}
 
 byte_at : (front rest : List ℕ) (byte : ℕ) → slice_index (front ++ byte ∷ rest) (length front) ≡ byte

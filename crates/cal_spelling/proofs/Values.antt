@@ -1,11 +1,11 @@
 -- A value that a line says is said by its own text.
-use Rattle.std.proofs.Common.{◌≡◌, ◌≢◌, ℕ, ℤ, pos, negsuc, ◌<◌, ◌≤◌, ◌^◌, Bool, true, false, ◌&&◌, ◌||◌, cond, eqb, leb, List, [], ◌∷◌, ◌++◌, length, refl, sym, ap, subst, ◌∙◌, arith, lit≤}
+use Rattle.std.proofs.Common.{◌≡◌, ◌≢◌, ℕ, ℤ, pos, negsuc, ◌<◌, ◌≤◌, ◌^◌, Bool, true, false, ◌||◌, cond, eqb, List, [], ◌∷◌, length, refl, sym, ap, subst, ◌∙◌, arith, lit≤}
 use Rattle.std.specs.Prelude.{Option, Some, None, Ok, Result, unwrap_or, unsigned_abs, codes, drop, not, ◌==◌, nat_eq, nat_le, if◌then◌else◌}
-use Rattle.std.specs.List.{All, list_all, starts_with}
+use Rattle.std.specs.List.{list_all, starts_with}
 use Rattle.std.specs.Option.{ok_or, option_map}
 use Rattle.std.specs.Cmp.{second_so}
 use Rattle.std.specs.Str.{IsUtf8}
-use Rattle.std.proofs.lemmas.Bool.{leb-true, ne_eqb}
+use Rattle.std.proofs.lemmas.Bool.{leb-true}
 use Rattle.std.proofs.lemmas.Bool.Decides.{nat_tests}
 use Rattle.std.proofs.lemmas.List.Elements.{All-nil, All-cons, All-append}
 use Rattle.std.proofs.lemmas.Int.Digits.{digits_value-lt}
@@ -15,8 +15,8 @@ use Rattle.std.specs.Str.Parse.{digits_value}
 use Rattle.cal_value.specs.Decimals.{fixed_of}
 use Rattle.cal_value.specs.Kinds.{kind_named}
 use Rattle.cal_value.specs.Numerals.{at_most, is_numeral, number_of}
-use Rattle.cal_value.specs.Reading.{IsInRange, IsProper, IsSmall, address_of, hexadecimal_of, int_of, truth_of, uint_of, value_of}
-use Rattle.cal_value.specs.Values.{kind_of, value_text}
+use Rattle.cal_value.specs.Reading.{IsInRange, IsProper, IsSmall, address_of, int_of, truth_of, uint_of, value_of}
+use Rattle.cal_value.specs.Values.{value_text}
 use Rattle.cal_value.specs.declared.kind.Kind as kinds
 use Rattle.cal_value.specs.declared.kind.Kind.TheVariants as kind
 use Rattle.cal_value.specs.declared.variant.Variant as variants
@@ -26,7 +26,7 @@ use Rattle.cal_value.proofs.RoundTrip.{reads_back}
 use Rattle.cal_input.specs.FirstFault.{◌>>=◌}
 use Rattle.cal_line.specs.Escapes.{escaped, escaped_byte}
 use Rattle.cal_line.specs.Lines.{HasNoNewline}
-use Rattle.cal_line.specs.Tokens.{character, spelled_text}
+use Rattle.cal_line.specs.Tokens.{spelled_text}
 use Rattle.cal_line.proofs.TokenSteps.{bytes_of-characters, spelled_text-Spells}
 use Rattle.cal_line.proofs.Written.{IsPiece-escaped}
 use Rattle.cal_script.specs.declared.kind.ScriptKind.TheVariants.{BadEscape, BadValue}
@@ -79,7 +79,7 @@ record IsReadOf (text : List ℕ) (value : variants.Variant) : Type 0 where
   proper : IsProper value
   utf8 : IsUtf8 (value_text value)
 
-bounded : (most n : ℕ) (found : Option ℕ) → at_most most found ≡ Some n → n ≤ most
+pub bounded : (most n : ℕ) (found : Option ℕ) → at_most most found ≡ Some n → n ≤ most
 bounded most n None is = absurd cc
 bounded most n (Some m) is = grind (arith, nat_tests)
 

@@ -1,9 +1,8 @@
 -- The canonical text of a valid script means the script.
-use Rattle.std.proofs.Common.{◌≡◌, ℕ, ◌+◌, ◌≤◌, Bool, true, false, ◌&&◌, cond, leb, List, [], ◌∷◌, ◌++◌, length, All, map, take, refl, sym, ap, subst, ◌∙◌, append_assoc, arith, lit≤}
-use Rattle.std.specs.Prelude.{Option, Some, None, Result, Ok, Err, not, sum_by, unwrap_or}
+use Rattle.std.proofs.Common.{◌≡◌, ℕ, ◌+◌, ◌≤◌, Bool, true, false, cond, leb, List, [], ◌∷◌, ◌++◌, length, All, take, refl, sym, ap, subst, ◌∙◌, append_assoc, arith}
+use Rattle.std.specs.Prelude.{None, Result, Ok, Err, not, sum_by}
 use Rattle.std.specs.List.{flat_map}
 use Rattle.std.specs.Option.{option_to_list}
-use Rattle.std.specs.Str.{is_utf8}
 use Rattle.std.proofs.lemmas.Bool.{le-leb}
 use Rattle.std.proofs.lemmas.List.{length-append, take_all}
 use Rattle.std.proofs.lemmas.List.Elements.{All-nil}
@@ -11,14 +10,12 @@ use Rattle.std.proofs.lemmas.List.Sums.{sum_by-append}
 use Rattle.std.proofs.lemmas.Str.{is_utf8-from_IsUtf8}
 use Rattle.cal_input.specs.FirstFault.{◌>>=◌, after_lines}
 use Rattle.cal_line.proofs.Inputs.{lines_of-newline}
-use Rattle.cal_value.specs.declared.variant.Variant.{Variant}
 use Rattle.cal_script.specs.Limits.{arena, fits, thread_count, tree_words}
 use Rattle.cal_script.specs.Lines.{is_skipped, joined, lines_of, words_of}
-use Rattle.cal_script.specs.Reading.{IsValidScript, Means, limited, line_after, text_after, words_after}
+use Rattle.cal_script.specs.Reading.{IsValidScript, Means, limited, line_after, text_after}
 use Rattle.cal_script.specs.State.{State, no_lines, script_of}
 use Rattle.cal_script.specs.declared.kind.ScriptKind.{ScriptKind}
 use Rattle.cal_script.specs.declared.kind.ScriptKind.TheVariants.{NotText, TooMany}
-use Rattle.cal_script.specs.declared.script.Line.{Line}
 use Rattle.cal_script.specs.declared.script.Script.{Script}
 use Rattle.cal_script.specs.declared.tally.Tally.{Tally}
 use Rattle.cal_valid.specs.Counts.{script_tally}

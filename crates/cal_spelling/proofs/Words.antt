@@ -1,8 +1,7 @@
 -- Words, and the lines that they make.
-use Rattle.std.proofs.Common.{◌≡◌, ◌≢◌, ℕ, zero, suc, ◌+◌, ◌<◌, ◌≤◌, ◌^◌, Bool, true, false, ◌&&◌, ◌||◌, cond, eqb, List, [], ◌∷◌, ◌++◌, length, refl, ap, ◌∙◌, arith, lit<, lit≤}
-use Rattle.std.specs.Prelude.{Some, codes, decimal, nat_le, nat_lt, not, ◌==◌, slice_index}
+use Rattle.std.proofs.Common.{◌≡◌, ◌≢◌, ℕ, zero, suc, ◌<◌, ◌≤◌, ◌^◌, Bool, true, false, ◌&&◌, eqb, List, [], ◌∷◌, ◌++◌, length, refl, ap, ◌∙◌, arith, lit<}
+use Rattle.std.specs.Prelude.{codes, decimal, nat_le, nat_lt, slice_index}
 use Rattle.std.specs.List.{All, list_all}
-use Rattle.std.specs.Str.{IsAscii}
 use Rattle.std.specs.Str.Parse.{AllDigits}
 use Rattle.std.specs.Cmp.{first_so, second_so}
 use Rattle.std.proofs.lemmas.Bool.{leb-true, ne_eqb}
@@ -16,7 +15,6 @@ use Rattle.std.proofs.lemmas.Str.Parse.{digit_from_value}
 use Rattle.cal_value.specs.Kinds.{kind_name}
 use Rattle.cal_value.specs.declared.kind.Kind as kinds
 use Rattle.cal_value.specs.declared.kind.Kind.TheVariants as kind
-use Rattle.cal_line.specs.Lines.{HasNoNewline}
 use Rattle.cal_script.specs.Lines.{is_word, joined, words_of}
 use Rattle.cal_script.specs.Names.{is_name, is_name_byte}
 use Rattle.cal_spelling.proofs.Utf8.{utf8_joined}

@@ -1,6 +1,6 @@
 -- The lines of a written header are read, one from what the lines before it made.
-use Rattle.std.proofs.Common.{◌≡◌, ℕ, ◌+◌, ◌≤◌, Bool, true, false, ◌||◌, ◌&&◌, cond, List, [], ◌∷◌, ◌++◌, length, map, refl, sym, ap, subst, ◌∙◌, append_assoc, append-nil, arith}
-use Rattle.std.specs.Prelude.{Option, Some, None, Result, Ok, Err, codes, decimal, not}
+use Rattle.std.proofs.Common.{◌≡◌, ℕ, ◌≤◌, Bool, true, false, ◌||◌, ◌&&◌, cond, List, [], ◌∷◌, ◌++◌, length, map, refl, sym, ap, subst, ◌∙◌, append_assoc, append-nil, arith}
+use Rattle.std.specs.Prelude.{Option, Some, None, Result, Ok, Err, codes, decimal}
 use Rattle.std.specs.List.{All, flat_map, join_with_byte, list_all}
 use Rattle.std.specs.Option.{ok_or}
 use Rattle.std.proofs.lemmas.List.{length_push}
@@ -11,14 +11,13 @@ use Rattle.cal_value.specs.Props.{is_global}
 use Rattle.cal_value.specs.declared.attribute.Attribute.{Attribute}
 use Rattle.cal_value.specs.declared.attribute.Entry.{Entry}
 use Rattle.cal_value.specs.declared.variant.Variant.{Variant}
-use Rattle.cal_script.specs.Lines.{is_skipped, is_word, joined, pieces, word_and_rest, words_of}
-use Rattle.cal_script.specs.Parts.{attribute_named, attribute_names, attribute_of, bare_channel, channel_of, is_among, value_said, with_default_values, with_name, with_service}
-use Rattle.cal_script.specs.Reading.{earlier_channels, global_names, global_of, keyed, last_channel, names_said, with_values, words_after}
+use Rattle.cal_script.specs.Lines.{is_skipped, is_word, joined, pieces, words_of}
+use Rattle.cal_script.specs.Parts.{attribute_named, attribute_names, attribute_of, bare_channel, channel_of, value_said, with_default_values, with_name, with_service}
+use Rattle.cal_script.specs.Reading.{earlier_channels, global_of, keyed, names_said, with_values, words_after}
 use Rattle.cal_script.specs.State.{State}
 use Rattle.cal_script.specs.declared.kind.ScriptKind.{ScriptKind}
 use Rattle.cal_script.specs.declared.kind.ScriptKind.TheVariants.{BadService, DuplicateName, Misplaced, NotAggregate, NotGlobal, WrongArity}
 use Rattle.cal_script.specs.declared.script.Channel.{Channel}
-use Rattle.cal_script.specs.declared.script.ChannelQuery.{ChannelQuery}
 use Rattle.cal_script.specs.declared.script.Line.{Line}
 use Rattle.cal_script.specs.declared.tally.Tally.{Tally}
 use Rattle.cal_script.proofs.Cuts.{word_and_rest_of}
@@ -238,9 +237,11 @@ channels_read attributes done [] valued chain all =
     (valued, subst (λ (d : List Channel). Steps (heading attributes done valued []) [] (heading attributes d valued [])) (sym (append-nil done)) none)
 channels_read attributes done (c ∷ rest) valued chain all =
     let first = channel_read attributes done c valued chain.0 (All-head (IsQueried (attribute_names attributes)) c rest all) in
-    let others = channels_read attributes (done ++ c ∷ []) rest first.0 chain.1 (All-tail (IsQueried (attribute_names attributes)) c rest all) in
-    (others.0, subst (λ (d : List Channel). Steps (heading attributes done valued []) (channel_lines c ++ flat_map channel_lines rest) (heading attributes d others.0 [])) (append_assoc done (c ∷ []) rest)
-    (steps-append first.1 others.1))
+    let others = channels_read attributes (done ++ c ∷ []) rest first.0 chain.1 (All-tail (IsQueried (attribute_names attributes)) c rest all) in (
+      others.0,
+      subst (λ (d : List Channel). Steps (heading attributes done valued []) (channel_lines c ++ flat_map channel_lines rest) (heading attributes d others.0 [])) (append_assoc done (c ∷ []) rest)
+          (steps-append first.1 others.1),
+    )
 
 -- ---- globals
 

@@ -1,9 +1,9 @@
 -- The lines of written threads are read, and then the whole text.
-use Rattle.std.proofs.Common.{◌≡◌, ℕ, ◌+◌, ◌<◌, ◌≤◌, ◌^◌, Bool, true, false, ◌&&◌, cond, leb, List, [], ◌∷◌, ◌++◌, length, map, take, max, refl, sym, ap, subst, ◌∙◌, append_assoc, append-nil, arith}
-use Rattle.std.specs.Prelude.{Option, Some, None, Result, Ok, Err, codes, decimal, slice_get, unwrap_or}
-use Rattle.std.specs.List.{All, flat_map}
+use Rattle.std.proofs.Common.{◌≡◌, ℕ, ◌+◌, ◌<◌, ◌≤◌, ◌^◌, Bool, true, false, cond, List, [], ◌∷◌, ◌++◌, length, map, take, refl, sym, ap, subst, ◌∙◌, append_assoc, append-nil, arith}
+use Rattle.std.specs.Prelude.{Option, Some, None, Result, Ok, Err, codes, decimal, slice_get}
+use Rattle.std.specs.List.{flat_map}
 use Rattle.std.specs.Option.{ok_or, option_to_list}
-use Rattle.std.proofs.lemmas.List.{length-append, length-take, take_all, take_more}
+use Rattle.std.proofs.lemmas.List.{length-append, length-take, take_more}
 use Rattle.std.proofs.lemmas.List.Elements.{All-nil, All-cons}
 use Rattle.std.proofs.lemmas.Option.{get_or_from_slice_get, slice_get_within}
 use Rattle.cal_input.specs.FirstFault.{◌>>=◌}
@@ -11,9 +11,9 @@ use Rattle.cal_value.specs.Props.{has_process_scope}
 use Rattle.cal_value.specs.declared.attribute.Attribute.{Attribute}
 use Rattle.cal_value.specs.declared.attribute.Entry.{Entry}
 use Rattle.cal_value.specs.declared.variant.Variant.{Variant}
-use Rattle.cal_script.specs.Lines.{is_skipped, joined, word_and_rest, words_of}
+use Rattle.cal_script.specs.Lines.{is_skipped, joined, words_of}
 use Rattle.cal_script.specs.Parts.{attribute_named, attribute_names, channel_named, channel_names, number_said, place_of, value_said}
-use Rattle.cal_script.specs.Reading.{opening_after, opening_said, words_after}
+use Rattle.cal_script.specs.Reading.{opening_after, words_after}
 use Rattle.cal_script.specs.State.{State, counted, made_words, next_thread, opening, with_line, with_opening}
 use Rattle.cal_script.specs.declared.kind.ScriptKind.{ScriptKind}
 use Rattle.cal_script.specs.declared.kind.ScriptKind.TheVariants.{BadValue, NotAggregate, WrongArity}
@@ -27,7 +27,7 @@ use Rattle.cal_valid.proofs.GenDigits.{decimal_uint}
 use Rattle.cal_valid.proofs.Values.{named_at}
 use Rattle.cal_spelling.specs.CanonicalText.{Words, attribute_at, channel_at, of_item, spelled, thread_line, thread_lines, value_at}
 use Rattle.cal_spelling.proofs.Growth.{Grows, counted_arena, counted_lines, next_arena}
-use Rattle.cal_spelling.proofs.Legible.{AreNext, AreThreads, IsEnded, IsFlush, IsNext, IsOpened, behind_line, behind_lines, behind_threads}
+use Rattle.cal_spelling.proofs.Legible.{AreNext, AreThreads, IsNext, IsOpened, behind_line, behind_lines, behind_threads}
 use Rattle.cal_spelling.proofs.Values.{IsSpoken, IsText}
 use Rattle.cal_spelling.proofs.Words.{IsWord, decimal_word, joined_text, literal, word_text, words_before, words_joined, words_text}
 use Rattle.cal_spelling.proofs.WrittenHeader.{IsStep, Steps, more, none, standing, steps-append}
@@ -63,8 +63,8 @@ module _ (attributes : List Attribute) (channels : List Channel) (valued : Bool)
         let text : List ℕ = spelled v in
         let two : List ℕ × List ℕ = (a.name, text) in
         let behind : Option (List ℕ × List ℕ) → Result State ScriptKind = λ found. (ok_or found WrongArity
-            >>= (λ (two : List ℕ × List ℕ). attribute_named attributes two.0 >>= (λ (n : ℕ × Attribute). value_said n.1.kind two.1 >>= (λ (value : Variant). Ok (opening n.0 n.1 value)))))
-            >>= (λ o. Ok (with_opening line_of o before)) in
+        >>= (λ (two : List ℕ × List ℕ). attribute_named attributes two.0 >>= (λ (n : ℕ × Attribute). value_said n.1.kind two.1 >>= (λ (value : Variant). Ok (opening n.0 n.1 value)))))
+        >>= (λ o. Ok (with_opening line_of o before)) in
         record {
           text = joined_text (word ∷ a.name ∷ text ∷ []) (All-cons IsText word (a.name ∷ text ∷ []) (word_text word first)
               (All-cons IsText a.name (text ∷ []) (word_text a.name name) (All-cons IsText text [] spoken.text (All-nil IsText))));
@@ -185,11 +185,13 @@ module _ (script : Script) (valued : Bool) where
       let short : length (take next all) ≡ value = omega (arith, length-take next all, opened.place, inside) in
       let got : take next all ++ v ∷ [] ≡ take (next + 1) all =
       ap (λ (x : Variant). take next all ++ x ∷ []) (sym (get_or_from_slice_get all next v v (subst (λ (k : ℕ). slice_get all k ≡ Some v) opened.place opened.kept)))
-      ∙ sym (take_more all next v (omega (arith, opened.place, inside))) in
-      (inside, subst (λ (s : State). IsStep (at (take next all) earlier (Some done) tally) (word ∷ attribute_at script attr ∷ value_at script value ∷ []) s)
-      (λ i. at (got i) earlier (Some (done ++ line_of attr (short i) ∷ [])) (counted process words tally))
-      (subst (λ (ws : Words). IsStep (at (take next all) earlier (Some done) tally) ws (at (take next all ++ v ∷ []) earlier (Some (done ++ line_of attr (length (take next all)) ∷ [])) (counted process words tally)))
-      (λ i. word ∷ name i ∷ text i ∷ []) step))
+      ∙ sym (take_more all next v (omega (arith, opened.place, inside))) in (
+        inside,
+        subst (λ (s : State). IsStep (at (take next all) earlier (Some done) tally) (word ∷ attribute_at script attr ∷ value_at script value ∷ []) s)
+            (λ i. at (got i) earlier (Some (done ++ line_of attr (short i) ∷ [])) (counted process words tally))
+            (subst (λ (ws : Words). IsStep (at (take next all) earlier (Some done) tally) ws (at (take next all ++ v ∷ []) earlier (Some (done ++ line_of attr (length (take next all)) ∷ [])) (counted process words tally)))
+            (λ i. word ∷ name i ∷ text i ∷ []) step),
+      )
 
   line_goes : (next : ℕ) (earlier : List (List lines.Line)) (done : List lines.Line) (tally : Tally) (l : lines.Line) → next ≤ length all
       → IsNext script.attributes script.channels all next l → Goes next earlier done tally l
@@ -232,10 +234,13 @@ module _ (script : Script) (valued : Bool) where
       (tally, within, subst (λ (d : List lines.Line). Steps (at (take next all) earlier (Some done) tally) [] (at (take next all) earlier (Some d) tally)) (sym (append-nil done)) none)
   lines_read (l ∷ ls) next earlier done tally within are =
       let goes = line_goes next earlier done tally l within are.0 in
-      let rest = lines_read ls (behind_line next l) earlier (done ++ l ∷ []) goes.after goes.within are.1 in
-      (rest.0, rest.1, more goes.step
-      (subst (λ (d : List lines.Line). Steps (at (take (behind_line next l) all) earlier (Some (done ++ l ∷ [])) goes.after) (map (thread_line script) ls)
-      (at (take (behind_lines (behind_line next l) ls) all) earlier (Some d) rest.0)) (append_assoc done (l ∷ []) ls) rest.2))
+      let rest = lines_read ls (behind_line next l) earlier (done ++ l ∷ []) goes.after goes.within are.1 in (
+        rest.0,
+        rest.1,
+        more goes.step
+            (subst (λ (d : List lines.Line). Steps (at (take (behind_line next l) all) earlier (Some (done ++ l ∷ [])) goes.after) (map (thread_line script) ls)
+            (at (take (behind_lines (behind_line next l) ls) all) earlier (Some d) rest.0)) (append_assoc done (l ∷ []) ls) rest.2),
+      )
 
   -- where threads end
   pub record AreRead (next : ℕ) (earlier : List (List lines.Line)) (thread : Option (List lines.Line)) (tally : Tally) (threads : List (List lines.Line)) : Type 0 where
