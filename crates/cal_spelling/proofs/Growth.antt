@@ -1,5 +1,6 @@
 -- What is counted only grows from line to line, so that what fits at the end fits before.
-use Rattle.std.proofs.Common.{◌≡◌, ℕ, ◌+◌, ◌*◌, ◌/◌, ◌≤◌, Bool, true, false, ◌&&◌, leb, length, refl, arith}
+use Rattle.std.proofs.Common.{◌≡◌, ℕ, ◌+◌, ◌*◌, ◌/◌, ◌≤◌, Bool, true, false, ◌&&◌, leb, length}
+use Rattle.std.proofs.Common.{refl, arith}
 use Rattle.std.proofs.Math.Nat.{mul-le-mul}
 use Rattle.std.proofs.lemmas.Bool.{le-leb, leb-true}
 use Rattle.cal_script.specs.Limits.{arena, fits, thread_count, tree_words}
@@ -41,7 +42,8 @@ tree_grows t u a b threads arenas =
     let whole : (t + 1) * a ≤ (u + 1) * b = mul-le-mul (omega arith) arenas in
     omega (arith, quarter, whole)
 
-pub six_true : (a b c d e f : Bool) → a ≡ true → b ≡ true → c ≡ true → d ≡ true → e ≡ true → f ≡ true → (a && b && c && d && e && f) ≡ true
+pub six_true : (a b c d e f : Bool) → a ≡ true → b ≡ true → c ≡ true → d ≡ true → e ≡ true → f
+    ≡ true → (a && b && c && d && e && f) ≡ true
 six_true a b c d e f p q r s t u = λ i. p i && q i && r i && s i && t i && u i
 
 all_six : (a b c d e f : Bool) → (a && b && c && d && e && f) ≡ true
@@ -59,25 +61,31 @@ smaller a b most less is = le-leb a most (omega (arith, less, leb-true b most is
 pub fits_before : (old new : State) → Grows old new → fits new ≡ true → fits old ≡ true
 fits_before old new grows fine =
     let room : ℕ = tree_words (thread_count new) (arena new.tally) in
-    let passed = all_six (leb (length new.attributes) 1024) (leb (length new.channels) 16) (leb (thread_count new) 64) (leb new.tally.lines 1048576)
+    let passed = all_six (leb (length new.attributes) 1024) (leb (length new.channels) 16)
+    (leb (thread_count new) 64) (leb new.tally.lines 1048576)
     (leb new.tally.process_lines 65536) (leb room 134217728) fine in
-    six_true (leb (length old.attributes) 1024) (leb (length old.channels) 16) (leb (thread_count old) 64) (leb old.tally.lines 1048576)
-    (leb old.tally.process_lines 65536) (leb (tree_words (thread_count old) (arena old.tally)) 134217728)
+    six_true (leb (length old.attributes) 1024) (leb (length old.channels) 16)
+    (leb (thread_count old) 64) (leb old.tally.lines 1048576)
+    (leb old.tally.process_lines 65536) (leb (tree_words (thread_count old) (arena old.tally))
+    134217728)
     (smaller (length old.attributes) (length new.attributes) 1024 grows.attributes passed.0)
     (smaller (length old.channels) (length new.channels) 16 grows.channels passed.1)
     (smaller (thread_count old) (thread_count new) 64 grows.threads passed.2)
     (smaller old.tally.lines new.tally.lines 1048576 grows.lines passed.3)
     (smaller old.tally.process_lines new.tally.process_lines 65536 grows.process_lines passed.4)
     (smaller (tree_words (thread_count old) (arena old.tally)) room 134217728
-    (tree_grows (thread_count old) (thread_count new) (arena old.tally) (arena new.tally) grows.threads grows.arena) passed.5)
+    (tree_grows (thread_count old) (thread_count new) (arena old.tally) (arena new.tally)
+    grows.threads grows.arena) passed.5)
 
 -- ---- a line of a thread, and a thread
 
-pub counted_lines : (process : Bool) (words : ℕ) (tally : Tally) → tally.process_lines ≤ (counted process words tally).process_lines
+pub counted_lines : (process : Bool) (words : ℕ) (tally : Tally) → tally.process_lines
+    ≤ (counted process words tally).process_lines
 counted_lines true words tally = omega arith
 counted_lines false words tally = omega arith
 
-pub counted_arena : (process : Bool) (words : ℕ) (tally : Tally) → arena tally ≤ arena (counted process words tally)
+pub counted_arena : (process : Bool) (words : ℕ) (tally : Tally) → arena tally
+    ≤ arena (counted process words tally)
 counted_arena true words tally = omega arith
 counted_arena false words tally = omega arith
 

@@ -1,5 +1,6 @@
 -- What holds of all that stands between two lines, so that it can be written and read again.
-use Rattle.std.proofs.Common.{◌≡◌, ℕ, ◌+◌, ◌<◌, ◌≤◌, ◌^◌, Bool, true, false, ◌||◌, ◌&&◌, List, [], ◌∷◌, ◌++◌, length, All, refl, sym, ap, subst, ◌∙◌, append-nil}
+use Rattle.std.proofs.Common.{◌≡◌, ℕ, ◌+◌, ◌<◌, ◌≤◌, ◌^◌, Bool, true, false, ◌||◌, ◌&&◌, List, []}
+use Rattle.std.proofs.Common.{◌∷◌, ◌++◌, length, All, refl, sym, ap, subst, ◌∙◌, append-nil}
 use Rattle.std.specs.Prelude.{Option, Some, None, Ok, decimal, unwrap_or, slice_get}
 use Rattle.std.specs.Option.{option_to_list}
 use Rattle.cal_input.specs.FirstFault.{after_lines}
@@ -13,7 +14,8 @@ use Rattle.cal_script.specs.declared.script.Script.{Script}
 use Rattle.cal_script.specs.declared.script.Line as lines
 use Rattle.cal_script.specs.declared.script.Line.TheVariants as line
 use Rattle.cal_script.specs.Names.{is_name}
-use Rattle.cal_script.specs.Parts.{attribute_named, attribute_names, attribute_of, channel_named, channel_names, is_among, new_name, with_name}
+use Rattle.cal_script.specs.Parts.{attribute_named, attribute_names, attribute_of, channel_named}
+use Rattle.cal_script.specs.Parts.{channel_names, is_among, new_name, with_name}
 use Rattle.cal_script.specs.Reading.{global_names}
 use Rattle.cal_script.specs.State.{State}
 use Rattle.cal_valid.proofs.Counting.{slice_get-more}
@@ -26,7 +28,8 @@ use Rattle.cal_spelling.proofs.Words.{IsWord}
 
 -- an attribute that its line declares behind those before it
 pub record IsNewAttribute (done : List Attribute) (attribute : Attribute) : Type 0 where
-  pub said : attribute_of done (attribute.name, kind_name attribute.kind, decimal attribute.props.0) ≡ Ok attribute
+  pub said : attribute_of done (attribute.name, kind_name attribute.kind, decimal attribute.props.0)
+      ≡ Ok attribute
   pub small : attribute.props.0 ≤ 65535
 
 abbrev pub IsNamed : Attribute → Type 0
@@ -59,15 +62,17 @@ pub record IsQueried (names : List (List ℕ)) (channel : Channel) : Type 0 wher
   pub values : HasValues names channel channel.query.values
 
 -- a global that its line says behind those before it
-pub record IsNewGlobal (attributes : List Attribute) (done : List Entry) (entry : Entry) : Type 0 where
-  pub fresh : is_among (global_names done) entry.attr.name ≡ false
-  pub place : ℕ
-  pub named : attribute_named attributes entry.attr.name ≡ Ok (place, entry.attr)
-  pub allowed : is_global entry.attr.props ≡ true
-  pub spoken : IsSpoken entry.attr.kind entry.value
-  pub word : IsWord entry.attr.name
+pub record IsNewGlobal (attributes : List Attribute) (done : List Entry) (entry : Entry) : Type 0
+  where
+    pub fresh : is_among (global_names done) entry.attr.name ≡ false
+    pub place : ℕ
+    pub named : attribute_named attributes entry.attr.name ≡ Ok (place, entry.attr)
+    pub allowed : is_global entry.attr.props ≡ true
+    pub spoken : IsSpoken entry.attr.kind entry.value
+    pub word : IsWord entry.attr.name
 
-pub record IsHeader (attributes : List Attribute) (channels : List Channel) (globals : List Entry) : Type 0 where
+pub record IsHeader (attributes : List Attribute) (channels : List Channel)
+    (globals : List Entry) : Type 0 where
   pub each_attribute : Chain IsNewAttribute [] attributes
   pub names : All IsNamed attributes
   pub each_channel : Chain IsNewChannel [] channels
@@ -128,28 +133,41 @@ module _ (attributes : List Attribute) (channels : List Channel) (values : List 
 
   abbrev pub AreThreads : ℕ → List (List lines.Line) → Type 0
   AreThreads next [] = Unit {0}
-  AreThreads next (thread ∷ threads) = AreNext next thread × AreThreads (behind_lines next thread) threads
+  AreThreads next (thread ∷ threads) = AreNext next thread × AreThreads (behind_lines next thread)
+      threads
 
-  pub next-push : (next : ℕ) (ls : List lines.Line) (l : lines.Line) → AreNext next ls → IsNext attributes channels values (behind_lines next ls) l → AreNext next (ls ++ l ∷ [])
+  pub next-push : (next : ℕ) (ls : List lines.Line) (l : lines.Line) → AreNext next ls
+      → IsNext attributes channels values (behind_lines next ls) l → AreNext next (ls ++ l ∷ [])
   next-push next [] l are is = (is, tt)
   next-push next (x ∷ ls) l are is = (are.0, next-push (behind_line next x) ls l are.1 is)
 
-  pub threads-push : (next : ℕ) (threads : List (List lines.Line)) (thread : List lines.Line) → AreThreads next threads → AreNext (behind_threads next threads) thread → AreThreads next (threads ++ thread ∷ [])
+  pub threads-push : (next : ℕ) (threads : List (List lines.Line)) (thread : List lines.Line)
+      → AreThreads next threads → AreNext (behind_threads next threads) thread
+      → AreThreads next (threads ++ thread ∷ [])
   threads-push next [] thread are is = (is, tt)
-  threads-push next (x ∷ threads) thread are is = (are.0, threads-push (behind_lines next x) threads thread are.1 is)
+  threads-push next (x ∷ threads) thread are is = (
+    are.0,
+    threads-push (behind_lines next x) threads
+        thread are.1 is,
+  )
 
-pub behind-push : (next : ℕ) (ls : List lines.Line) (l : lines.Line) → behind_lines next (ls ++ l ∷ []) ≡ behind_line (behind_lines next ls) l
+pub behind-push : (next : ℕ) (ls : List lines.Line) (l : lines.Line)
+    → behind_lines next (ls ++ l ∷ []) ≡ behind_line (behind_lines next ls) l
 behind-push next [] l = refl
 behind-push next (x ∷ ls) l = behind-push (behind_line next x) ls l
 
-pub threads_behind-push : (next : ℕ) (threads : List (List lines.Line)) (thread : List lines.Line) → behind_threads next (threads ++ thread ∷ []) ≡ behind_lines (behind_threads next threads) thread
+pub threads_behind-push : (next : ℕ) (threads : List (List lines.Line)) (thread : List lines.Line)
+    → behind_threads next (threads ++ thread ∷ []) ≡ behind_lines (behind_threads next threads)
+    thread
 threads_behind-push next [] thread = refl
-threads_behind-push next (x ∷ threads) thread = threads_behind-push (behind_lines next x) threads thread
+threads_behind-push next (x ∷ threads) thread = threads_behind-push (behind_lines next x) threads
+    thread
 
 -- ---- more values
 
 module _ (attributes : List Attribute) (channels : List Channel) (values more : List Variant) where
-  opened_more : (next attr value : ℕ) → IsOpened attributes channels values next attr value → IsOpened attributes channels (values ++ more) next attr value
+  opened_more : (next attr value : ℕ) → IsOpened attributes channels values next attr value
+      → IsOpened attributes channels (values ++ more) next attr value
   opened_more next attr value is = record {
     attribute = is.attribute;
     opened = is.opened;
@@ -160,26 +178,45 @@ module _ (attributes : List Attribute) (channels : List Channel) (values more : 
     word = is.word;
   }
 
-  line_more : (next : ℕ) (l : lines.Line) → IsNext attributes channels values next l → IsNext attributes channels (values ++ more) next l
+  line_more : (next : ℕ) (l : lines.Line) → IsNext attributes channels values next l
+      → IsNext attributes channels (values ++ more) next l
   line_more next (line.Begin attr value) is = opened_more next attr value is
   line_more next (line.Set attr value) is = opened_more next attr value is
-  line_more next (line.End attr) is = record { attribute = is.attribute; named = is.named; word = is.word }
+  line_more next (line.End attr) is = record {
+    attribute = is.attribute;
+    named = is.named;
+    word =
+        is.word;
+  }
   line_more next line.Snapshot is = is
-  line_more next (line.Flush channel) is = record { channel = is.channel; named = is.named; aggregates = is.aggregates; word = is.word }
+  line_more next (line.Flush channel) is = record {
+    channel = is.channel;
+    named = is.named;
+    aggregates = is.aggregates;
+    word = is.word;
+  }
   line_more next (line.Tick n) is = is
 
-  pub lines_more : (next : ℕ) (ls : List lines.Line) → AreNext attributes channels values next ls → AreNext attributes channels (values ++ more) next ls
+  pub lines_more : (next : ℕ) (ls : List lines.Line) → AreNext attributes channels values next ls
+      → AreNext attributes channels (values ++ more) next ls
   lines_more next [] are = are
   lines_more next (l ∷ ls) are = (line_more next l are.0, lines_more (behind_line next l) ls are.1)
 
-  pub threads_more : (next : ℕ) (threads : List (List lines.Line)) → AreThreads attributes channels values next threads → AreThreads attributes channels (values ++ more) next threads
+  pub threads_more : (next : ℕ) (threads : List (List lines.Line))
+      → AreThreads attributes channels values next threads
+      → AreThreads attributes channels (values ++ more) next threads
   threads_more next [] are = are
-  threads_more next (thread ∷ threads) are = (lines_more next thread are.0, threads_more (behind_lines next thread) threads are.1)
+  threads_more next (thread ∷ threads) are = (
+    lines_more next thread are.0,
+    threads_more
+        (behind_lines next thread) threads are.1,
+  )
 
 -- ---- what stands
 
 -- The lines of the threads before the last, and of the last.
-pub record AreLines (attributes : List Attribute) (channels : List Channel) (values : List Variant) (earlier : List (List lines.Line))
+pub record AreLines (attributes : List Attribute) (channels : List Channel) (values : List Variant)
+    (earlier : List (List lines.Line))
     (thread : Option (List lines.Line)) : Type 0 where
   pub threads : AreThreads attributes channels values 0 earlier
   pub last : AreNext attributes channels values (behind_threads 0 earlier) (unwrap_or thread [])
@@ -191,18 +228,25 @@ pub record IsLegible (state : State) : Type 0 where
   pub idle : state.thread ≡ None → (state.earlier ≡ []) × (state.values ≡ [])
 
 -- all threads of what stands
-pub threads_legible : (state : State) → IsLegible state → AreThreads state.attributes state.channels state.values 0 (state.earlier ++ option_to_list state.thread)
+pub threads_legible : (state : State) → IsLegible state → AreThreads state.attributes state.channels
+    state.values 0 (state.earlier ++ option_to_list state.thread)
 threads_legible state is = by_thread state.thread is.lines.last
   where
-    by_thread : (thread : Option (List lines.Line)) → AreNext state.attributes state.channels state.values (behind_threads 0 state.earlier) (unwrap_or thread [])
-        → AreThreads state.attributes state.channels state.values 0 (state.earlier ++ option_to_list thread)
-    by_thread None last = subst (λ (ts : List (List lines.Line)). AreThreads state.attributes state.channels state.values 0 ts) (sym (append-nil state.earlier)) is.lines.threads
-    by_thread (Some thread) last = threads-push state.attributes state.channels state.values 0 state.earlier thread is.lines.threads last
+    by_thread : (thread : Option (List lines.Line)) → AreNext state.attributes state.channels
+        state.values (behind_threads 0 state.earlier) (unwrap_or thread [])
+        → AreThreads state.attributes state.channels state.values 0
+        (state.earlier ++ option_to_list thread)
+    by_thread None last = subst (λ (ts : List (List lines.Line)). AreThreads state.attributes
+        state.channels state.values 0 ts) (sym (append-nil state.earlier)) is.lines.threads
+    by_thread (Some thread) last = threads-push state.attributes state.channels state.values 0
+        state.earlier thread is.lines.threads last
 
-pub threads_counted : (state : State) → IsLegible state → behind_threads 0 (state.earlier ++ option_to_list state.thread) ≡ length state.values
+pub threads_counted : (state : State) → IsLegible state
+    → behind_threads 0 (state.earlier ++ option_to_list state.thread) ≡ length state.values
 threads_counted state is = by_thread state.thread is.lines.counted
   where
-    by_thread : (thread : Option (List lines.Line)) → behind_lines (behind_threads 0 state.earlier) (unwrap_or thread []) ≡ length state.values
+    by_thread : (thread : Option (List lines.Line)) → behind_lines (behind_threads 0 state.earlier)
+        (unwrap_or thread []) ≡ length state.values
         → behind_threads 0 (state.earlier ++ option_to_list thread) ≡ length state.values
     by_thread None counted = ap (behind_threads 0) (append-nil state.earlier) ∙ counted
     by_thread (Some thread) counted = threads_behind-push 0 state.earlier thread ∙ counted

@@ -1,5 +1,6 @@
 -- The text of a value is UTF-8, where the value of a text is.
-use Rattle.std.proofs.Common.{◌≡◌, ◌+◌, ◌/◌, ◌%◌, ◌<◌, ◌≤◌, ◌^◌, ℕ, zero, suc, ℤ, pos, negsuc, Bool, true, false, List, [], ◌∷◌, refl, arith, lit<, lit≤}
+use Rattle.std.proofs.Common.{◌≡◌, ◌+◌, ◌/◌, ◌%◌, ◌<◌, ◌≤◌, ◌^◌, ℕ, zero, suc, ℤ, pos, negsuc, Bool}
+use Rattle.std.proofs.Common.{true, false, List, [], ◌∷◌, refl, arith, lit<, lit≤}
 use Rattle.std.specs.Prelude.{nat_lt, unsigned_abs, codes, decimal, if◌then◌else◌}
 use Rattle.std.specs.List.{list_all}
 use Rattle.std.specs.Cmp.{first_so, second_so}
@@ -18,36 +19,43 @@ use Rattle.cal_value.specs.Values.{address_text}
 
 ascii_signed : (n : ℤ) → unsigned_abs n ≤ 2 ^ 86 → IsAscii (signed_decimal n)
 ascii_signed (pos n) small = IsAscii-decimal_wide n (omega arith)
-ascii_signed (negsuc n) small = IsAscii-cons 45 (decimal (suc n)) (lit< tt) (IsAscii-decimal_wide (suc n) (omega arith))
+ascii_signed (negsuc n) small = IsAscii-cons 45 (decimal (suc n)) (lit< tt)
+    (IsAscii-decimal_wide (suc n) (omega arith))
 
 hexadecimal_digit : (c : ℕ) → digit_value c < 16 → c < 128
 hexadecimal_digit c small = grind (arith, nat_tests)
 
 ascii_hexadecimal : (ds : List ℕ) → AllDigits 16 ds → IsAscii ds
 ascii_hexadecimal [] are = IsAscii-nil
-ascii_hexadecimal (c ∷ ds) are = IsAscii-cons c ds (hexadecimal_digit c are.0) (ascii_hexadecimal ds are.1)
+ascii_hexadecimal (c ∷ ds) are = IsAscii-cons c ds (hexadecimal_digit c are.0)
+    (ascii_hexadecimal ds are.1)
 
 ascii_behind : (places n : ℕ) → n < 10 ^ places → IsAscii (digits_behind places n)
 ascii_behind zero n small = IsAscii-nil
 ascii_behind (suc places) zero small = IsAscii-nil
 ascii_behind (suc places) (suc n) small =
     let low = one-le-pow places 10 (lit< tt) in
-    let first : suc n / 10 ^ places < 10 = (div-lt_iff_lt-mul low).1 (omega (arith, pow-suc 10 places)) in
-    IsAscii-cons (48 + suc n / 10 ^ places) (digits_behind places (suc n % 10 ^ places)) (omega arith)
+    let first : suc n / 10 ^ places < 10 = (div-lt_iff_lt-mul low).1
+    (omega (arith, pow-suc 10 places)) in
+    IsAscii-cons (48 + suc n / 10 ^ places) (digits_behind places (suc n % 10 ^ places))
+    (omega arith)
     (ascii_behind places (suc n % 10 ^ places) (omega (arith, low)))
 
 ascii_rest : (n : ℕ) → n < 1000000000 → IsAscii (rest_text n)
 ascii_rest zero small = IsAscii-nil
-ascii_rest (suc n) small = IsAscii-cons 46 (digits_behind 9 (suc n)) (lit< tt) (ascii_behind 9 (suc n) small)
+ascii_rest (suc n) small = IsAscii-cons 46 (digits_behind 9 (suc n)) (lit< tt)
+    (ascii_behind 9 (suc n) small)
 
 ascii_decimal_text : (n : ℕ) → n ≤ 2 ^ 86 → IsAscii (decimal_text n)
 ascii_decimal_text n small =
-    IsAscii-append (decimal (n / 1000000000)) (rest_text (n % 1000000000)) (IsAscii-decimal_wide (n / 1000000000) (omega arith))
+    IsAscii-append (decimal (n / 1000000000)) (rest_text (n % 1000000000))
+    (IsAscii-decimal_wide (n / 1000000000) (omega arith))
     (ascii_rest (n % 1000000000) (omega arith))
 
 ascii_fixed : (n : ℤ) → unsigned_abs n ≤ 2 ^ 86 → IsAscii (fixed_text n)
 ascii_fixed (pos n) small = ascii_decimal_text n small
-ascii_fixed (negsuc n) small = IsAscii-cons 45 (decimal_text (suc n)) (lit< tt) (ascii_decimal_text (suc n) small)
+ascii_fixed (negsuc n) small = IsAscii-cons 45 (decimal_text (suc n)) (lit< tt)
+    (ascii_decimal_text (suc n) small)
 
 -- ---- the texts of numbers
 

@@ -1,5 +1,6 @@
 -- Words, and the lines that they make.
-use Rattle.std.proofs.Common.{◌≡◌, ◌≢◌, ℕ, zero, suc, ◌<◌, ◌≤◌, ◌^◌, Bool, true, false, ◌&&◌, eqb, List, [], ◌∷◌, ◌++◌, length, refl, ap, ◌∙◌, arith, lit<}
+use Rattle.std.proofs.Common.{◌≡◌, ◌≢◌, ℕ, zero, suc, ◌<◌, ◌≤◌, ◌^◌, Bool, true, false, ◌&&◌, eqb}
+use Rattle.std.proofs.Common.{List, [], ◌∷◌, ◌++◌, length, refl, ap, ◌∙◌, arith, lit<}
 use Rattle.std.specs.Prelude.{codes, decimal, nat_le, nat_lt, slice_index}
 use Rattle.std.specs.List.{All, list_all}
 use Rattle.std.specs.Str.Parse.{AllDigits}
@@ -8,7 +9,8 @@ use Rattle.std.proofs.lemmas.Bool.{leb-true, ne_eqb}
 use Rattle.std.proofs.lemmas.Bool.Decides.{nat_tests}
 use borrow.Author.Tests.{ltb-true}
 use Rattle.std.proofs.lemmas.Fmt.{decimal_is_IsNumeral}
-use Rattle.std.proofs.lemmas.List.Elements.{All-nil, All-cons, All-head, All-tail, All-append, All-weaker}
+use Rattle.std.proofs.lemmas.List.Elements.{All-nil, All-cons, All-head, All-tail, All-append}
+use Rattle.std.proofs.lemmas.List.Elements.{All-weaker}
 use Rattle.std.proofs.lemmas.List.Splits.{slice_split_at, slice_split_none}
 use Rattle.std.proofs.lemmas.Str.{IsUtf8-from_ascii, IsUtf8-nil}
 use Rattle.std.proofs.lemmas.Str.Parse.{digit_from_value}
@@ -40,7 +42,8 @@ word_byte byte is =
     let high = second_so (nat_le 33 byte) (nat_lt byte 128) is in
     (leb-true 33 byte low, ltb-true byte 128 high)
 
-all_bytes : (test : ℕ → Bool) → ((byte : ℕ) → test byte ≡ true → IsWordByte byte) → (word : List ℕ) → list_all test word ≡ true → All IsWordByte word
+all_bytes : (test : ℕ → Bool) → ((byte : ℕ) → test byte ≡ true → IsWordByte byte) → (word : List ℕ)
+    → list_all test word ≡ true → All IsWordByte word
 all_bytes test each [] is = All-nil IsWordByte
 all_bytes test each (byte ∷ word) is =
     let first = first_so (test byte) (list_all test word) is in
@@ -48,7 +51,8 @@ all_bytes test each (byte ∷ word) is =
     All-cons IsWordByte byte word (each byte first) (all_bytes test each word rest)
 
 -- a word by its letters
-pub literal : (word : List ℕ) → is_word word ≡ true → list_all is_word_byte word ≡ true → IsWord word
+pub literal : (word : List ℕ) → is_word word ≡ true → list_all is_word_byte word ≡ true
+    → IsWord word
 literal word some is = record { some = some; bytes = all_bytes is_word_byte word_byte word is }
 
 name_byte : (byte : ℕ) → is_name_byte byte ≡ true → IsWordByte byte
@@ -64,12 +68,18 @@ longer word some = grind (arith, nat_tests)
 
 pub name_word : (name : List ℕ) → is_name name ≡ true → IsWord name
 name_word name is =
-    let parts = three (nat_le 1 (length name)) (nat_le (length name) 200) (list_all is_name_byte name) is in
-    record { some = longer name (leb-true 1 (length name) parts.0); bytes = all_bytes is_name_byte name_byte name parts.2 }
+    let parts = three (nat_le 1 (length name)) (nat_le (length name) 200)
+    (list_all is_name_byte name) is in
+    record {
+      some = longer name (leb-true 1 (length name) parts.0);
+      bytes =
+          all_bytes is_name_byte name_byte name parts.2;
+    }
 
 digits_bytes : (ds : List ℕ) → AllDigits 10 ds → All IsWordByte ds
 digits_bytes [] d = All-nil IsWordByte
-digits_bytes (c ∷ cs) d = let range = digit_from_value c d.0 in All-cons IsWordByte c cs (omega arith, omega arith) (digits_bytes cs d.1)
+digits_bytes (c ∷ cs) d = let range = digit_from_value c d.0 in
+    All-cons IsWordByte c cs (omega arith, omega arith) (digits_bytes cs d.1)
 
 pub decimal_word : (n : ℕ) → n < 2 ^ 64 → IsWord (decimal n)
 decimal_word n small =
@@ -88,29 +98,42 @@ kind_word kind.TypeName = literal (codes "type") refl refl
 kind_word kind.Ptr = literal (codes "ptr") refl refl
 
 -- words with a byte between them
-pub word_between : (front rest : List ℕ) (byte : ℕ) → IsWordByte byte → IsWord front → IsWord rest → IsWord (front ++ byte ∷ rest)
+pub word_between : (front rest : List ℕ) (byte : ℕ) → IsWordByte byte → IsWord front → IsWord rest
+    → IsWord (front ++ byte ∷ rest)
 word_between [] rest byte is before behind = absurd (let bad = before.some in cc)
 word_between (first ∷ front) rest byte is before behind =
-    record { some = longer ((first ∷ front) ++ byte ∷ rest) (omega arith); bytes = All-append IsWordByte (first ∷ front) (byte ∷ rest) before.bytes (All-cons IsWordByte byte rest is behind.bytes) }
+    record {
+      some = longer ((first ∷ front) ++ byte ∷ rest) (omega arith);
+      bytes =
+          All-append IsWordByte (first ∷ front) (byte ∷ rest) before.bytes
+          (All-cons IsWordByte byte rest is behind.bytes);
+    }
 
 -- ---- words in a line
 
 no_spaces : (word : List ℕ) → IsWord word → All (λ byte. eqb byte 32 ≡ false) word
 no_spaces word is =
-    All-weaker IsWordByte (λ byte. eqb byte 32 ≡ false) (λ byte fine. ne_eqb byte 32 (λ (same : byte ≡ 32). omega (arith, fine.0, same))) word is.bytes
+    All-weaker IsWordByte (λ byte. eqb byte 32 ≡ false)
+    (λ byte fine. ne_eqb byte 32 (λ (same : byte ≡ 32). omega (arith, fine.0, same))) word
+    is.bytes
 
 -- words that were joined are the words of their line
-pub words_joined : (first : List ℕ) (words : List (List ℕ)) → IsWord first → All IsWord words → words_of (joined (first ∷ words)) ≡ first ∷ words
+pub words_joined : (first : List ℕ) (words : List (List ℕ)) → IsWord first → All IsWord words
+    → words_of (joined (first ∷ words)) ≡ first ∷ words
 words_joined first [] is all = slice_split_none (λ byte. eqb byte 32) first (no_spaces first is)
 words_joined first (next ∷ words) is all =
     slice_split_at (λ byte. eqb byte 32) first 32 (joined (next ∷ words)) (no_spaces first is) refl
-    ∙ ap (λ more. first ∷ more) (words_joined next words (All-head IsWord next words all) (All-tail IsWord next words all))
+    ∙ ap (λ more. first ∷ more) (words_joined next words (All-head IsWord next words all)
+    (All-tail IsWord next words all))
 
 -- two words and a rest, which may have spaces
-pub words_before : (first second rest : List ℕ) → IsWord first → IsWord second → words_of (joined (first ∷ second ∷ rest ∷ [])) ≡ first ∷ second ∷ words_of rest
+pub words_before : (first second rest : List ℕ) → IsWord first → IsWord second
+    → words_of (joined (first ∷ second ∷ rest ∷ [])) ≡ first ∷ second ∷ words_of rest
 words_before first second rest one two =
-    slice_split_at (λ byte. eqb byte 32) first 32 (joined (second ∷ rest ∷ [])) (no_spaces first one) refl
-    ∙ ap (λ more. first ∷ more) (slice_split_at (λ byte. eqb byte 32) second 32 rest (no_spaces second two) refl)
+    slice_split_at (λ byte. eqb byte 32) first 32 (joined (second ∷ rest ∷ []))
+    (no_spaces first one) refl
+    ∙ ap (λ more. first ∷ more) (slice_split_at (λ byte. eqb byte 32) second 32 rest
+    (no_spaces second two) refl)
 
 -- ---- the text of a line
 
@@ -122,7 +145,8 @@ word_ascii (byte ∷ word) (suc i) all = word_ascii word i (All-tail IsWordByte 
 pub word_text : (word : List ℕ) → IsWord word → IsText word
 word_text word is = record {
   utf8 = IsUtf8-from_ascii word (λ i. word_ascii word i is.bytes);
-  whole = All-weaker IsWordByte (λ byte. byte ≢ 10) (λ byte fine. λ (same : byte ≡ 10). omega (arith, fine.0, same)) word is.bytes;
+  whole = All-weaker IsWordByte (λ byte. byte ≢ 10)
+      (λ byte fine. λ (same : byte ≡ 10). omega (arith, fine.0, same)) word is.bytes;
 }
 
 pub joined_text : (words : List (List ℕ)) → All IsText words → IsText (joined words)
@@ -134,7 +158,8 @@ joined_text (word ∷ next ∷ words) all =
     record {
       utf8 = utf8_joined word (joined (next ∷ words)) 32 (lit< tt) first.utf8 rest.utf8;
       whole = All-append (λ byte. byte ≢ 10) word (32 ∷ joined (next ∷ words)) first.whole
-          (All-cons (λ byte. byte ≢ 10) 32 (joined (next ∷ words)) (λ (same : 32 ≡ 10). omega arith) rest.whole);
+          (All-cons (λ byte. byte ≢ 10) 32 (joined (next ∷ words)) (λ (same : 32 ≡ 10). omega arith)
+          rest.whole);
     }
 
 pub words_text : (words : List (List ℕ)) → All IsWord words → IsText (joined words)
