@@ -1,5 +1,5 @@
 -- The canonical text of a valid script means the script.
-use Rattle.std.proofs.Common.{◌≡◌, ℕ, ◌+◌, ◌≤◌, Bool, true, false, cond, leb, List, [], ◌∷◌, ◌++◌}
+use Rattle.std.proofs.Common.{◌↔◌, ◌≡◌, ℕ, ◌+◌, ◌≤◌, Bool, true, false, cond, leb, List, [], ◌∷◌, ◌++◌}
 use Rattle.std.proofs.Common.{length, All, take, refl, sym, ap, subst, ◌∙◌, append_assoc, arith}
 use Rattle.std.specs.Prelude.{None, Result, Ok, Err, not, sum_by}
 use Rattle.std.specs.List.{flat_map}
@@ -147,7 +147,7 @@ lines_end script is =
       };
     }
 
-pub canonical_means : (script : Script) → IsValidScript script
+canonical_means : (script : Script) → IsValidScript script
     → Means (canonical_text script) script
 canonical_means script valid =
     let end = lines_end script (valid_writable script valid) in
@@ -156,3 +156,8 @@ canonical_means script valid =
     let fine = fits_runnable end.final (steps_sound end.steps start_sound) can in
     ap (λ (found : Result State ScriptKind). found >>= (λ (state : State). Ok (script_of state)))
     (steps_said end.steps fine) ∙ ap Ok end.same
+
+-- and a script that its canonical text means is valid
+pub canonical_exactly : (script : Script)
+    → (IsValidScript script ↔ Means (canonical_text script) script)
+canonical_exactly script = (canonical_means script, λ means. (canonical_text script, means))
