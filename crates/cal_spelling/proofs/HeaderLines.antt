@@ -64,8 +64,7 @@ new_again allowed names name next is =
     let same : name ≡ next = (let e = fresh.1 in cc) in
     let new : IsNew allowed names name = record {
       said = is ∙ ap Ok (sym same);
-      fine =
-          not_false (allowed name) fine.0;
+      fine = not_false (allowed name) fine.0;
     } in
     (same, subst (λ (n : List ℕ). IsNew allowed names n) same new)
 
@@ -189,8 +188,7 @@ defaults : (names : List (List ℕ)) (done : List Channel) (channel : Channel) (
     channel in IsNewChannel done next × IsQueried names next
 defaults names done channel true is bare new =
     let query : ChannelQuery = record channel.query {
-      values = channel.query.values ++ duration
-          ∷ [];
+      values = channel.query.values ++ duration ∷ [];
     } in
     let next : Channel = record channel { query = query } in
     let keys : [] ≡ channel.query.keys = sym (ap (λ (q : ChannelQuery). q.keys) bare) in
@@ -244,8 +242,7 @@ channel_again names done words channel is =
     let is_new : IsNewChannel done made.0 = record {
       new = named.0;
       word = named.1;
-      probes =
-          served.probes;
+      probes = served.probes;
       kept = passed.0;
     } in
     subst (λ (c : Channel). IsNewChannel done c × IsQueried names c) same
@@ -343,8 +340,7 @@ new_kept done channel query is = record {
   new = is.new;
   word = is.word;
   probes = is.probes;
-  kept =
-      is.kept;
+  kept = is.kept;
 }
 
 -- ---- globals
@@ -408,8 +404,7 @@ module _ (names more : List (List ℕ)) (channel : Channel) where
       → AreSaid (names ++ more) channel is_key said
   said_more is_key said is = record {
     aggregates = is.aggregates;
-    taken =
-        taken_more is_key names more [] said said is.taken;
+    taken = taken_more is_key names more [] said said is.taken;
     words = is.words;
   }
 
@@ -426,8 +421,7 @@ module _ (names more : List (List ℕ)) (channel : Channel) where
   pub queried_more : IsQueried names channel → IsQueried (names ++ more) channel
   queried_more is = record {
     keys = keys_more channel.query.keys is.keys;
-    values =
-        values_more channel.query.values is.values;
+    values = values_more channel.query.values is.values;
   }
 
 pub global_more : (attributes more : List Attribute) (done : List Entry) (entry : Entry)

@@ -156,8 +156,7 @@ taken_name is_key declared names name next all is = by_path (is_key && bytes_eq 
         let same : name ≡ codes "path" = same_text name (codes "path")
         (sym ((both is_key (bytes_eq name (codes "path")) path).1)) in
         record {
-          pushed = pushed_ok (names ++ name ∷ []) next (Ok (names ++ name ∷ [])) refl
-              first.1;
+          pushed = pushed_ok (names ++ name ∷ []) next (Ok (names ++ name ∷ [])) refl first.1;
           word = subst IsWord (sym same) (literal (codes "path") refl refl);
         }
     by_path false path is =
@@ -166,8 +165,7 @@ taken_name is_key declared names name next all is = by_path (is_key && bytes_eq 
         let known = if_ok (is_known declared name) UnknownName (Ok (names ++ name ∷ [])) next
         fresh.1 in
         record {
-          pushed = pushed_ok (names ++ name ∷ []) next (Ok (names ++ name ∷ [])) refl
-              known.1;
+          pushed = pushed_ok (names ++ name ∷ []) next (Ok (names ++ name ∷ [])) refl known.1;
           word = known_word declared name all known.0;
         }
 
@@ -182,8 +180,7 @@ pub names_taken : (is_key : Bool) (declared before names after : List (List ℕ)
 names_taken is_key declared before [] after all is =
     record {
       same = (let same : before ≡ after = cc in sym same ∙ sym (append-nil before));
-      words =
-          All-nil IsWord;
+      words = All-nil IsWord;
     }
 names_taken is_key declared before (name ∷ names) after all is =
     let next = bind_ok (with_name is_key declared before name)

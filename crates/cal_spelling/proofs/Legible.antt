@@ -185,8 +185,7 @@ module _ (attributes : List Attribute) (channels : List Channel) (values more : 
   line_more next (line.End attr) is = record {
     attribute = is.attribute;
     named = is.named;
-    word =
-        is.word;
+    word = is.word;
   }
   line_more next line.Snapshot is = is
   line_more next (line.Flush channel) is = record {

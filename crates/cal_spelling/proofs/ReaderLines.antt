@@ -182,8 +182,7 @@ channel_legible : (state next : State) (words : List (List ℕ)) → channel_aft
 channel_legible state next words is legible =
     let make : Channel → State = λ c. record state {
       channels = state.channels ++ c ∷ [];
-      valued =
-          false;
+      valued = false;
     } in
     let header = header_ok state.thread _ next is in
     let two = bind_ok (ok_or (two_words words) WrongArity) (λ two. channel_of state.channels two
@@ -225,8 +224,7 @@ value_legible state next words is legible =
     let earlier : List Channel = earlier_channels state.channels in
     let make : Channel → State = λ c. record state {
       channels = earlier ++ c ∷ [];
-      valued =
-          true;
+      valued = true;
     } in
     let header = header_ok state.thread _ next is in
     let last = bind_ok (ok_or (last_channel state.channels) Misplaced)
@@ -298,8 +296,7 @@ begun_legible state next words is legible =
       lines = record {
         threads = threads_legible state legible;
         last = tt;
-        counted =
-            threads_counted state legible;
+        counted = threads_counted state legible;
       };
       idle = λ none. absurd cc;
     })
@@ -392,8 +389,7 @@ ended_legible state next words is legible =
     (has_process_scope named.1.props) 0 state in
     let header = thread_ok state.thread _ next is in
     let name = bind_ok (ok_or (one_word words) WrongArity)
-    (λ name. attribute_named state.attributes name >>= (λ named. Ok (make named))) next
-    header.2 in
+    (λ name. attribute_named state.attributes name >>= (λ named. Ok (make named))) next header.2 in
     let named = bind_ok (attribute_named state.attributes name.0) (λ named. Ok (make named)) next
     name.2 in
     let fine : IsEnded state.attributes state.channels state.values named.0.0 = record {
@@ -522,8 +518,7 @@ start_legible = record {
     each_attribute = tt;
     names = All-nil IsNamed;
     each_channel = tt;
-    queries =
-        All-nil (IsQueried []);
+    queries = All-nil (IsQueried []);
     each_global = tt;
   };
   lines = record { threads = tt; last = tt; counted = refl };

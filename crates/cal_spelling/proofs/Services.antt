@@ -308,8 +308,7 @@ are_services channel are kept =
     let nested : List (List ℕ) =
     cond channel.event (codes "event" ∷ []) [] ++ (cond channel.timer (codes "timer" ∷ []) []
     ++ (cond channel.trace (codes "trace" ∷ []) []
-    ++ (cond channel.aggregate (codes "aggregate" ∷ []) [] ++ map probe_name channel.probes)))
-    in
+    ++ (cond channel.aggregate (codes "aggregate" ∷ []) [] ++ map probe_name channel.probes))) in
     let same : services channel ≡ nested = simp append_assoc in
     some_services channel nested same (all_services channel.event channel.timer channel.trace
     channel.aggregate channel.probes)

@@ -104,8 +104,7 @@ spelled_behind front (itself {b} {bytes} {tokens} other spell) text =
 spelled_behind front (behind_backslash {b} {bytes} {tokens} spell) text =
     let c = byte_of (taken b) in
     let rest = spelled_behind (front ++ c ∷ []) spell
-    (subst IsUtf8 (sym (moved front bytes c)) (taken_utf8 front bytes b (eqb b 110) refl
-    text)) in
+    (subst IsUtf8 (sym (moved front bytes c)) (taken_utf8 front bytes b (eqb b 110) refl text)) in
     subst IsUtf8 (moved front (map byte_of tokens) c) rest
 
 -- what a text of UTF-8 spells is UTF-8

@@ -125,8 +125,7 @@ read_int text (Some n) value is fine =
       range = tt;
       small = small;
       proper = tt;
-      utf8 =
-          signed_utf8 n small;
+      utf8 = signed_utf8 n small;
     })
 
 read_uint : (text : List ℕ) (found : Option ℕ) (value : variants.Variant)
@@ -140,8 +139,7 @@ read_uint text (Some n) value few is =
       range = small;
       small = tt;
       proper = tt;
-      utf8 =
-          decimal_utf8 n small;
+      utf8 = decimal_utf8 n small;
     })
 
 read_address : (text : List ℕ) (found : Option ℕ) (value : variants.Variant)
@@ -155,8 +153,7 @@ read_address text (Some n) value few is =
       range = small;
       small = tt;
       proper = tt;
-      utf8 =
-          address_utf8 n small;
+      utf8 = address_utf8 n small;
     })
 
 read_truth : (text : List ℕ) (found : Option Bool) (value : variants.Variant)
@@ -180,8 +177,7 @@ read_double text (Some n) value real utf8 is fine =
       range = tt;
       small = small;
       proper = tt;
-      utf8 =
-          fixed_utf8 n small;
+      utf8 = fixed_utf8 n small;
     })
 
 -- no value of these kinds may stand in a script
@@ -256,7 +252,6 @@ spoken k bytes value utf8 is =
       said = said_again k value back fine;
       text = record {
         utf8 = escaped_utf8 (value_text value) read.utf8;
-        whole =
-            escaped_whole (value_text value);
+        whole = escaped_whole (value_text value);
       };
     }

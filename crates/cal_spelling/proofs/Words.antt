@@ -72,8 +72,7 @@ name_word name is =
     (list_all is_name_byte name) is in
     record {
       some = longer name (leb-true 1 (length name) parts.0);
-      bytes =
-          all_bytes is_name_byte name_byte name parts.2;
+      bytes = all_bytes is_name_byte name_byte name parts.2;
     }
 
 digits_bytes : (ds : List ℕ) → AllDigits 10 ds → All IsWordByte ds
@@ -114,8 +113,7 @@ word_between (first ∷ front) rest byte is before behind =
 no_spaces : (word : List ℕ) → IsWord word → All (λ byte. eqb byte 32 ≡ false) word
 no_spaces word is =
     All-weaker IsWordByte (λ byte. eqb byte 32 ≡ false)
-    (λ byte fine. ne_eqb byte 32 (λ (same : byte ≡ 32). omega (arith, fine.0, same))) word
-    is.bytes
+    (λ byte fine. ne_eqb byte 32 (λ (same : byte ≡ 32). omega (arith, fine.0, same))) word is.bytes
 
 -- words that were joined are the words of their line
 pub words_joined : (first : List ℕ) (words : List (List ℕ)) → IsWord first → All IsWord words

@@ -245,8 +245,7 @@ module _ (attributes : List Attribute) (channels : List Channel) (c : Channel) w
       λ names. after_lines (with_name true (attribute_names attributes)) [] names
       >>= (λ (keys : List (List ℕ)). Ok (asked c false keys values)) in
       let make : Channel → Result State ScriptKind =
-      λ b. Ok (heading attributes (earlier_channels (channels ++ old ∷ []) ++ b ∷ []) false
-      []) in
+      λ b. Ok (heading attributes (earlier_channels (channels ++ old ∷ []) ++ b ∷ []) false []) in
       let changed : keyed (attribute_names attributes) old words ≡ Ok new =
       ap (λ (found : Result (List (List ℕ)) ScriptKind). found >>= taken)
       (names_are words true [] values said.aggregates said.words key keys refl)
@@ -281,8 +280,7 @@ module _ (attributes : List Attribute) (channels : List Channel) (c : Channel) w
       λ names. after_lines (with_name false (attribute_names attributes)) [] names
       >>= (λ (values : List (List ℕ)). Ok (asked c by_default keys values)) in
       let make : Channel → Result State ScriptKind =
-      λ b. Ok (heading attributes (earlier_channels (channels ++ old ∷ []) ++ b ∷ []) true
-      []) in
+      λ b. Ok (heading attributes (earlier_channels (channels ++ old ∷ []) ++ b ∷ []) true []) in
       let changed : with_values (attribute_names attributes) old words ≡ Ok new =
       ap (λ (found : Result (List (List ℕ)) ScriptKind). found >>= taken)
       (names_are words by_default keys before said.aggregates said.words value values refl)

@@ -279,8 +279,7 @@ module _ (script : Script) (valued : Bool) where
       record {
         after = counted (has_process_scope opened.attribute.props)
             (made_words opened.attribute opened.opened) tally;
-        within =
-            omega (arith, goes.0, opened.place);
+        within = omega (arith, goes.0, opened.place);
         step = goes.1;
       }
   line_goes next earlier done tally (line.Set attr value) within opened =
@@ -289,8 +288,7 @@ module _ (script : Script) (valued : Bool) where
       record {
         after = counted (has_process_scope opened.attribute.props)
             (made_words opened.attribute opened.opened) tally;
-        within =
-            omega (arith, goes.0, opened.place);
+        within = omega (arith, goes.0, opened.place);
         step = goes.1;
       }
   line_goes next earlier done tally (line.End attr) within ended = record {
@@ -376,8 +374,7 @@ module _ (script : Script) (valued : Bool) where
         before = earlier;
         last = thread;
         after = tally;
-        same =
-            sym (append-nil (earlier ++ option_to_list thread));
+        same = sym (append-nil (earlier ++ option_to_list thread));
         steps = none;
       }
   threads_read (t ∷ threads) next earlier thread tally within are =
