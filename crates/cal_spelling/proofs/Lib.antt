@@ -1,0 +1,14 @@
+pub mod Utf8
+pub mod Texts
+pub mod Values
+pub mod Words
+pub mod Growth
+pub mod Chains
+pub mod Known
+pub mod Services
+pub mod Legible
+pub mod HeaderLines
+pub mod ReaderLines
+pub mod WrittenHeader
+pub mod WrittenThreads
+pub mod Whole
