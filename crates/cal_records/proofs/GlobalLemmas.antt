@@ -41,7 +41,7 @@ paths-append : (done more : List Entry)
     → (globals_of (done ++ more)).paths ≡ (globals_of done).paths ++ (globals_of more).paths
 paths-append done more =
     ap (map (λ (e : Entry). e ∷ []))
-        (filter-append (λ (e : Entry). is_reference e.attr.props) done more)
+    (filter-append (λ (e : Entry). is_reference e.attr.props) done more)
     ∙ map-append (λ (e : Entry). e ∷ []) (filter (λ (e : Entry). is_reference e.attr.props) done)
     (filter (λ (e : Entry). is_reference e.attr.props) more)
 
@@ -59,16 +59,16 @@ global-value old new e before now grows valued same adds done m =
     let one = one-value e valued in
     let paths : (globals_of (done ++ e ∷ [])).paths ≡ (globals_of done).paths =
     paths-append done (e ∷ []) ∙ ap (λ (r : Rec). (globals_of done).paths ++ r.paths) one
-        ∙ append-nil (globals_of done).paths in
+    ∙ append-nil (globals_of done).paths in
     let imms : (globals_of (done ++ e ∷ [])).imms ≡ (globals_of done).imms ++ e ∷ [] =
     imms-append done (e ∷ []) ∙ ap (λ (r : Rec). (globals_of done).imms ++ r.imms) one in
     let nodes = nodes-Grows old new grows (globals_of done).paths before.nodes.items
-        (nodes-of old before (globals_of done) m) in
+    (nodes-of old before (globals_of done) m) in
     means-of new now (globals_of (done ++ e ∷ []))
     (subst (λ ps. AreNodesOf new ps now.nodes.items) (sym paths)
-        (subst (AreNodesOf new (globals_of done).paths) (sym same) nodes))
+    (subst (AreNodesOf new (globals_of done).paths) (sym same) nodes))
     (subst (λ es. AreImmediatesOf new es now.imms.items) (sym imms)
-        (adds (globals_of done).imms (imms-of old before (globals_of done) m)))
+    (adds (globals_of done).imms (imms-of old before (globals_of done) m)))
 
 -- an entry of a reference attribute
 pub global-path : (old new : Tree) (e : Entry) (before now : Snapshot) → Grows old new
@@ -82,23 +82,23 @@ global-path old new e before now grows refers same adds done m =
     paths-append done (e ∷ []) ∙ ap (λ (r : Rec). (globals_of done).paths ++ r.paths) one in
     let imms : (globals_of (done ++ e ∷ [])).imms ≡ (globals_of done).imms =
     imms-append done (e ∷ []) ∙ ap (λ (r : Rec). (globals_of done).imms ++ r.imms) one
-        ∙ append-nil (globals_of done).imms in
+    ∙ append-nil (globals_of done).imms in
     let before_imms = imms-Grows old new grows (globals_of done).imms before.imms.items
-        (imms-of old before (globals_of done) m) in
+    (imms-of old before (globals_of done) m) in
     means-of new now (globals_of (done ++ e ∷ []))
     (subst (λ ps. AreNodesOf new ps now.nodes.items) (sym paths)
-        (adds (globals_of done).paths (nodes-of old before (globals_of done) m)))
+    (adds (globals_of done).paths (nodes-of old before (globals_of done) m)))
     (subst (λ es. AreImmediatesOf new es now.imms.items) (sym imms)
-        (subst (AreImmediatesOf new (globals_of done).imms) (sym same) before_imms))
+    (subst (AreImmediatesOf new (globals_of done).imms) (sym same) before_imms))
 
 -- no global yet
 pub no-globals : (t : Tree) (s : Snapshot) → s.nodes.items ≡ [] → s.imms.items ≡ []
     → Means t s (globals_of [])
 no-globals t s nodes imms = means-of t s (globals_of [])
     (subst (AreNodesOf t []) (sym nodes)
-        (record { within = λ k d l. absurd (omega (arith, l)); are = refl }))
+    (record { within = λ k d l. absurd (omega (arith, l)); are = refl }))
     (subst (AreImmediatesOf t []) (sym imms)
-        (record { within = λ k d l. absurd (omega (arith, l)); are = refl }))
+    (record { within = λ k d l. absurd (omega (arith, l)); are = refl }))
 
 -- one global more
 pub globals-more : (old new : Tree) (entries : List Entry) (i : ℕ) (e : Entry)
@@ -107,5 +107,5 @@ pub globals-more : (old new : Tree) (entries : List Entry) (i : ℕ) (e : Entry)
     → Means new now (globals_of (take (i + 1) entries))
 globals-more old new entries i e before now below is so_far adds =
     let all : take (i + 1) entries ≡ take i entries ++ e ∷ [] = take_more entries i e below
-        ∙ ap (λ x. take i entries ++ x ∷ []) (sym is) in
+    ∙ ap (λ x. take i entries ++ x ∷ []) (sym is) in
     subst (λ es. Means new now (globals_of es)) (sym all) (adds (take i entries) so_far)

@@ -27,8 +27,10 @@ pub nodes-Grows : (old new : Tree) → Grows old new
     → (paths : List (List Entry)) (nodes : List NodeNumber) → AreNodesOf old paths nodes
     → AreNodesOf new paths nodes
 nodes-Grows old new grows paths nodes h = record {
-  within = λ k d l. record { below = (h.within k d l).below;
-      within = within_paths grows (get_or nodes k d).0 (h.within k d l).within };
+  within = λ k d l. record {
+    below = (h.within k d l).below;
+    within = within_paths grows (get_or nodes k d).0 (h.within k d l).within;
+  };
   are = map-alike (path_at new) (path_at old) nodes
       (λ k d l. path_at-Grows grows (get_or nodes k d) (h.within k d l).within) ∙ h.are;
 }
@@ -39,8 +41,10 @@ imms-Grows old new grows entries imms h = record {
   within = λ k d l. within_attributes grows (get_or imms k d).attribute.0 (h.within k d l);
   are = map-alike (entry_of new) (entry_of old) imms
       (λ k d l. let i = get_or imms k d in
-      λ j. record { attr = attribute_at-Grows grows i.attribute (h.within k d l) j;
-      value = i.value }) ∙ h.are;
+      λ j. record {
+        attr = attribute_at-Grows grows i.attribute (h.within k d l) j;
+        value = i.value;
+      }) ∙ h.are;
 }
 
 -- ---- one entry, and a path
@@ -48,9 +52,10 @@ imms-Grows old new grows entries imms h = record {
 -- an attribute that was added is the one at its number
 attribute-is : (old new : Tree) (a : Attribute) (n : AttributeNumber) → AddsAttribute old a new n
     → (n.0 < length new.attributes) × (attribute_at new n ≡ a)
-attribute-is old new a n adds =
-    (slice_get_within new.attributes n.0 a adds.attributes.number,
-        get_or_from_slice_get new.attributes n.0 a no_attribute adds.attributes.number)
+attribute-is old new a n adds = (
+  slice_get_within new.attributes n.0 a adds.attributes.number,
+  get_or_from_slice_get new.attributes n.0 a no_attribute adds.attributes.number,
+)
 
 pub attribute-within : (old new : Tree) (a : Attribute) (n : AttributeNumber)
     → AddsAttribute old a new n → n.0 < length new.attributes
@@ -112,7 +117,7 @@ pub paths-more : (old mid new : Tree) (paths : List (List Entry)) (i : ℕ) (pat
 paths-more old mid new paths i path a b c within is first next done h =
     let all : done ++ take (i + 1) paths ≡ (done ++ take i paths) ++ path ∷ [] =
     ap (λ l. done ++ l) (take_more paths i path within ∙ ap (λ p. take i paths ++ p ∷ []) (sym is))
-        ∙ sym (append_assoc done (take i paths) (path ∷ [])) in
+    ∙ sym (append_assoc done (take i paths) (path ∷ [])) in
     subst (λ ps. AreNodesOf new ps c) (sym all) (next (done ++ take i paths) (first done h))
 
 pub no-entries : (old : Tree) (imms : List Immediate) → AddsImmediates old old [] imms imms
@@ -138,7 +143,7 @@ pub entries-more : (old mid new : Tree) (entries : List Entry) (i : ℕ) (e : En
 entries-more old mid new entries i e a b c within is first next done h =
     let all : done ++ take (i + 1) entries ≡ (done ++ take i entries) ++ e ∷ [] =
     ap (λ l. done ++ l) (take_more entries i e within ∙ ap (λ p. take i entries ++ p ∷ []) (sym is))
-        ∙ sym (append_assoc done (take i entries) (e ∷ [])) in
+    ∙ sym (append_assoc done (take i entries) (e ∷ [])) in
     subst (λ es. AreImmediatesOf new es c) (sym all) (next (done ++ take i entries) (first done h))
 
 -- a record in a context
@@ -151,9 +156,9 @@ recorded old mid new snap r paths entries a b is_paths is_entries no_nodes no_im
     next =
     let nodes = nodes-Grows mid new grows paths snap.nodes.items
     (first [] (subst (AreNodesOf old []) (sym no_nodes)
-        (record { within = λ k d l. absurd (omega (arith, l)); are = refl }))) in
+    (record { within = λ k d l. absurd (omega (arith, l)); are = refl }))) in
     let imms = next [] (subst (AreImmediatesOf mid []) (sym no_imms)
-        (record { within = λ k d l. absurd (omega (arith, l)); are = refl })) in
+    (record { within = λ k d l. absurd (omega (arith, l)); are = refl })) in
     let paths_are = nodes.are ∙ is_paths in
     let imms_are = imms.are ∙ is_entries in
     record {

@@ -31,11 +31,11 @@ pub results-more : (values : List (List ℕ)) (i : ℕ) (v : List ℕ) → i < l
     ≡ with_all_new (with_all_new [] (aggs_of (take i values))) (value_aggs v)
 results-more values i v below is =
     let all : take (i + 1) values ≡ take i values ++ v ∷ [] = take_more values i v below
-        ∙ ap (λ x. take i values ++ x ∷ []) (sym is) in
+    ∙ ap (λ x. take i values ++ x ∷ []) (sym is) in
     let flat : flat_map value_aggs (take i values ++ v ∷ [])
-        ≡ flat_map value_aggs (take i values) ++ value_aggs v =
+    ≡ flat_map value_aggs (take i values) ++ value_aggs v =
     flat_map-append value_aggs (take i values) (v ∷ [])
-        ∙ ap (λ xs. flat_map value_aggs (take i values) ++ xs) (append-nil (value_aggs v)) in
+    ∙ ap (λ xs. flat_map value_aggs (take i values) ++ xs) (append-nil (value_aggs v)) in
     ap (λ vs. with_all_new [] (aggs_of vs)) all
     ∙ ap (λ xs. with_all_new [] (aggs_of [] ++ xs)) flat
     ∙ with_all_new-append [] (aggs_of (take i values)) (value_aggs v)

@@ -59,7 +59,7 @@ module _ (aggs : List Agg) where
       let lt = λ (x y : Ranked). is_lt (ranked_cmp x y) in
       ap (map (λ r. r.row))
       (sorted-unique ranked_cmp ranked_weak before after (up lt ranked_weak compares)
-          (stable lt ranked_weak compares)
+      (stable lt ranked_weak compares)
       ∙ ap (sorted ranked_cmp) is
       ∙ sorted-ranked rows)
       ∙ rows_again (sorted (rows_cmp aggs) rows)

@@ -37,7 +37,7 @@ pub same_more : (xs ys : List Agg) (i : ℕ) (x y : Agg) → i < length xs → i
     → take (i + 1) xs ≡ take (i + 1) ys
 same_more xs ys i x y below within so_far at there same =
     take_more xs i x below ∙ (λ j. so_far j ++ (sym at ∙ same ∙ there) j ∷ [])
-        ∙ sym (take_more ys i y within)
+    ∙ sym (take_more ys i y within)
 
 pub same_whole : (xs ys : List Agg) (i : ℕ) → i ≡ length xs → i ≡ length ys → take i xs ≡ take i ys
     → xs ≡ ys

@@ -31,5 +31,5 @@ pub record-more : (had then has : List Rec → Type 0) (rs : List Rec) (i : ℕ)
     → TakesMore had has (take (i + 1) rs)
 record-more had then has rs i r below is so_far next =
     let all : take (i + 1) rs ≡ take i rs ++ r ∷ [] = take_more rs i r below
-        ∙ ap (λ x. take i rs ++ x ∷ []) (sym is) in
+    ∙ ap (λ x. take i rs ++ x ∷ []) (sym is) in
     subst (TakesMore had has) (sym all) (TakesMore-trans had then has _ _ so_far next)

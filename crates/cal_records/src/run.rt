@@ -115,11 +115,7 @@ pub fn run_records(
 
 /// The records of a run whose journal was read, or the first rule that the journal breaks. It takes
 /// time in the lengths of all paths.
-pub fn run_serial(
-    alloc: Global,
-    script: &Script,
-    text: &JournalText,
-) -> Result<Records, CoreEnd>
+pub fn run_serial(alloc: Global, script: &Script, text: &JournalText) -> Result<Records, CoreEnd>
     requires { IsRunnable script.now }
     ensures lawful { OnOk result (IsLawfulText script.now text.now) }
     ensures records { IfOk result (λ records. records ≡ records_of script.now text.now.journal) }

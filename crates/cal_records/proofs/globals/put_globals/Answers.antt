@@ -21,11 +21,11 @@ loop-entry-preserved c = record {
   means = globals-more c.loop-entry.context c.put_global.new.context c.args.entries.now
       c.loop-entry.entry-index c.entry-item.result c.loop-entry.snapshot c.put_global.new.snapshot
       c.loop-entry-test.true c.entry-item.is c.loop-entry.invariant.means
-          c.in_ok-put_global.ensures.adds;
+      c.in_ok-put_global.ensures.adds;
 }
 
 pub returns-clause-means : goal.returns-clause-means
 returns-clause-means c =
     subst (λ (l : List Entry). Means c.loop-entry.context c.loop-entry.snapshot (globals_of l))
     (take_all c.loop-entry.entry-index c.args.entries.now c.loop-entry-test.false)
-        c.loop-entry.invariant.means
+    c.loop-entry.invariant.means

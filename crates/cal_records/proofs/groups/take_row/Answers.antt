@@ -9,5 +9,5 @@ pub returns-clause-taken : goal.returns-clause-taken
 returns-clause-taken g c = λ rs had.
     let interned = c.in_ok-intern_record.ensures in
     subst (λ (r : Rec). g.T.Taker.has_taken c.take.new.self c.intern_record.new.context
-        (rs ++ r ∷ [])) interned.means.means
+    (rs ++ r ∷ [])) interned.means.means
     (c.in_ok-take.ensures rs (g.met.T.Taker.stays _ _ _ _ had interned.grows))

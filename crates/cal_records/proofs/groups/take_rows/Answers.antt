@@ -18,6 +18,6 @@ loop-row-preserved g c =
       taken = record-more (has_taken c.args.taker.now c.args.context.now)
           (has_taken c.loop-row.taker c.loop-row.context)
           (has_taken c.take_row.new.taker c.take_row.new.context) c.args.rows.now
-              c.loop-row.row-index c.row-item.result
+          c.loop-row.row-index c.row-item.result
           c.loop-row-test.true c.row-item.is old.taken next.taken;
     }

@@ -12,8 +12,8 @@ pub returns-clause-adds : goal.returns-clause-adds
 returns-clause-adds c =
     let step = c.in_ok-node.ensures.step in
     λ done h. subst (λ (l : List NodeNumber). AddsPath c.args.context.now c.step.new.context
-        (c.args.entry.now ∷ []) c.args.nodes.now.items l) (sym c.in_ok-push.ensures.items)
+    (c.args.entry.now ∷ []) c.args.nodes.now.items l) (sym c.in_ok-push.ensures.items)
     (path-put c.args.context.now c.step.new.context (c.args.entry.now ∷ []) c.args.nodes.now.items
-        c.in_ok-node.node c.in_ok-node.ensures.grows step.below.below
+    c.in_ok-node.node c.in_ok-node.ensures.grows step.below.below
     (reached-one c.args.context.now c.step.new.context c.args.entry.now c.in_ok-node.node
-        c.has_each_once.ensures step)) done h
+    c.has_each_once.ensures step)) done h

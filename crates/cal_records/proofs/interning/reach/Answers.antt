@@ -7,8 +7,10 @@ use Rattle.cal_records.proofs.InterningLemmas.{reached-none, reached-more}
 use Rattle.cal_records.proofs.interning.reach.Goals as goal
 
 pub loop-entry-init : goal.loop-entry-init
-loop-entry-init c = record { grows = Grows-refl c.args.context.now;
-    reached = reached-none c.args.context.now c.has_each_once.ensures }
+loop-entry-init c = record {
+  grows = Grows-refl c.args.context.now;
+  reached = reached-none c.args.context.now c.has_each_once.ensures;
+}
 
 pub loop-entry-preserved : goal.loop-entry-preserved
 loop-entry-preserved c = record {
@@ -17,11 +19,11 @@ loop-entry-preserved c = record {
   reached = reached-more c.loop-entry.context c.step.new.context c.args.path.now
       c.loop-entry.entry-index c.entry-item.result c.loop-entry.node c.in_ok-node.node
       c.loop-entry-test.true c.entry-item.is c.loop-entry.invariant.reached
-          c.in_ok-node.ensures.step;
+      c.in_ok-node.ensures.step;
 }
 
 pub returns-clause-reached : goal.returns-clause-reached
 returns-clause-reached c =
     subst (λ (l : List Entry). IsReached c.loop-entry.context l c.loop-entry.node)
     (take_all c.loop-entry.entry-index c.args.path.now c.loop-entry-test.false)
-        c.loop-entry.invariant.reached
+    c.loop-entry.invariant.reached
