@@ -8,4 +8,6 @@
 #[cfg(test)]
 mod faults;
 #[cfg(test)]
+mod printed;
+#[cfg(test)]
 mod said;
