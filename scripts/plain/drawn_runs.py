@@ -1,7 +1,8 @@
 """Scripts with journals that a run of theirs may leave, drawn from fixed numbers, and such journals spoilt in one line."""
 import random
+from itertools import permutations
 
-from .run import MOST_CLOCK, Meant, is_process_line, list_note
+from .run import MOST_CLOCK, Meant, is_process_line, list_note, plain
 from .script import read_both
 
 ATTRIBUTES = (
@@ -49,34 +50,39 @@ def drawn_script(draw):
     return lines
 
 
-def drawn_run(draw, script):
-    """The journal of one interleaving of a script's threads, with some clock."""
-    turns = [t for t, lines in enumerate(script.threads) for _ in lines]
-    draw.shuffle(turns)
+def run_of(script, turns, clock, starts, read):
+    """The journal of an interleaving, given by the threads whose turn it is, line by line."""
     history, before, done = [], {}, [0] * len(script.threads)
     for t in turns:
         done[t] += 1
         before[t, done[t]] = len(history)
         if is_process_line(script, script.threads[t][done[t] - 1]):
             history.append((t, done[t]))
-    clock = draw.choice(('script', 'real'))
     timed = any('timer' in channel.services for channel in script.channels)
-    merged = {(t, line[1]) for t, lines in enumerate(script.threads) for line in lines if line[0] == 'flush'}
     threads = []
     for t, lines in enumerate(script.threads):
-        start = None if not timed else 0 if clock == 'script' else draw.randrange(50)
-        threads.append((start, []))
+        threads.append((starts[t] if timed else None, []))
         seen, ticks = 0, 0
         for n, line in enumerate(lines, 1):
             ticks = min(MOST_CLOCK, ticks + line[1]) if line[0] == 'tick' else ticks
-            reading = ticks if clock == 'script' else draw.randrange(100)
+            reading = read(ticks)
             threads[-1][1].append((None, before[t, n], reading))
             guess = Meant(clock, history, threads + [(0, [])] * (len(script.threads) - t - 1))
             note = list_note(script, guess, t, n)
             seen = before[t, n] + 1 if is_process_line(script, line) else before[t, n] if note.looks else seen
-            reply = note.reply or ('merged', None)
-            threads[-1][1][-1] = (reply, seen, reading if note.due else None)
-    return with_busy(draw, script, Meant(clock, history, threads), merged)
+            threads[-1][1][-1] = (note.reply or ('merged', None), seen, reading if note.due else None)
+    return Meant(clock, history, threads)
+
+
+def drawn_run(draw, script):
+    """The journal of one interleaving of a script's threads, with some clock."""
+    turns = [t for t, lines in enumerate(script.threads) for _ in lines]
+    draw.shuffle(turns)
+    clock = draw.choice(('script', 'real'))
+    starts = [0 if clock == 'script' else draw.randrange(50) for _ in script.threads]
+    run = run_of(script, turns, clock, starts, lambda ticks: ticks if clock == 'script' else draw.randrange(100))
+    merged = {(t, line[1]) for t, lines in enumerate(script.threads) for line in lines if line[0] == 'flush'}
+    return with_busy(draw, script, run, merged)
 
 
 def with_busy(draw, script, run, merged):
@@ -133,14 +139,26 @@ def spoilt(draw, lines):
     return lines
 
 
+def interleaved():
+    """Three threads with two process lines each, in each of the 90 orders of the six."""
+    lines = ['attribute p string 12', 'channel t event,trace']
+    for t, second in enumerate(('end p', 'set p z', 'end p')):
+        lines += ['thread', f'begin p v{t}', second]
+    script, _, _ = read_both('\n'.join(lines).encode())
+    for order in sorted(set(permutations((0, 0, 1, 1, 2, 2)))):
+        yield lines + written(run_of(script, order, 'script', [0, 0, 0], lambda ticks: ticks))
+
+
 def drawn_cases(count):
     """Inputs of `serial`: a script alone, with a journal, and with a spoilt one."""
     draw = random.Random(4127)
+    yield from interleaved()
     for _ in range(count):
         lines = drawn_script(draw)
         script, _, fault = read_both('\n'.join(lines).encode())
         yield lines
         if not fault:
+            yield lines + written(plain(script))
             journal = written(drawn_run(draw, script))
             yield lines + journal
             for _ in range(3):
