@@ -84,7 +84,7 @@ def event_entry(script, board, line):
 
 
 def snapshot_of(script, channel, line, mine, process, reading, previous):
-    """The parts in the order of 4.4."""
+    """A snapshot with its parts in order: event, times, probes, as-value entries."""
     imms = []
     if line[0] != 'snapshot':
         imms.append(event_entry(script, process if is_process_line(script, line) else mine, line))
@@ -110,7 +110,7 @@ def takes(script, channel, line):
 
 
 def thread_run(script, journal, thread):
-    """Each line's note, by the six steps of 4.3; a line with the reading and SEEN that the journal has."""
+    """Each line's note, by its six steps; a line with the reading and SEEN that the journal has."""
     history, start, rows = journal.history, *journal.threads[thread]
     mine, clock, seen = {}, 0, 0
     previous = [start if start is not None else 0] * len(script.channels)
@@ -185,7 +185,7 @@ def list_note(script, journal, thread, count):
 
 
 def first_broken(script, journal):
-    """The line and the kind of the first of rules 4 to 12 that is broken, or None."""
+    """The line and the kind of the first rule that is broken, of those on the journal as a whole, or None."""
     marks = iter(journal.rows)
     wanted = [(t, n) for t, lines in enumerate(script.threads) for n in range(len(lines) + 1)]
     for place, (t, n) in enumerate(wanted):
