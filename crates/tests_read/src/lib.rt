@@ -12,3 +12,5 @@ mod grammar;
 mod pieces;
 #[cfg(test)]
 mod shown;
+#[cfg(test)]
+mod usual;
