@@ -1,9 +1,11 @@
 -- A text is its first piece, and the pieces behind the mark that ends it.
-use Rattle.std.proofs.Common.{◌≡◌, ℕ, ◌<◌, true, false, cond, eqb, Some, None, List, [], ◌∷◌, ◌++◌, length, get_or, refl, sym, ap, ◌∙◌, inl, inr}
-use Rattle.std.specs.List.{All, onto_first, list_all}
-use Rattle.std.proofs.lemmas.Bool.{ne_eqb, eq-eqb, cases_Bool}
+use Rattle.std.proofs.Common.{◌≡◌, ℕ, ◌+◌, ◌<◌, true, false, cond, eqb, Some, None, List, [], ◌∷◌, ◌++◌, length, take, drop, get_or, refl, sym, ap, ◌∙◌, inl, inr, arith}
+use Rattle.std.specs.List.{All, onto_first, list_all, position_or_len}
+use Rattle.std.proofs.lemmas.Bool.{ne_eqb, eq-eqb, cases_Bool, false_from_ne_true}
 use Rattle.std.proofs.lemmas.List.{get_or_default}
-use Rattle.std.proofs.lemmas.List.Splits.{slice_split_none, slice_split_at, slice_split-cons_yes, slice_split-cons_no, join_with_byte-slice_split}
+use Rattle.std.proofs.lemmas.List.Sums.{position_or_len_is}
+use Rattle.std.proofs.lemmas.List.Splits.{slice_split_first, slice_split_none, slice_split_at, slice_split-cons_yes, slice_split-cons_no, join_with_byte-slice_split}
+use Rattle.memchr.specs.Find.{NoneBefore, Nowhere, Passes, is_byte}
 use Rattle.cal_script.specs.Parts.{is_event_name}
 use Rattle.cal_script.specs.Lines.{pieces, words_of, joined, is_word, no_word, one_word, two_words, three_words, some_words, word_and_rest}
 
@@ -17,6 +19,22 @@ no_byte_is mark xs h k d lt = ne_eqb _ _ (rw (get_or_default xs k d 0 lt) (h k l
 -- a text without the mark is one piece
 pub pieces_of_one : (mark : ℕ) (text : List ℕ) → HasNone mark text → pieces mark text ≡ text ∷ []
 pieces_of_one mark text h = slice_split_none _ text (no_byte_is mark text h)
+
+-- a text is what stands before its first mark, and the pieces behind that
+pub pieces_at : (mark : ℕ) (bytes text : List ℕ) (place : ℕ) → bytes ≡ text → NoneBefore (Passes (is_byte mark) bytes) 0 (length bytes) place → Passes (is_byte mark) bytes place
+    → pieces mark text ≡ take place text ∷ pieces mark (drop (place + 1) text)
+pieces_at mark bytes text place are found here =
+    let test = is_byte mark in
+    let first : position_or_len test text ≡ place =
+    rw (← are) (position_or_len_is test bytes place 0 (omega (arith, found.high)) (λ k below. false_from_ne_true _ (found.before k (omega arith) below)) (λ _. here))
+    in
+    let within : position_or_len test text < length text = omega (arith, first, found.high, ap length are) in
+    rw first at (slice_split_first test text 0 within)
+
+-- a text in which no mark is found is one piece
+pub pieces_of_all : (mark : ℕ) (bytes text : List ℕ) → bytes ≡ text → Nowhere (Passes (is_byte mark) bytes) 0 (length bytes) → pieces mark text ≡ text ∷ []
+pieces_of_all mark bytes text are none =
+    rw (← are) (pieces_of_one mark bytes (λ k below is. none k (omega arith) below (eq-eqb _ _ is)))
 
 eqb_same : (n : ℕ) → eqb n n ≡ true
 eqb_same n = eq-eqb n n refl

@@ -3,3 +3,5 @@ pub mod Registers
 pub mod Values
 pub mod LastChannel
 pub mod Runs
+pub mod FirstWords
+pub mod Plain

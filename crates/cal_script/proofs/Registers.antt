@@ -1,13 +1,15 @@
 -- Items that are found by their names.
-use Rattle.std.proofs.Common.{◌≡◌, ℕ, Bool, false, List, [], ◌∷◌, ◌++◌, length, get_or, refl, sym, ap, ◌∙◌}
+use Rattle.std.proofs.Common.{◌≡◌, ℕ, ◌<◌, Bool, true, false, List, [], ◌∷◌, ◌++◌, length, get_or, refl, sym, ap, subst, ◌∙◌, arith}
 use Rattle.std.specs.Prelude.{String}
 use Rattle.std.specs.Prelude.{IfSome, map, string_bytes, Some, None, Option}
-use Rattle.std.specs.List.{list_any, position, position_or_len}
+use Rattle.std.specs.List.{list_any, position, position_or_len, IsDistinct, AllByRecursion}
 use Rattle.std.specs.Str.{bytes_eq}
 use Rattle.std.specs.String.{string_eq}
-use Rattle.std.proofs.lemmas.List.{map-append, length-map}
-use Rattle.std.proofs.lemmas.Bool.{cond-false}
+use Rattle.std.proofs.lemmas.List.{map-append, length-map, get_or-map}
+use Rattle.std.proofs.lemmas.Bool.{cond-false, false_from_ne_true, lt-ltb}
 use Rattle.std.proofs.lemmas.List.Quantifiers.{position-Some}
+use Rattle.std.proofs.lemmas.List.Sums.{position_or_len_is}
+use Rattle.std.proofs.lemmas.Map.Keys.{apart_from_distinct}
 use Rattle.std.specs.Cmp.Lexicographic.{bytes_decides}
 use Rattle.indexmap.specs.IndexSet.{insert_key}
 use Rattle.std.specs.declared.alloc.Global.{Global}
@@ -67,3 +69,40 @@ pub registered_found : {T : Type 0} (name_of : T → List ℕ) (items : List T) 
     → found ≡ place_of (map name_of items) name → IfSome found (λ place. (other : T) → name_of (get_or items place other) ≡ name)
 registered_found name_of items name None is = tt
 registered_found name_of items name (Some place) is = λ other. registered_named name_of items name place other (sym is)
+
+-- keys that are apart have names that are apart
+apart_names : (key : String Global) (keys : List (String Global)) → AllByRecursion (λ other. string_eq key other ≡ false) keys → AllByRecursion (λ name. bytes_eq (string_bytes key) name ≡ false) (map string_bytes keys)
+apart_names key [] apart = tt
+apart_names key (other ∷ keys) apart = (apart.0, apart_names key keys apart.1)
+
+distinct_names : (keys : List (String Global)) → IsDistinct string_eq keys → IsDistinct bytes_eq (map string_bytes keys)
+unfolding IsDistinct
+distinct_names [] apart = tt
+distinct_names (key ∷ keys) apart = (apart_names key keys apart.0, distinct_names keys apart.1)
+
+-- where names are apart, the one at a place has no like before it
+apart_before : (names : List (List ℕ)) (place before : ℕ) → IsDistinct bytes_eq names → before < place → place < length names → bytes_eq (get_or names place []) (get_or names before []) ≡ false
+apart_before names place before apart first within =
+    let differs : bytes_eq (get_or names before []) (get_or names place []) ≡ false = apart_from_distinct bytes_eq names before place [] apart first within in
+    false_from_ne_true _ (λ same.
+    let is = (bytes_decides (get_or names place []) (get_or names before [])).0 same in
+    let equal = (bytes_decides (get_or names before []) (get_or names place [])).1 (sym is) in
+    cc)
+
+place_first : (names : List (List ℕ)) (place : ℕ) → IsDistinct bytes_eq names → place < length names → place_of names (get_or names place []) ≡ Some place
+place_first names place apart within =
+    let first : position_or_len (bytes_eq (get_or names place [])) names ≡ place =
+    position_or_len_is (bytes_eq (get_or names place [])) names place [] (omega arith) (λ before less. apart_before names place before apart less within)
+    (λ _. (bytes_decides (get_or names place []) (get_or names place [])).1 refl)
+    in
+    rw (first, lt-ltb place (length names) within) refl
+
+-- what stands at a place and has the name is the one that is found
+pub place_at : {T : Type 0} (name_of : T → List ℕ) (register : Register T) (name : List ℕ) (place : ℕ) (item : T) → IsRegister name_of register
+    → IsDistinct string_eq register.names.keys → place < length register.items → item ≡ get_or register.items place item
+    → bytes_eq name (name_of item) ≡ true → place_of (map name_of register.items) name ≡ Some place
+place_at name_of register name place item kept apart within is same =
+    let distinct : IsDistinct bytes_eq (map name_of register.items) = subst (IsDistinct bytes_eq) kept (distinct_names register.names.keys apart) in
+    let here : get_or (map name_of register.items) place [] ≡ name_of item = get_or-map name_of register.items place item [] within ∙ sym (ap name_of is) in
+    let named : name ≡ get_or (map name_of register.items) place [] = (bytes_decides name (name_of item)).0 same ∙ sym here in
+    rw named (place_first (map name_of register.items) place distinct (omega (arith, length-map register.items name_of)))

@@ -1,5 +1,9 @@
 -- What the reader of a script knows of the lines so far (private).
 use Rattle.std.specs.Prelude.{◌≡◌, ◌++◌, option_to_list, ◌≤◌, Bool, List, [], length, Option, Some, None, if◌then◌else◌}
+use Rattle.std.specs.Prelude.{IsTrue}
+use Rattle.std.specs.List.{All}
+use Rattle.cal_value.specs.declared.attribute.Attribute.{Attribute}
+use Rattle.cal_script.specs.Names.{is_name}
 use Rattle.cal_script.specs.declared.script.Line.{Line}
 use Rattle.cal_script.specs.declared.reader.Reader.{Reader}
 use Rattle.cal_script.specs.declared.tally.Tally.{Tally}
@@ -23,11 +27,16 @@ state_of reader = record {
   tally = reader.tally;
 }
 
--- Names are found by hash.
+-- each attribute has a name that one may declare
+abbrev pub AreNamed : List Attribute → Type 0
+AreNamed attributes = All (λ attribute. IsTrue (is_name attribute.name)) attributes
+
+-- Names are found by hash, and those of attributes are words.
 pub record HasNames (reader : Reader) : Type 0 where
   pub attributes : IsAttributes reader.attributes
   pub channels : IsChannels reader.channels
   pub globals : IsGlobals reader.globals
+  pub words : AreNamed reader.attributes.items
 
 -- Names are found by hash, and each value stands in a line.
 pub record IsReading (reader : Reader) : Type 0 where

@@ -1,5 +1,6 @@
-ghost use Rattle.std.specs.Prelude.{◌≡◌, false, IfOk};
+ghost use Rattle.std.specs.Prelude.{◌≡◌, false, IfOk, IsTrue};
 ghost use Rattle.cal_value.specs.Kinds.{kind_named};
+ghost use Rattle.cal_script.specs.Names.{is_name};
 ghost use Rattle.cal_script.specs.Parts.{attribute_names, attribute_of};
 ghost use Rattle.cal_script.specs.Parts.{declarable, declared_props, is_among, is_text_kind};
 ghost use Rattle.cal_script.specs.Registers.{IsAttributes};
@@ -51,6 +52,7 @@ fn is_text_kind(kind: Kind) -> bool
 }
 
 /// The attribute that these words declare.
+#[tactic(auto, using(crate::proofs::FirstWords::declared_name))]
 pub(crate) fn read_attribute(
     alloc: Global,
     declared: &Register<Attribute>,
@@ -61,6 +63,7 @@ pub(crate) fn read_attribute(
     requires { IsAttributes declared.now }
     ensures fresh { IfOk result (λ attribute. is_among (attribute_names declared.now.items) attribute.name
         ≡ false) }
+    ensures named { IfOk result (λ attribute. IsTrue (is_name attribute.name)) }
     ensures said { Gives (λ attribute. attribute) result
         (attribute_of declared.now.items (name.now, kind.now, props.now)) }
 {

@@ -21,6 +21,7 @@ use std::alloc::Global;
 
 /// The lines of a header.
 impl Reader {
+    #[tactic(auto, using(crate::proofs::FirstWords::named_more))]
     pub(crate) fn read_attribute(
         &mut self,
         alloc: Global,
@@ -63,6 +64,7 @@ impl Reader {
     }
 
     /// The attribute of this name, with its place.
+    #[inline(always)]
     pub(crate) fn named(&self, name: &str) -> Option<(u32, &Attribute)>
         requires kept { IsReading self.now }
         requires fits { fits (state_of self.now) ≡ true }
@@ -70,7 +72,7 @@ impl Reader {
             ≡ attribute_named self.now.attributes.items name.now }
         ensures same { IfSome result (λ named. named.1.now.name ≡ name.now) }
     {
-        let place = self.attributes.place(name)?;
+        let place = self.attributes.place_near(self.recent, name)?;
         Some((place as u32, &self.attributes.items.as_slice()[place]))
     }
 

@@ -9,7 +9,7 @@ ghost use Rattle.cal_script.specs.Steps.{Gives, words_behind};
 use crate::end::LineEnd;
 use crate::register::Register;
 use crate::tally::{Tally, tree_words};
-use crate::words::{first_word, is_skipped};
+use crate::words::{behind, first_word, is_skipped};
 use crate::{Channel, Line, Script, ScriptKind};
 use cal_value::{Attribute, Entry, OutOfMemory, Seq, Variant};
 use std::alloc::Global;
@@ -39,6 +39,8 @@ pub struct Reader {
     pub(crate) in_thread: bool,
     pub(crate) lines: Seq<Line>,
     pub(crate) tally: Tally,
+    /// Where the attribute stands that a line named last. The next line likely names it too.
+    pub(crate) recent: usize,
 }
 
 impl Reader {
@@ -64,6 +66,7 @@ impl Reader {
                 own: 0,
                 most: 0,
             },
+            recent: 0,
         }
     }
 
@@ -125,7 +128,7 @@ impl Reader {
             && tree_words(threads, self.tally.arena()) <= MOST_TREE_WORDS
     }
 
-    /// Reads a line by its words.
+    /// Reads a line by its words. The most frequent first words are tried first.
     fn read_words(&mut self, alloc: Global, line: &str) -> Result<(), LineEnd>
         requires kept { IsReading self.old }
         requires fits { fits (state_of self.old) ≡ true }
@@ -135,6 +138,12 @@ impl Reader {
         ensures threads { OnOk result (length self.new.earlier < 65) }
         ensures near { OnOk result (IsNear self.new.tally) }
     {
+        if let Some(rest) = behind(line, "begin") {
+            return self.read_begin(alloc, Some(rest));
+        }
+        if let Some(rest) = behind(line, "end") {
+            return self.read_end(Some(rest));
+        }
         let (word, rest) = first_word(line);
         match word {
             "attribute" => self.read_attribute(alloc, rest),
@@ -154,6 +163,7 @@ impl Reader {
     }
 
     /// Adds a line to the last thread. Its node has so many words.
+    #[inline(always)]
     pub(crate) fn add_line(
         &mut self,
         line: Line,
@@ -190,6 +200,7 @@ impl Reader {
             in_thread,
             lines,
             tally: _,
+            recent: _,
         } = self;
         Ok(Script {
             attributes: attributes.into_items(),

@@ -1,4 +1,5 @@
-ghost use Rattle.std.specs.Prelude.{◌≡◌, ◌<◌, ◌++◌, ◌∷◌, [], List, ℕ, false, length, map, slice_index_or, OnOk, IfSome};
+ghost use Rattle.std.specs.Prelude.{◌≡◌, ◌<◌, ◌++◌, ◌∷◌, [], List, ℕ, Some, false, length, map};
+ghost use Rattle.std.specs.Prelude.{slice_index_or, OnOk, IfSome, IsTrue};
 ghost use Rattle.cal_script.specs.Parts.{is_among, place_of};
 ghost use Rattle.cal_script.specs.Registers.{IsRegister};
 
@@ -83,6 +84,36 @@ impl<T: Named + Drop> Register<T> {
             → T.name_of (slice_index_or self.now.items place other) ≡ name.now) }
     {
         self.names.get_index_of(name)
+    }
+
+    /// The same, looked for first at a place where it is likely.
+    #[inline(always)]
+    pub(crate) fn place_near(&self, likely: usize, name: &str) -> Option<usize>
+        requires { IsRegister T.name_of self.now }
+        ensures place { result ≡ place_of (map T.name_of self.now.items) name.now }
+        ensures below { IfSome result (λ place. place < length self.now.items) }
+        ensures named { IfSome result (λ place. (other : T)
+            → T.name_of (slice_index_or self.now.items place other) ≡ name.now) }
+    {
+        if self.is_at(likely, name) {
+            return Some(likely);
+        }
+        self.place(name)
+    }
+
+    /// Whether the item at a place has this name.
+    #[inline(always)]
+    fn is_at(&self, place: usize, name: &str) -> bool
+        requires { IsRegister T.name_of self.now }
+        ensures { IsTrue result
+            → place_of (map T.name_of self.now.items) name.now ≡ Some place }
+    {
+        let items = self.items.as_slice();
+        let count = self.names.len();
+        if place >= count {
+            return false;
+        }
+        name == items[place].name()
     }
 
     /// Adds an item, whose name no other has. After an `Err` the register is of no more use.

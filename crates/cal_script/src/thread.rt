@@ -1,8 +1,11 @@
-ghost use Rattle.std.specs.Prelude.{◌≡◌, ◌<◌, ◌≤◌, ◌++◌, ◌∷◌, [], length, IfOk, OnOk, true};
+ghost use Rattle.std.specs.Prelude.{◌≡◌, ◌<◌, ◌≤◌, ◌++◌, ◌∷◌, [], length, true, Some};
+ghost use Rattle.std.specs.Prelude.{IfOk, IfSome, IsTrue, OnOk};
 ghost use Rattle.std.specs.Option.{ok_or, option_map};
 ghost use Rattle.cal_script.specs.Limits.{fits};
+ghost use Rattle.cal_script.specs.Lines.{one_word, word_and_rest, words_of};
+ghost use Rattle.cal_script.specs.Names.{is_name};
 ghost use Rattle.cal_script.specs.Parts.{channel_named};
-ghost use Rattle.cal_script.specs.Reader.{IsNear, IsReading, ended, state_of};
+ghost use Rattle.cal_script.specs.Reader.{AreNamed, IsNear, IsReading, ended, state_of};
 ghost use Rattle.cal_script.specs.Reading.{end_after, flush_after, opening_after, snapshot_after};
 ghost use Rattle.cal_script.specs.Reading.{opening_said, thread_after, tick_after};
 ghost use Rattle.cal_script.specs.Steps.{Gives, words_behind};
@@ -14,7 +17,7 @@ use crate::opening::Opening;
 use crate::reader::Reader;
 use crate::tally::made_words;
 use crate::value::{read_number, read_value};
-use crate::words::{one_word, word_and_rest};
+use crate::words::{behind, one_word, word_and_rest};
 use crate::{Channel, Line, ScriptKind};
 use cal_value::{OutOfMemory, Seq, Variant};
 use std::alloc::Global;
@@ -54,6 +57,75 @@ impl Reader {
         Ok(())
     }
 
+    /// The name of the attribute that a line named last.
+    #[inline(always)]
+    fn recent_name(&self) -> Option<&str>
+        requires { AreNamed self.now.attributes.items }
+        ensures { IfSome result (λ name. IsTrue (is_name name.now)) }
+    {
+        let attributes = self.attributes.items.as_slice();
+        if self.recent >= attributes.len() {
+            return None;
+        }
+        Some(attributes[self.recent].name.as_str())
+    }
+
+    /// The name of the attribute that a line named last and what stands behind its space, where a
+    /// text begins with them.
+    #[inline(always)]
+    #[tactic(auto, using(crate::proofs::FirstWords::name_and_rest_of))]
+    fn behind_recent<'a>(&'a self, text: &'a str) -> Option<(&'a str, &'a str)>
+        requires { AreNamed self.now.attributes.items }
+        ensures { IfSome result (λ words. word_and_rest (words_of text.now)
+            ≡ Some (words.0.now, words.1.now)) }
+    {
+        let name = self.recent_name()?;
+        let value = behind(text, name)?;
+        Some((name, value))
+    }
+
+    /// The word that stands there, and the rest of the line. The name that a line had last is tried
+    /// first, since that takes no search for its end.
+    #[inline(always)]
+    fn name_and_rest<'a>(&'a self, rest: Option<&'a str>) -> Option<(&'a str, &'a str)>
+        requires { AreNamed self.now.attributes.items }
+        ensures { option_map (λ words. (words.0.now, words.1.now)) result
+            ≡ word_and_rest (words_behind rest.entry) }
+    {
+        let text = rest?;
+        match self.behind_recent(text) {
+            Some((name, value)) => Some((name, value)),
+            None => word_and_rest(rest),
+        }
+    }
+
+    /// Whether a text is the name of the attribute that a line named last.
+    #[inline(always)]
+    fn is_recent(&self, text: &str) -> bool
+        requires { AreNamed self.now.attributes.items }
+        ensures { IsTrue result → is_name text.now ≡ true }
+    {
+        match self.recent_name() {
+            Some(name) => text == name,
+            None => false,
+        }
+    }
+
+    /// The one word that stands there. The name that a line had last is tried first.
+    #[inline(always)]
+    #[tactic(auto, using(crate::proofs::FirstWords::one_name_of))]
+    fn one_name<'a>(&self, rest: Option<&'a str>) -> Option<&'a str>
+        requires { AreNamed self.now.attributes.items }
+        ensures { option_map (λ word. word.now) result ≡ one_word (words_behind rest.entry) }
+    {
+        let text = rest?;
+        if self.is_recent(text) {
+            return Some(text);
+        }
+        one_word(rest)
+    }
+
+    #[inline(always)]
     #[tactic(auto, using(crate::proofs::Values::made_small))]
     fn opening_of(&self, alloc: Global, rest: Option<&str>) -> Result<Opening, LineEnd>
         requires kept { IsReading self.now }
@@ -62,7 +134,7 @@ impl Reader {
             (opening_said (state_of self.now) (words_behind rest.entry)) }
         ensures small { IfOk result (λ opening. opening.words ≤ 516) }
     {
-        let Some((name, value)) = word_and_rest(rest) else {
+        let Some((name, value)) = self.name_and_rest(rest) else {
             return Err(LineEnd::Bad(ScriptKind::WrongArity));
         };
         let Some((attr, attribute)) = self.named(name) else {
@@ -78,6 +150,7 @@ impl Reader {
     }
 
     /// Puts the value of a line to the others, and says its place.
+    #[inline(always)]
     fn add_value(&mut self, value: Variant) -> Result<u32, OutOfMemory>
         requires kept { IsReading self.old }
         requires fits { fits (state_of self.old) ≡ true }
@@ -90,6 +163,7 @@ impl Reader {
         Ok(place as u32)
     }
 
+    #[inline(always)]
     pub(crate) fn read_begin(&mut self, alloc: Global, rest: Option<&str>) -> Result<(), LineEnd>
         requires kept { IsReading self.old }
         requires fits { fits (state_of self.old) ≡ true }
@@ -108,11 +182,13 @@ impl Reader {
             words,
             value,
         } = self.opening_of(alloc, rest)?;
+        self.recent = attr as usize;
         let value = self.add_value(value)?;
         self.add_line(Line::Begin { attr, value }, process, words)?;
         Ok(())
     }
 
+    #[inline(always)]
     pub(crate) fn read_set(&mut self, alloc: Global, rest: Option<&str>) -> Result<(), LineEnd>
         requires kept { IsReading self.old }
         requires fits { fits (state_of self.old) ≡ true }
@@ -131,11 +207,13 @@ impl Reader {
             words,
             value,
         } = self.opening_of(alloc, rest)?;
+        self.recent = attr as usize;
         let value = self.add_value(value)?;
         self.add_line(Line::Set { attr, value }, process, words)?;
         Ok(())
     }
 
+    #[inline(always)]
     pub(crate) fn read_end(&mut self, rest: Option<&str>) -> Result<(), LineEnd>
         requires kept { IsReading self.old }
         requires fits { fits (state_of self.old) ≡ true }
@@ -148,13 +226,14 @@ impl Reader {
         if !self.in_thread {
             return Err(LineEnd::Bad(ScriptKind::Misplaced));
         }
-        let Some(name) = one_word(rest) else {
+        let Some(name) = self.one_name(rest) else {
             return Err(LineEnd::Bad(ScriptKind::WrongArity));
         };
         let Some((attr, attribute)) = self.named(name) else {
             return Err(LineEnd::Bad(ScriptKind::UnknownName));
         };
         let process = attribute.props.has_process_scope();
+        self.recent = attr as usize;
         self.add_line(Line::End { attr }, process, 0)?;
         Ok(())
     }

@@ -1,4 +1,4 @@
-ghost use Rattle.std.specs.Prelude.{◌≡◌, IfOk, IsTrue};
+ghost use Rattle.std.specs.Prelude.{◌≡◌, Some, IfOk, IfSome, IsTrue};
 ghost use Rattle.std.specs.Option.{ok_or};
 ghost use Rattle.cal_line.specs.Tokens.{spelled_text};
 ghost use Rattle.cal_value.specs.Reading.{uint_of, value_of};
@@ -11,6 +11,7 @@ use crate::ScriptKind;
 use crate::end::LineEnd;
 use cal_line::{FieldEnd, unescape};
 use cal_value::{Kind, OutOfMemory, Text, ValueFault, Variant, parse_value};
+use memchr::memchr;
 use std::alloc::Global;
 
 const LEAST: i128 = -9_223_372_036_854_775_808;
@@ -31,6 +32,7 @@ fn read_text(alloc: Global, spelled: &str) -> Result<Text, LineEnd>
 }
 
 /// The value of a kind that a text writes.
+#[inline(always)]
 fn written_value(alloc: Global, kind: Kind, text: &str) -> Result<Variant, LineEnd>
     ensures { Gives (λ value. value) result (ok_or (value_of kind text.now) kinds.BadValue) }
 {
@@ -72,6 +74,7 @@ fn is_allowed(value: &Variant) -> bool
     }
 }
 
+#[inline(always)]
 fn allowed(value: Variant) -> Result<Variant, LineEnd>
     ensures allowed { IfOk result (λ value. IsTrue (is_allowed value)) }
     ensures said { Gives (λ value. value) result (allowed value) }
@@ -82,11 +85,26 @@ fn allowed(value: Variant) -> Result<Variant, LineEnd>
     Ok(value)
 }
 
+/// The text that a VALUE spells, where no escape stands in it: the VALUE itself.
+fn plain_text(spelled: &str) -> Option<&str>
+    ensures { IfSome result (λ text. spelled_text spelled.now ≡ Some text.now) }
+{
+    match memchr(b'\\', spelled.as_bytes()) {
+        Some(_) => None,
+        None => Some(spelled),
+    }
+}
+
 /// The value of a kind that a VALUE says.
+#[inline(always)]
 pub(crate) fn read_value(alloc: Global, kind: Kind, spelled: &str) -> Result<Variant, LineEnd>
     ensures allowed { IfOk result (λ value. IsTrue (is_allowed value)) }
     ensures said { Gives (λ value. value) result (value_said kind spelled.now) }
 {
+    if let Some(text) = plain_text(spelled) {
+        let value = written_value(alloc, kind, text)?;
+        return allowed(value);
+    }
     let text = read_text(alloc, spelled)?;
     let value = value_of_text(alloc, kind, text)?;
     allowed(value)

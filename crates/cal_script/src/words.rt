@@ -1,9 +1,11 @@
-ghost use Rattle.std.specs.Prelude.{◌≡◌, ◌∷◌, ◌<◌, ◌≤◌, length, Option, IfSome};
+ghost use Rattle.std.specs.Prelude.{◌≡◌, ◌∷◌, ◌++◌, ◌<◌, ◌≤◌, length, Option, IfSome};
 ghost use Rattle.std.specs.List.{list_all};
 ghost use Rattle.std.specs.Option.{option_map};
 ghost use Rattle.cal_script.specs.Lines.{is_skipped, is_word, one_word, pieces, some_words, three_words};
 ghost use Rattle.cal_script.specs.Lines.{two_words, word_and_rest};
 ghost use Rattle.cal_script.specs.Steps.{pieces_behind, words_behind};
+
+use memchr::memchr;
 
 /// Whether a line says nothing.
 pub(crate) fn is_skipped(line: &[u8]) -> bool
@@ -16,18 +18,29 @@ pub(crate) fn is_skipped(line: &[u8]) -> bool
 }
 
 /// A text's first piece, and what stands behind the mark that ends it.
+#[inline(always)]
 pub fn cut(text: &str, mark: char) -> (&str, Option<&str>)
     requires { mark < 128 }
     ensures pieces { pieces mark text.now ≡ result.0.now ∷ pieces_behind mark result.1 }
     ensures shorter { IfSome result.1 (λ rest. length rest.now < length text.now) }
 {
-    match text.split_once(mark) {
-        Some((piece, rest)) => (piece, Some(rest)),
+    match memchr(mark as u8, text.as_bytes()) {
+        Some(end) => (&text[..end], Some(&text[end + 1..])),
         None => (text, None),
     }
 }
 
+/// What stands behind a word and the space that ends it, where a text begins with them.
+#[inline(always)]
+pub(crate) fn behind<'a>(text: &'a str, word: &str) -> Option<&'a str>
+    ensures { IfSome result (λ rest. text.now ≡ word.now ++ 32 ∷ rest.now) }
+{
+    let rest = text.strip_prefix(word)?;
+    rest.strip_prefix(' ')
+}
+
 /// A line's first word, and what stands behind the space that ends it.
+#[inline(always)]
 pub fn first_word(line: &str) -> (&str, Option<&str>)
     ensures { pieces 32 line.now ≡ result.0.now ∷ words_behind result.1 }
 {
@@ -35,6 +48,7 @@ pub fn first_word(line: &str) -> (&str, Option<&str>)
 }
 
 /// The one word that stands there.
+#[inline(always)]
 #[tactic(auto, using(crate::proofs::Cuts::one_word_more))]
 pub fn one_word(rest: Option<&str>) -> Option<&str>
     ensures { option_map (λ word. word.now) result ≡ one_word (words_behind rest.entry) }
@@ -76,6 +90,7 @@ pub(crate) fn three_words(rest: Option<&str>) -> Option<(&str, &str, &str)>
 }
 
 /// The word that stands there, and the rest of the line behind a space.
+#[inline(always)]
 #[tactic(auto, using(crate::proofs::Cuts::word_and_rest_of))]
 pub(crate) fn word_and_rest(rest: Option<&str>) -> Option<(&str, &str)>
     ensures { option_map (λ words. (words.0.now, words.1.now)) result
