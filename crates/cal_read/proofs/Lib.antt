@@ -15,3 +15,5 @@ mod WholeLemmas
 mod UsualLemmas
 mod UsualRowLemmas
 mod UsualNodeLemmas
+mod NumberLemmas
+mod LineLemmas

@@ -1,5 +1,5 @@
 -- What a reader has read, as bytes come and lines end.
-use Rattle.std.proofs.Common.{◌≡◌, ℕ, ◌+◌, ◌<◌, List, [], ◌∷◌, ◌++◌, length, Some, None, refl, sym, ap, ◌∙◌, subst, append_assoc}
+use Rattle.std.proofs.Common.{◌≡◌, ℕ, ◌+◌, ◌<◌, List, [], ◌∷◌, ◌++◌, length, Some, None, refl, sym, ap, ◌∙◌, subst, append_assoc, arith}
 use Rattle.std.specs.Prelude.{Ok, Err}
 use Rattle.std.proofs.lemmas.List.{length-append}
 use Rattle.cal_context.specs.Snapshots.{meaning}
@@ -8,7 +8,7 @@ use Rattle.cal_context.proofs.CallerLemmas.{IsIn-Grows, meaning-Grows, TakesMore
 use Rattle.cal_input.specs.FirstFault.{after_lines, IsFirstFault}
 use Rattle.cal_line.specs.Lines.{lines_of, HasNoNewline}
 use Rattle.cal_value.specs.declared.record.Rec.{Rec}
-use Rattle.cal_read.specs.Cuts.{ended_lines, IsCut}
+use Rattle.cal_read.specs.Cuts.{ended_lines, joined, IsCut}
 use Rattle.cal_read.specs.Reading.{HasEnded, HasRead, IsReady, IsReadyIf, IsRefusalOf, TakesBytes, Ends, rows_made, rows_of_lines, rows_before}
 use Rattle.cal_read.specs.Standing.{Stands, TakesUpTo}
 use Rattle.cal_read.specs.Stream as streams
@@ -21,6 +21,10 @@ use Rattle.cal_read.specs.declared.stream_reader.StreamReader.{StreamReader}
 use Rattle.cal_read.proofs.CutLemmas.{cut-begin, cut-end, cut-ended, cut-more, cut-lines, cut-lines_none, cut-start, ended-front}
 use Rattle.cal_read.proofs.FaultLemmas.{after_push, fault_push, fault_more}
 use Rattle.cal_read.proofs.HeldLemmas.{AreHeld-Grows}
+
+append-nil : {A : Type 0} (xs : List A) → xs ++ [] ≡ xs
+append-nil [] = refl
+append-nil (x ∷ xs) = ap (λ r. x ∷ r) (append-nil xs)
 
 -- what is held stays while the context grows
 pub Stands-Grows : {old new : Tree} → Grows old new → (held : Stream) (s : streams.Stream) → Stands old held s → Stands new held s
@@ -64,51 +68,42 @@ module _ (r : StreamReader) (t : Tree) (bytes : List ℕ) (h : HasRead r t bytes
       ap rows_of_lines (cut-ended (bytes ++ part) h.lines (r.begun.items ++ part) (cut-begin bytes h.lines r.begun.items h.cut part none)
       ∙ sym (cut-ended bytes h.lines r.begun.items h.cut))
 
-  -- the line that has begun ends
-  pub ended : ended_lines (bytes ++ 10 ∷ []) ≡ h.lines ++ r.begun.items ∷ []
-  ended = cut-ended (bytes ++ 10 ∷ []) (h.lines ++ r.begun.items ∷ []) [] (cut-end bytes h.lines r.begun.items h.cut)
-
-  pub read_ended : (u : Tree) (new : StreamReader) (next : streams.Stream) → line_step h.stream r.begun.items ≡ Ok next → Stands u new.stream next
-      → new.refused ≡ r.refused → new.lines ≡ r.lines + 1 → new.begun.items ≡ [] → HasRead new u (bytes ++ 10 ∷ [])
-  read_ended u new next made stands refused lines begun = record {
+  -- the same bytes, where a reader has the same
+  pub read_same : (new : StreamReader) → new.refused ≡ r.refused → new.lines ≡ r.lines → new.stream ≡ r.stream → new.begun.items ≡ r.begun.items → HasRead new t bytes
+  read_same new refused lines stream begun = record {
     sound = refused ∙ h.sound;
-    lines = h.lines ++ r.begun.items ∷ [];
-    cut = subst (IsCut (bytes ++ 10 ∷ []) (h.lines ++ r.begun.items ∷ [])) (sym begun) (cut-end bytes h.lines r.begun.items h.cut);
-    counted = lines ∙ ap (λ n. n + 1) h.counted ∙ sym (length-append h.lines (r.begun.items ∷ []));
-    stream = next;
-    made = after_push line_step no_lines h.lines r.begun.items h.stream next h.made made;
-    stands = stands;
+    lines = h.lines;
+    cut = subst (IsCut bytes h.lines) (sym begun) h.cut;
+    counted = lines ∙ h.counted;
+    stream = h.stream;
+    made = h.made;
+    stands = subst (λ s. Stands t s h.stream) (sym stream) h.stands;
   }
 
-  pub rows_ended : (next : streams.Stream) → line_step h.stream r.begun.items ≡ Ok next → rows_before (bytes ++ 10 ∷ []) ≡ next.rows
-  rows_ended next made = ap rows_of_lines ended ∙ ap rows_made (after_push line_step no_lines h.lines r.begun.items h.stream next h.made made)
+  -- what stands before the line that has begun
+  before_begun : IsCut (joined h.lines) h.lines []
+  before_begun = record { bytes_are = sym (append-nil (joined h.lines)); ended = h.cut.ended; begun_line = λ k d l. absurd (omega (arith, l)) }
 
-  pub takes_ended : (had has : List Rec → Type 0) (next : streams.Stream) → line_step h.stream r.begun.items ≡ Ok next → TakesUpTo had has h.stream.rows next.rows
-      → TakesBytes had has bytes (bytes ++ 10 ∷ [])
-  takes_ended had has next made takes = record {
-    more = takes.more;
-    rows = rows_ended next made ∙ takes.rows ∙ ap (λ rs. rs ++ takes.more) (sym rows_read);
-    taken = takes.taken;
+  pub read_before : (new : StreamReader) → new.refused ≡ r.refused → new.lines ≡ r.lines → new.stream ≡ r.stream → new.begun.items ≡ [] → HasRead new t (joined h.lines)
+  read_before new refused lines stream none = record {
+    sound = refused ∙ h.sound;
+    lines = h.lines;
+    cut = subst (IsCut (joined h.lines) h.lines) (sym none) before_begun;
+    counted = lines ∙ h.counted;
+    stream = h.stream;
+    made = h.made;
+    stands = subst (λ s. Stands t s h.stream) (sym stream) h.stands;
   }
 
-  pub fault_ended : (kind : StreamKind) → line_step h.stream r.begun.items ≡ Err kind → IsFirstFault line_step no_lines (ended_lines (bytes ++ 10 ∷ [])) (r.lines + 1) kind
-  fault_ended kind falls =
-      subst (λ ls. IsFirstFault line_step no_lines ls (r.lines + 1) kind) (sym ended)
-      (subst (λ n. IsFirstFault line_step no_lines (h.lines ++ r.begun.items ∷ []) (n + 1) kind) (sym h.counted)
-      (fault_push line_step no_lines h.lines r.begun.items h.stream kind h.made falls))
+  pub rows_until_begun : rows_before (joined h.lines) ≡ rows_before bytes
+  rows_until_begun = ap rows_of_lines (cut-ended (joined h.lines) h.lines [] before_begun ∙ sym (cut-ended bytes h.lines r.begun.items h.cut))
 
-  -- a refusal of the line that ends stays one, where more bytes follow
-  pub refusal_more : (more : List ℕ) (refusal : ends.StreamEnd) → IsRefusalOf (ended_lines (bytes ++ 10 ∷ [])) refusal
-      → IsRefusalOf (ended_lines ((bytes ++ 10 ∷ []) ++ more)) refusal
-  refusal_more more end.OutOfMemory is = tt
-  refusal_more more (end.BadLine line kind) is =
-      subst (λ ls. IsFirstFault line_step no_lines ls line kind)
-      (ap (λ ls. ls ++ ended_lines more) ended ∙ sym (cut-more (bytes ++ 10 ∷ []) (h.lines ++ r.begun.items ∷ []) [] (cut-end bytes h.lines r.begun.items h.cut) refl more))
-      (fault_more line_step no_lines (ended_lines (bytes ++ 10 ∷ [])) (ended_lines more) line kind is)
+  pub with_begun : (joined h.lines ++ r.begun.items) ++ 10 ∷ [] ≡ bytes ++ 10 ∷ []
+  with_begun = ap (λ b. b ++ 10 ∷ []) (sym h.cut.bytes_are)
 
   -- the lines of the whole, where one has begun
   pub lines_ended : 0 < length r.begun.items → lines_of bytes ≡ ended_lines (bytes ++ 10 ∷ [])
-  lines_ended some = cut-lines bytes h.lines r.begun.items h.cut some ∙ sym ended
+  lines_ended some = cut-lines bytes h.lines r.begun.items h.cut some ∙ sym (cut-ended (bytes ++ 10 ∷ []) (h.lines ++ r.begun.items ∷ []) [] (cut-end bytes h.lines r.begun.items h.cut))
 
   pub lines_none : r.begun.items ≡ [] → lines_of bytes ≡ ended_lines bytes
   lines_none none = cut-lines_none bytes h.lines r.begun.items h.cut none ∙ sym (cut-ended bytes h.lines r.begun.items h.cut)
@@ -128,6 +123,55 @@ module _ (r : StreamReader) (t : Tree) (bytes : List ℕ) (h : HasRead r t bytes
     stands = k.stands;
   }
 
+  -- a line ends, where none has begun
+  module _ (none : r.begun.items ≡ []) (line : List ℕ) (one : HasNoNewline line) where
+    one_line : IsCut (bytes ++ line) h.lines line
+    one_line = subst (λ b. IsCut (bytes ++ line) h.lines (b ++ line)) none (cut-begin bytes h.lines r.begun.items h.cut line one)
+
+    ended : ended_lines ((bytes ++ line) ++ 10 ∷ []) ≡ h.lines ++ line ∷ []
+    ended = cut-ended ((bytes ++ line) ++ 10 ∷ []) (h.lines ++ line ∷ []) [] (cut-end (bytes ++ line) h.lines line one_line)
+
+    pub read_ended : (u : Tree) (new : StreamReader) (next : streams.Stream) → line_step h.stream line ≡ Ok next → Stands u new.stream next
+        → new.refused ≡ r.refused → new.lines ≡ r.lines + 1 → new.begun.items ≡ r.begun.items → HasRead new u ((bytes ++ line) ++ 10 ∷ [])
+    read_ended u new next made stands refused lines begun = record {
+      sound = refused ∙ h.sound;
+      lines = h.lines ++ line ∷ [];
+      cut = subst (IsCut ((bytes ++ line) ++ 10 ∷ []) (h.lines ++ line ∷ [])) (sym (begun ∙ none)) (cut-end (bytes ++ line) h.lines line one_line);
+      counted = lines ∙ ap (λ n. n + 1) h.counted ∙ sym (length-append h.lines (line ∷ []));
+      stream = next;
+      made = after_push line_step no_lines h.lines line h.stream next h.made made;
+      stands = stands;
+    }
+
+    rows_ended : (next : streams.Stream) → line_step h.stream line ≡ Ok next → rows_before ((bytes ++ line) ++ 10 ∷ []) ≡ next.rows
+    rows_ended next made = ap rows_of_lines ended ∙ ap rows_made (after_push line_step no_lines h.lines line h.stream next h.made made)
+
+    pub takes_ended : (had has : List Rec → Type 0) (next : streams.Stream) → line_step h.stream line ≡ Ok next → TakesUpTo had has h.stream.rows next.rows
+        → TakesBytes had has bytes ((bytes ++ line) ++ 10 ∷ [])
+    takes_ended had has next made takes = record {
+      more = takes.more;
+      rows = rows_ended next made ∙ takes.rows ∙ ap (λ rs. rs ++ takes.more) (sym rows_read);
+      taken = takes.taken;
+    }
+
+    pub fault_ended : (kind : StreamKind) → line_step h.stream line ≡ Err kind → IsFirstFault line_step no_lines (ended_lines ((bytes ++ line) ++ 10 ∷ [])) (r.lines + 1) kind
+    fault_ended kind falls =
+        subst (λ ls. IsFirstFault line_step no_lines ls (r.lines + 1) kind) (sym ended)
+        (subst (λ n. IsFirstFault line_step no_lines (h.lines ++ line ∷ []) (n + 1) kind) (sym h.counted)
+        (fault_push line_step no_lines h.lines line h.stream kind h.made falls))
+
+-- a refusal of lines that have ended stays one, where more bytes follow
+pub refusal_more : (r : StreamReader) (t : Tree) (bytes : List ℕ) → HasRead r t bytes → (part more : List ℕ) → HasNoNewline part → (refusal : ends.StreamEnd) → IsRefusalOf (ended_lines ((bytes ++ part) ++ 10 ∷ [])) refusal
+    → IsRefusalOf (ended_lines (((bytes ++ part) ++ 10 ∷ []) ++ more)) refusal
+refusal_more r t bytes h part more one end.OutOfMemory is = tt
+refusal_more r t bytes h part more one (end.BadLine line kind) is =
+    let ends = cut-end (bytes ++ part) h.lines (r.begun.items ++ part) (cut-begin bytes h.lines r.begun.items h.cut part one) in
+    let whole = (bytes ++ part) ++ 10 ∷ [] in
+    let all = h.lines ++ (r.begun.items ++ part) ∷ [] in
+    subst (λ ls. IsFirstFault line_step no_lines ls line kind)
+    (ap (λ ls. ls ++ ended_lines more) (cut-ended whole all [] ends) ∙ sym (cut-more whole all [] ends refl more))
+    (fault_more line_step no_lines (ended_lines whole) (ended_lines more) line kind is)
+
 pub ends_of : (r : StreamReader) (t : Tree) (bytes : List ℕ) (globals : Rec) → HasEnded r t bytes → globals ≡ meaning t r.stream.globals → Ends bytes globals
 ends_of r t bytes globals h same = record { stream = h.stream; is = h.is; globals_are = same ∙ h.stands.globals }
 
@@ -138,10 +182,6 @@ TakesUpTo-trans had then has a b c h g = record {
   rows = g.rows ∙ ap (λ rs. rs ++ g.more) h.rows ∙ append_assoc a h.more g.more;
   taken = TakesMore-trans had then has h.more g.more h.taken g.taken;
 }
-
-append-nil : {A : Type 0} (xs : List A) → xs ++ [] ≡ xs
-append-nil [] = refl
-append-nil (x ∷ xs) = ap (λ r. x ∷ r) (append-nil xs)
 
 -- nothing more was taken
 pub TakesUpTo-none : (had has : List Rec → Type 0) (a b : List Rec) → b ≡ a → ((rs : List Rec) → had rs → has rs) → TakesUpTo had has a b

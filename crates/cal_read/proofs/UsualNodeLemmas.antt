@@ -1,5 +1,5 @@
 -- Nodes that are read in one go: their fields, and what they make.
-use Rattle.std.proofs.Common.{◌≡◌, ◌≢◌, ◌≤◌, ◌<◌, ◌+◌, ℕ, false, List, [], ◌∷◌, ◌++◌, length, get_or, drop, Option, None, Some, refl, sym, ap, ◌∙◌, subst, append-nil, arith}
+use Rattle.std.proofs.Common.{◌≡◌, ◌≢◌, ◌≤◌, ◌<◌, ◌+◌, ℕ, false, List, [], ◌∷◌, ◌++◌, length, get_or, drop, Option, None, Some, refl, sym, ap, ◌∙◌, subst, append-nil}
 use Rattle.std.specs.Prelude.{Ok, codes}
 use Rattle.std.specs.List.{between}
 use Rattle.std.proofs.lemmas.List.{drop_all, drop_more}
@@ -11,26 +11,22 @@ use Rattle.cal_line.specs.WrittenFields.{written_fields}
 use Rattle.cal_line.specs.declared.field.Field.{Field}
 use Rattle.cal_line.proofs.FieldSteps.{fields_of-IsFields}
 use Rattle.cal_line.proofs.Written.{IsFields-written}
-use Rattle.cal_value.proofs.Numbers.{at_most-fits}
-use Rattle.cal_value.specs.Numerals.{at_most, number_of}
-use Rattle.cal_read.specs.Fields.{id_of, if_there, or_fault, repeats_key, sort_of}
+use Rattle.cal_read.specs.Fields.{id_of, if_there, repeats_key, sort_of}
 use Rattle.cal_read.specs.NodeLines.{node_step, with_ids}
 use Rattle.cal_read.specs.Nodes.{Named}
-use Rattle.cal_read.specs.Usual.{IsPlain, IsThere}
+use Rattle.cal_read.specs.Usual.{IsNumberAt, IsPlain, IsThere}
 use Rattle.cal_read.specs.UsualNodes.{IsIdBehind, IsParentAt, IsUsualNode, written_parent}
-use Rattle.cal_read.specs.declared.kind.StreamKind.TheVariants as kind
 use Rattle.cal_read.specs.declared.sort.Sort.TheVariants.{OfNode}
+use Rattle.cal_read.proofs.NumberLemmas.{id_is}
 
 -- ---- an id behind bytes
 
-pub id_there : (line : List ℕ) (place start end : ℕ) (bytes : List ℕ) (id : ℕ) → IsThere line place bytes start → IsPlain line start end → id ≤ 2000000000000000000
-    → number_of 10 (between start end line) ≡ Some id → IsIdBehind line place bytes end id
-id_there line place start end bytes id there plain small is = record {
+pub id_there : (line : List ℕ) (place start end : ℕ) (bytes : List ℕ) (id : ℕ) → IsThere line place bytes start → IsNumberAt line start end id → IsIdBehind line place bytes end id
+id_there line place start end bytes id there number = record {
   text = between start end line;
-  within = plain.within;
-  read = there.read ∙ ap (λ (l : List ℕ). bytes ++ l) (drop_split line start end plain.order ∙ ap (λ (l : List ℕ). l ++ drop end line) (sym plain.written));
-  is = ap (λ (o : Option ℕ). or_fault kind.BadNumber (at_most 18446744073709551615 o)) is
-      ∙ ap (or_fault kind.BadNumber) (at_most-fits 18446744073709551615 id (omega arith));
+  within = number.plain.within;
+  read = there.read ∙ ap (λ (l : List ℕ). bytes ++ l) (drop_split line start end number.plain.order ∙ ap (λ (l : List ℕ). l ++ drop end line) (sym number.plain.written));
+  is = id_is line start end id number;
 }
 
 pub no_parent : (line : List ℕ) (place : ℕ) → length line ≤ place → IsParentAt line place None

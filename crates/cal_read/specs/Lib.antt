@@ -12,6 +12,7 @@ pub mod Sites
 pub mod Columns
 pub mod Standing
 pub mod Cuts
+pub mod Lines
 pub mod Reading
 pub mod Owned
 pub mod Usual

@@ -1,11 +1,14 @@
 -- What the reader holds stands for what the lines have made (private).
-use Rattle.std.specs.Prelude.{◌≡◌, List, ◌++◌}
+use Rattle.std.specs.Prelude.{◌≡◌, List, ◌++◌, Result}
 use Rattle.cal_context.specs.Snapshots.{IsIn, meaning}
 use Rattle.cal_context.specs.Taking.{TakesMore}
 use Rattle.cal_context.specs.Tree.{Tree}
 use Rattle.cal_value.specs.declared.record.Rec.{Rec}
 use Rattle.cal_read.specs.Held.{AreHeld}
+use Rattle.cal_read.specs.Steps.{AnswersFor}
 use Rattle.cal_read.specs.Stream as streams
+use Rattle.cal_read.specs.declared.end.LineEnd.{LineEnd}
+use Rattle.cal_read.specs.declared.kind.StreamKind.{StreamKind}
 use Rattle.cal_read.specs.declared.stream.Stream.{Stream}
 
 -- the nodes and the globals are those of a stream
@@ -28,3 +31,19 @@ pub record TakesLine (t : Tree) (held : Stream) (had has : List Rec → Type 0)
     (before after : streams.Stream) : Type 0 where
   pub stands : Stands t held after
   pub taken : TakesUpTo had has before.rows after.rows
+
+-- where a reading is: the context, what is held over it, and what its taker has taken
+pub record Standing : Type 1 where
+  pub tree : Tree
+  pub held : Stream
+  pub taken : List Rec → Type 0
+
+abbrev pub standing : {T : Type 0} → (T → Tree → List Rec → Type 0) → Tree → Stream → T → Standing
+standing has_taken t held taker =
+    record { tree = t; held = held; taken = has_taken taker t }
+
+-- what is made of a line answers a step of the definition
+abbrev pub ReadsBy : (streams.Stream → Result streams.Stream StreamKind) → Standing → Standing
+    → Result (Unit {0}) LineEnd → Type 0
+ReadsBy step old new result = (s : streams.Stream) → Stands old.tree old.held s
+    → AnswersFor (λ _. TakesLine new.tree new.held old.taken new.taken s) result (step s)

@@ -11,7 +11,11 @@ use Rattle.cal_context.specs.declared.snapshot.Snapshot.{Snapshot}
 use Rattle.cal_line.specs.Escapes.{escaped}
 use Rattle.cal_line.specs.Fields.{fields_of}
 use Rattle.cal_line.specs.declared.field.Field.{Field}
+use Rattle.cal_value.specs.Numerals.{number_of}
+use Rattle.cal_value.specs.Reading.{value_of}
+use Rattle.cal_value.specs.declared.kind.Kind.{Kind}
 use Rattle.cal_value.specs.declared.record.Rec.{Rec}
+use Rattle.cal_value.specs.declared.variant.Variant.{Variant}
 use Rattle.cal_read.specs.Fields.{each, id_of, repeats_key, sort_of}
 use Rattle.cal_read.specs.Nodes.{Named}
 use Rattle.cal_read.specs.RecordLines.{entry_of, record_of}
@@ -23,6 +27,17 @@ pub record IsPlain (line : List ℕ) (start end : ℕ) : Type 0 where
   pub within : end ≤ length line
   pub boundary : IsCharBoundary line end
   pub written : escaped (slice_range line start end) ≡ slice_range line start end
+
+-- digits between two places write this number
+pub record IsNumberAt (line : List ℕ) (start end number : ℕ) : Type 0 where
+  pub plain : IsPlain line start end
+  pub is : number_of 10 (slice_range line start end) ≡ Some number
+  pub small : number ≤ 2000000000000000000
+
+-- the text between two places writes this value of a kind
+pub record IsValueAt (kind : Kind) (line : List ℕ) (start end : ℕ) (value : Variant) : Type 0 where
+  pub plain : IsPlain line start end
+  pub is : value_of kind (slice_range line start end) ≡ Some value
 
 -- these bytes stand between two places
 pub record IsThere (line : List ℕ) (start : ℕ) (bytes : List ℕ) (end : ℕ) : Type 0 where

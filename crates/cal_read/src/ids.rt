@@ -3,7 +3,7 @@ ghost use Rattle.cal_read.specs.Steps.{Answers};
 
 use crate::StreamKind;
 use crate::end::LineEnd;
-use crate::short::short_number;
+use crate::number_at::number_at;
 use cal_line::Piece;
 use cal_value::{Kind, ValueFault, Variant, parse_value};
 use std::alloc::Global;
@@ -19,8 +19,10 @@ pub(crate) fn read_id(alloc: Global, piece: &Piece) -> Result<u64, LineEnd>
 pub(crate) fn id_in(alloc: Global, text: &str) -> Result<u64, LineEnd>
     ensures { Answers result (id_of text.now) }
 {
-    if let Some(id) = short_number(text.as_bytes()) {
-        return Ok(id);
+    if let Some(at) = number_at(text, 0) {
+        if at.end == text.len() {
+            return Ok(at.number);
+        }
     }
     match parse_value(alloc, Kind::Uint, text) {
         Ok(Variant::Uint(id)) => Ok(id),

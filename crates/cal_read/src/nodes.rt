@@ -46,7 +46,9 @@ impl Nodes {
         }
     }
 
-    /// What is known of the node of an id: without a look-up where the ids come in turn.
+    /// What is known of the node of an id: without a look-up where the ids come in turn. It is
+    /// inlined, so that a caller copies no more than it reads.
+    #[inline(always)]
     pub(crate) fn get(&self, id: u64) -> Option<Held>
         ensures { result ≡ held_at self.now id }
     {
@@ -71,6 +73,7 @@ impl Nodes {
 }
 
 /// What a row has at the place of an id.
+#[inline(always)]
 fn in_row(row: &[Option<Held>], id: u64) -> Option<Held>
     ensures { result ≡ slice_index_or row.now id None }
 {

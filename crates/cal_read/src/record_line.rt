@@ -19,17 +19,18 @@ use crate::keys::field_with_key;
 use crate::nodes::Nodes;
 use cal_context::{AttributeNumber, Context, Immediate, NodeNumber, Snapshot};
 use cal_line::{FieldPieces, Fields, Piece};
-use cal_value::{ValueFault, Variant, parse_value};
+use cal_value::{Text, ValueFault, Variant, parse_value};
 use std::alloc::Global;
 
-/// Lists that serve for line after line: the ids of a record's nodes, those of its attributes, and
-/// what is known of these.
+/// Lists that serve for line after line: the ids of a record's nodes, those of its attributes, what
+/// is known of these, and texts whose memory serves again.
 #[derive(Drop)]
 pub(crate) struct Columns {
     pub(crate) refs: Vec<u64>,
     pub(crate) ids: Vec<u64>,
     pub(crate) found: Vec<Option<AttributeNumber>>,
     pub(crate) numbers: Vec<AttributeNumber>,
+    pub(crate) spare: Vec<Text>,
 }
 
 impl Columns {
@@ -40,6 +41,7 @@ impl Columns {
             ids: Vec::new(alloc),
             found: Vec::new(alloc),
             numbers: Vec::new(alloc),
+            spare: Vec::new(alloc),
         }
     }
 }

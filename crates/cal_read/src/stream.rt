@@ -1,7 +1,8 @@
 ghost use Rattle.std.specs.Prelude.{◌≡◌, List, IfOk};
 ghost use Rattle.cal_context.specs.Tree.{Grows};
 ghost use Rattle.cal_line.specs.declared.field.Field.{Field};
-ghost use Rattle.cal_read.specs.Standing.{Stands, StandsForSome, TakesLine};
+ghost use Rattle.cal_read.specs.Lines.{bytes_in};
+ghost use Rattle.cal_read.specs.Standing.{ReadsBy, Stands, StandsForSome, standing};
 ghost use Rattle.cal_read.specs.Steps.{AnswersFor};
 ghost use Rattle.cal_read.specs.Stream as streams;
 
@@ -9,6 +10,7 @@ use crate::StreamKind;
 use crate::built_in::built_in_nodes;
 use crate::end::LineEnd;
 use crate::keys::repeats_key;
+use crate::line::Line;
 use crate::node_line::{add_node, read_node};
 use crate::nodes::Nodes;
 use crate::record_line::{Columns, read_record};
@@ -49,16 +51,35 @@ impl Stream {
         &mut self,
         alloc: Global,
         splitter: &mut Splitter,
+        line: Line,
+        context: &mut Context,
+        taker: &mut T,
+    ) -> Result<(), LineEnd>
+        requires { StandsForSome context.old self.old }
+        ensures grows { Grows context.old context.new }
+        ensures read { ReadsBy (λ s. streams.line_step s (bytes_in line.entry))
+            (standing T.has_taken context.old self.old taker.old)
+            (standing T.has_taken context.new self.new taker.new) result }
+    {
+        match line {
+            Line::Bytes(line) => self.read_bytes(alloc, splitter, line, context, taker),
+            Line::Text(line) => self.read_str(alloc, splitter, line, context, taker),
+        }
+    }
+
+    fn read_bytes<T: Taker>(
+        &mut self,
+        alloc: Global,
+        splitter: &mut Splitter,
         line: &[u8],
         context: &mut Context,
         taker: &mut T,
     ) -> Result<(), LineEnd>
         requires { StandsForSome context.old self.old }
         ensures grows { Grows context.old context.new }
-        ensures read { (s : streams.Stream) → Stands context.old self.old s → AnswersFor
-            (λ _. TakesLine context.new self.new
-            (T.has_taken taker.old context.old) (T.has_taken taker.new context.new) s)
-            result (streams.line_step s line.now) }
+        ensures read { ReadsBy (λ s. streams.line_step s line.now)
+            (standing T.has_taken context.old self.old taker.old)
+            (standing T.has_taken context.new self.new taker.new) result }
     {
         match std::str::from_utf8(line) {
             Ok(text) => self.read_str(alloc, splitter, text, context, taker),
@@ -76,10 +97,9 @@ impl Stream {
     ) -> Result<(), LineEnd>
         requires { StandsForSome context.old self.old }
         ensures grows { Grows context.old context.new }
-        ensures read { (s : streams.Stream) → Stands context.old self.old s → AnswersFor
-            (λ _. TakesLine context.new self.new
-            (T.has_taken taker.old context.old) (T.has_taken taker.new context.new) s)
-            result (streams.step_by_text s line.now) }
+        ensures read { ReadsBy (λ s. streams.line_step s line.now)
+            (standing T.has_taken context.old self.old taker.old)
+            (standing T.has_taken context.new self.new taker.new) result }
     {
         if line.is_empty() {
             return Ok(());
@@ -97,10 +117,9 @@ impl Stream {
     ) -> Result<(), LineEnd>
         requires { StandsForSome context.old self.old }
         ensures grows { Grows context.old context.new }
-        ensures read { (s : streams.Stream) → Stands context.old self.old s → AnswersFor
-            (λ _. TakesLine context.new self.new
-            (T.has_taken taker.old context.old) (T.has_taken taker.new context.new) s)
-            result (streams.step_by_list s line.now) }
+        ensures read { ReadsBy (λ s. streams.step_by_list s line.now)
+            (standing T.has_taken context.old self.old taker.old)
+            (standing T.has_taken context.new self.new taker.new) result }
     {
         match read_usual_row(
             alloc,
@@ -125,10 +144,9 @@ impl Stream {
     ) -> Result<(), LineEnd>
         requires { StandsForSome context.old self.old }
         ensures grows { Grows context.old context.new }
-        ensures read { (s : streams.Stream) → Stands context.old self.old s → AnswersFor
-            (λ _. TakesLine context.new self.new
-            (T.has_taken taker.old context.old) (T.has_taken taker.new context.new) s)
-            result (streams.step_by_list s line.now) }
+        ensures read { ReadsBy (λ s. streams.step_by_list s line.now)
+            (standing T.has_taken context.old self.old taker.old)
+            (standing T.has_taken context.new self.new taker.new) result }
     {
         match usual_node(line) {
             Ok(node) => add_node(alloc, &mut self.nodes, &node.ids, node.text, context),
@@ -147,10 +165,9 @@ impl Stream {
     ) -> Result<(), LineEnd>
         requires { StandsForSome context.old self.old }
         ensures grows { Grows context.old context.new }
-        ensures read { (s : streams.Stream) → Stands context.old self.old s → AnswersFor
-            (λ _. TakesLine context.new self.new
-            (T.has_taken taker.old context.old) (T.has_taken taker.new context.new) s)
-            result (streams.step_by_list s line.now) }
+        ensures read { ReadsBy (λ s. streams.step_by_list s line.now)
+            (standing T.has_taken context.old self.old taker.old)
+            (standing T.has_taken context.new self.new taker.new) result }
     {
         match splitter.split(line) {
             Ok(fields) => self.read_fields(alloc, &fields, context, taker),
@@ -168,10 +185,9 @@ impl Stream {
     ) -> Result<(), LineEnd>
         requires { StandsForSome context.old self.old }
         ensures grows { Grows context.old context.new }
-        ensures read { (s : streams.Stream) → Stands context.old self.old s → AnswersFor
-            (λ _. TakesLine context.new self.new
-            (T.has_taken taker.old context.old) (T.has_taken taker.new context.new) s)
-            result (streams.step_by_fields s fields.now) }
+        ensures read { ReadsBy (λ s. streams.step_by_fields s fields.now)
+            (standing T.has_taken context.old self.old taker.old)
+            (standing T.has_taken context.new self.new taker.new) result }
     {
         if repeats_key(alloc, fields)? {
             return Err(LineEnd::Bad(StreamKind::BadField));
@@ -192,10 +208,9 @@ impl Stream {
         taker: &mut T,
     ) -> Result<(), LineEnd>
         requires { StandsForSome context.now self.old }
-        ensures read { (s : streams.Stream) → Stands context.now self.old s → AnswersFor
-            (λ _. TakesLine context.now self.new
-            (T.has_taken taker.old context.now) (T.has_taken taker.new context.now) s)
-            result (streams.step_by_sort s fields.now Sort.OfRow) }
+        ensures read { ReadsBy (λ s. streams.step_by_sort s fields.now Sort.OfRow)
+            (standing T.has_taken context.now self.old taker.old)
+            (standing T.has_taken context.now self.new taker.new) result }
     {
         read_record(
             alloc,

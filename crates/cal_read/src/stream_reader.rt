@@ -2,12 +2,14 @@ ghost use Rattle.std.specs.Prelude.{◌≡◌, ℕ, List, [], ◌∷◌, ◌++�
 ghost use Rattle.cal_context.specs.Snapshots.{IsIn, meaning};
 ghost use Rattle.cal_context.specs.Tree.{Tree, Grows};
 ghost use Rattle.cal_line.specs.Lines.{HasNoNewline, lines_of};
+ghost use Rattle.cal_read.specs.Lines.{bytes_in};
 
 use crate::StreamEnd;
 use crate::end::LineEnd;
+use crate::line::Line;
 use crate::stream::Stream;
 use cal_context::{Context, Snapshot, Taker};
-use cal_line::{Splitter, ended_line};
+use cal_line::Splitter;
 use cal_value::OutOfMemory;
 use std::alloc::Global;
 use std::mem;
@@ -135,13 +137,12 @@ impl StreamReader {
         ensures fault { IfErr result (λ end. (bytes : List ℕ) → HasRead self.old context.old bytes
             → IsRefusalOf (ended_lines (bytes ++ piece.now)) end) }
     {
-        let mut rest = piece;
-        while let Some((line, after)) = ended_line(rest) {
-            self.begin(line)?;
-            self.end_line(context, taker)?;
+        let mut rest = Line::of(piece);
+        while let Some((line, after)) = rest.ended() {
+            self.end_line(line, context, taker)?;
             rest = after;
         }
-        self.begin(rest)
+        self.begin(rest.bytes())
     }
 
     /// Ends the line that has begun, if one has.
@@ -159,7 +160,7 @@ impl StreamReader {
         if self.begun.as_slice().is_empty() {
             return Ok(());
         }
-        self.end_line(context, taker)
+        self.end_begun(context, taker)
     }
 
     /// Goes on with the line that has begun.
@@ -173,8 +174,33 @@ impl StreamReader {
         Ok(())
     }
 
+    /// Reads the line that ends with this part. Where no line has begun, none of it is copied.
+    fn end_line<T: Taker>(
+        &mut self,
+        part: Line,
+        context: &mut Context,
+        taker: &mut T,
+    ) -> Result<(), StreamEnd>
+        requires part { HasNoNewline (bytes_in part) }
+        requires read { (bytes : List ℕ) × HasRead self.old context.old bytes }
+        ensures grows { Grows context.old context.new }
+        ensures read { OnOk result ((bytes : List ℕ) → HasRead self.old context.old bytes
+            → HasRead self.new context.new ((bytes ++ bytes_in part.entry) ++ 10 ∷ [])) }
+        ensures taken { OnOk result ((bytes : List ℕ) → HasRead self.old context.old bytes
+            → TakesBytes (T.has_taken taker.old context.old) (T.has_taken taker.new context.new)
+            bytes ((bytes ++ bytes_in part.entry) ++ 10 ∷ [])) }
+        ensures fault { IfErr result (λ end. (bytes : List ℕ) → HasRead self.old context.old bytes
+            → IsRefusalOf (ended_lines ((bytes ++ bytes_in part.entry) ++ 10 ∷ [])) end) }
+    {
+        if self.begun.as_slice().is_empty() {
+            return self.read_line(part, context, taker);
+        }
+        self.begin(part.bytes())?;
+        self.end_begun(context, taker)
+    }
+
     /// Reads the line that has begun, which ends here.
-    fn end_line<T: Taker>(&mut self, context: &mut Context, taker: &mut T) -> Result<(), StreamEnd>
+    fn end_begun<T: Taker>(&mut self, context: &mut Context, taker: &mut T) -> Result<(), StreamEnd>
         requires { (bytes : List ℕ) × HasRead self.old context.old bytes }
         ensures grows { Grows context.old context.new }
         ensures read { OnOk result ((bytes : List ℕ) → HasRead self.old context.old bytes
@@ -185,23 +211,46 @@ impl StreamReader {
         ensures fault { IfErr result (λ end. (bytes : List ℕ) → HasRead self.old context.old bytes
             → IsRefusalOf (ended_lines (bytes ++ 10 ∷ [])) end) }
     {
+        let line = mem::replace(&mut self.begun, Vec::new(self.alloc));
+        self.read_line(Line::Bytes(line.as_slice()), context, taker)?;
+        self.begun = line;
+        self.begun.clear();
+        Ok(())
+    }
+
+    /// Reads a line, where none has begun.
+    fn read_line<T: Taker>(
+        &mut self,
+        line: Line,
+        context: &mut Context,
+        taker: &mut T,
+    ) -> Result<(), StreamEnd>
+        requires line { HasNoNewline (bytes_in line) }
+        requires none { self.old.begun.items ≡ [] }
+        requires read { (bytes : List ℕ) × HasRead self.old context.old bytes }
+        ensures grows { Grows context.old context.new }
+        ensures none { OnOk result (self.new.begun.items ≡ []) }
+        ensures read { OnOk result ((bytes : List ℕ) → HasRead self.old context.old bytes
+            → HasRead self.new context.new ((bytes ++ bytes_in line.entry) ++ 10 ∷ [])) }
+        ensures taken { OnOk result ((bytes : List ℕ) → HasRead self.old context.old bytes
+            → TakesBytes (T.has_taken taker.old context.old) (T.has_taken taker.new context.new)
+            bytes ((bytes ++ bytes_in line.entry) ++ 10 ∷ [])) }
+        ensures fault { IfErr result (λ end. (bytes : List ℕ) → HasRead self.old context.old bytes
+            → IsRefusalOf (ended_lines ((bytes ++ bytes_in line.entry) ++ 10 ∷ [])) end) }
+    {
         if self.lines == u64::MAX {
             return Err(StreamEnd::OutOfMemory);
         }
-        let line = self.lines + 1;
-        match self.stream.read_line(
-            self.alloc,
-            &mut self.splitter,
-            self.begun.as_slice(),
-            context,
-            taker,
-        ) {
+        let number = self.lines + 1;
+        match self
+            .stream
+            .read_line(self.alloc, &mut self.splitter, line, context, taker)
+        {
             Ok(()) => {}
-            Err(LineEnd::Bad(kind)) => return Err(StreamEnd::BadLine { line, kind }),
+            Err(LineEnd::Bad(kind)) => return Err(StreamEnd::BadLine { line: number, kind }),
             Err(LineEnd::OutOfMemory) => return Err(StreamEnd::OutOfMemory),
         }
-        self.begun.clear();
-        self.lines = line;
+        self.lines = number;
         Ok(())
     }
 }

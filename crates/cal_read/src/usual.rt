@@ -2,9 +2,9 @@ ghost use Rattle.std.specs.Prelude.{◌≡◌, ◌==◌, ◌||◌, ◌≤◌, []
 ghost use Rattle.cal_read.specs.Usual.{AreColumns, IsHead, IsPlain, IsThere, ReadsIds};
 
 use crate::end::LineEnd;
-use crate::ids::id_in;
-use cal_value::ValueFault;
-use std::alloc::{AllocFailed, Global};
+use crate::number_at::number_at;
+use cal_value::{OutOfMemory, ValueFault};
+use std::alloc::AllocFailed;
 
 /// A line isn't written in the usual way, or memory ran out: it is read field by field.
 #[derive(Clone, Copy, Debug)]
@@ -12,6 +12,12 @@ pub(crate) struct Unusual;
 
 impl From<LineEnd> for Unusual {
     fn from(_end: LineEnd) -> Unusual {
+        Unusual
+    }
+}
+
+impl From<OutOfMemory> for Unusual {
+    fn from(_error: OutOfMemory) -> Unusual {
         Unusual
     }
 }
@@ -30,7 +36,6 @@ impl<T: Drop> From<AllocFailed<T>> for Unusual {
 
 /// Reads the ids of a row's nodes and attributes, and answers where the values stand.
 pub(crate) fn read_columns(
-    alloc: Global,
     line: &str,
     refs: &mut Vec<u64>,
     ids: &mut Vec<u64>,
@@ -39,9 +44,9 @@ pub(crate) fn read_columns(
 {
     refs.clear();
     ids.clear();
-    let head = read_head(alloc, line, refs)?;
+    let head = read_head(line, refs)?;
     let start = behind(line, head, b"attr")?;
-    let end = push_ids_at(alloc, line, start, ids)?;
+    let end = push_ids_at(line, start, ids)?;
     if end == start {
         return Err(Unusual);
     }
@@ -49,7 +54,7 @@ pub(crate) fn read_columns(
 }
 
 /// Reads what stands before `attr`, and answers where that stands.
-fn read_head(alloc: Global, line: &str, refs: &mut Vec<u64>) -> Result<usize, Unusual>
+fn read_head(line: &str, refs: &mut Vec<u64>) -> Result<usize, Unusual>
     requires { refs.old.items ≡ [] }
     ensures { IfOk result (λ end. IsHead line.now end refs.new.items) }
 {
@@ -57,14 +62,16 @@ fn read_head(alloc: Global, line: &str, refs: &mut Vec<u64>) -> Result<usize, Un
     let Ok(start) = behind(line, place, b"ref") else {
         return Ok(place);
     };
-    let end = push_ids_at(alloc, line, start, refs)?;
+    let end = push_ids_at(line, start, refs)?;
     if end == start {
         return Err(Unusual);
     }
     behind(line, end, b",")
 }
 
-/// The place behind these bytes, where they stand at a place.
+/// The place behind these bytes, where they stand at a place. It is inlined, so that each caller
+/// compares a few bytes that it knows.
+#[inline(always)]
 pub(crate) fn behind(line: &str, place: usize, bytes: &[u8]) -> Result<usize, Unusual>
     requires { place ≤ length line.now }
     ensures { IfOk result (λ end. IsThere line.now place bytes.now end) }
@@ -78,12 +85,7 @@ pub(crate) fn behind(line: &str, place: usize, bytes: &[u8]) -> Result<usize, Un
 }
 
 /// Pushes the ids that the values at a place are, and answers where these end.
-fn push_ids_at(
-    alloc: Global,
-    line: &str,
-    start: usize,
-    ids: &mut Vec<u64>,
-) -> Result<usize, Unusual>
+fn push_ids_at(line: &str, start: usize, ids: &mut Vec<u64>) -> Result<usize, Unusual>
     requires start { start ≤ length line.now }
     requires none { ids.old.items ≡ [] }
     ensures { IfOk result (λ end. ReadsIds line.now start end ids.new.items) }
@@ -91,10 +93,11 @@ fn push_ids_at(
     let bytes = line.as_bytes();
     let mut place = start;
     while place < bytes.len() && bytes[place] == b'=' {
-        let end = plain_end(line, place + 1);
-        let id = id_in(alloc, &line[place + 1..end])?;
-        ids.push(id)?;
-        place = end;
+        let Some(at) = number_at(line, place + 1) else {
+            return Err(Unusual);
+        };
+        ids.push(at.number)?;
+        place = at.end;
     }
     Ok(place)
 }

@@ -2,7 +2,7 @@ ghost use Rattle.std.specs.Prelude.{◌≡◌, ◌≤◌, length, IfOk};
 ghost use Rattle.cal_read.specs.UsualNodes.{IsIdBehind, IsParentAt, IsUsualNode};
 
 use crate::node_texts::NodeIds;
-use crate::short::short_number;
+use crate::number_at::{NumberAt, number_at};
 use crate::usual::{Unusual, behind, plain_end};
 
 /// A node as its line gives it: its ids, and the text of its value.
@@ -10,13 +10,6 @@ use crate::usual::{Unusual, behind, plain_end};
 pub(crate) struct UsualNode<'a> {
     pub(crate) ids: NodeIds,
     pub(crate) text: &'a str,
-}
-
-/// An id, and where its text ends.
-#[derive(Clone, Copy, Debug)]
-struct IdAt {
-    id: u64,
-    end: usize,
 }
 
 /// Reads a node in one go from a line like `__rec=node,id=7,attr=8,data=a,parent=6`, in which
@@ -34,8 +27,8 @@ pub(crate) fn usual_node<'a>(line: &'a str) -> Result<UsualNode<'a>, Unusual>
     let end = plain_end(line, place + 1);
     let parent = parent_at(line, end)?;
     let ids = NodeIds {
-        id: id.id,
-        attribute: attribute.id,
+        id: id.number,
+        attribute: attribute.number,
         parent,
     };
     Ok(UsualNode {
@@ -56,18 +49,17 @@ fn parent_at(line: &str, place: usize) -> Result<Option<u64>, Unusual>
     if parent.end < line.len() {
         return Err(Unusual);
     }
-    Ok(Some(parent.id))
+    Ok(Some(parent.number))
 }
 
 /// The id behind these bytes, where they stand at a place.
-fn id_behind(line: &str, place: usize, bytes: &[u8]) -> Result<IdAt, Unusual>
+fn id_behind(line: &str, place: usize, bytes: &[u8]) -> Result<NumberAt, Unusual>
     requires { place ≤ length line.now }
-    ensures { IfOk result (λ found. IsIdBehind line.now place bytes.now found.end found.id) }
+    ensures { IfOk result (λ found. IsIdBehind line.now place bytes.now found.end found.number) }
 {
     let start = behind(line, place, bytes)?;
-    let end = plain_end(line, start);
-    match short_number(&line.as_bytes()[start..end]) {
-        Some(id) => Ok(IdAt { id, end }),
+    match number_at(line, start) {
+        Some(at) => Ok(at),
         None => Err(Unusual),
     }
 }

@@ -6,9 +6,11 @@ ghost use Rattle.cal_read.specs.Usual.{IsUsualRow, ReadsImms};
 
 use crate::nodes::Nodes;
 use crate::record_line::{Columns, push_found, push_nodes, push_numbers};
-use crate::short::value_in;
-use crate::usual::{Unusual, plain_end, read_columns};
+use crate::spare::empty;
+use crate::usual::{Unusual, read_columns};
+use crate::value_at::value_at;
 use cal_context::{AttributeNumber, Context, Immediate, Snapshot};
+use cal_value::Text;
 use std::alloc::Global;
 
 /// Reads a row in one go from a line like `__rec=ctx,ref=7,attr=8=9,data=a=b`, in which nothing is
@@ -25,15 +27,16 @@ pub(crate) fn read_usual_row(
     ensures { IfOk result (λ _. (named : List Named) → AreHeld context.now nodes.now named
         → IsUsualRow context.now named line.now snapshot.new) }
 {
-    snapshot.clear();
+    empty(snapshot, &mut columns.spare)?;
     columns.found.clear();
     columns.numbers.clear();
-    let start = read_columns(alloc, line, &mut columns.refs, &mut columns.ids)?;
+    let start = read_columns(line, &mut columns.refs, &mut columns.ids)?;
     push_nodes(nodes, &columns.refs, &mut snapshot.nodes)?;
     push_found(nodes, &columns.ids, &mut columns.found)?;
     push_numbers(&columns.found, &mut columns.numbers)?;
     let imms = &mut snapshot.imms;
-    let end = push_imms_at(alloc, context, &columns.numbers, line, start, imms)?;
+    let spare = &mut columns.spare;
+    let end = push_imms_at(alloc, context, &columns.numbers, spare, line, start, imms)?;
     if end < line.len() {
         return Err(Unusual);
     }
@@ -46,6 +49,7 @@ fn push_imms_at(
     alloc: Global,
     context: &Context,
     numbers: &[AttributeNumber],
+    spare: &mut Vec<Text>,
     line: &str,
     start: usize,
     imms: &mut Vec<Immediate>,
@@ -63,11 +67,13 @@ fn push_imms_at(
             return Err(Unusual);
         }
         let attribute = *number;
-        let end = plain_end(line, place + 1);
         let kind = context.attribute_at(attribute).kind;
-        let value = value_in(alloc, kind, &line[place + 1..end])?;
-        imms.push(Immediate { attribute, value })?;
-        place = end;
+        let at = value_at(alloc, spare, kind, line, place + 1)?;
+        place = at.end;
+        imms.push(Immediate {
+            attribute,
+            value: at.value,
+        })?;
     }
     Ok(place)
 }

@@ -13,5 +13,5 @@ pub returns : goal.returns
 returns c =
     let within : c.in_ok-place.place < length c.args.line.now = omega (arith, c.in_ok-place.ensures.within, ap length c.as_bytes-bytes.ensures.value) in
     let sign : get_or c.args.line.now c.in_ok-place.place 0 ≡ 61 = rw c.as_bytes-bytes.ensures.value at c.if-bytes-place-ne61.false in
-    rw c.range.ensures.value (is_usual_node c.args.line.now c.in_ok-id.id.end c.in_ok-attribute.attribute.end c.in_ok-place.place c.plain_end-end.result c.in_ok-id.id.id c.in_ok-attribute.attribute.id c.in_ok-parent.parent
+    rw c.range.ensures.value (is_usual_node c.args.line.now c.in_ok-id.id.end c.in_ok-attribute.attribute.end c.in_ok-place.place c.plain_end-end.result c.in_ok-id.id.number c.in_ok-attribute.attribute.number c.in_ok-parent.parent
     c.in_ok-id.ensures c.in_ok-attribute.ensures c.in_ok-place.ensures within sign c.plain_end-end.ensures c.in_ok-parent.ensures)

@@ -4,8 +4,8 @@ use Rattle.std.proofs.lemmas.Str.{IsCharBoundary-after_ascii}
 use Rattle.cal_read.proofs.UsualLemmas.{imms_more}
 use Rattle.cal_read.proofs.usual_row.push_imms_at.Goals as goal
 
-pub range-requires-clause-start_boundary : goal.range-requires-clause-start_boundary
-range-requires-clause-start_boundary c = λ _.
+pub value_at-requires-clause-boundary : goal.value_at-requires-clause-boundary
+value_at-requires-clause-boundary c =
     let within : c.loop-number.place < length c.args.line.now = omega (arith, c.loop-number.invariant.values.within, ap length c.as_bytes-bytes.ensures.value) in
     let sign : get_or c.args.line.now c.loop-number.place 0 ≡ 61 = rw c.as_bytes-bytes.ensures.value at c.if-bytes-place-ne61.false in
     IsCharBoundary-after_ascii c.args.line.now c.loop-number.place c.utf8.line within (omega arith)
@@ -16,6 +16,6 @@ loop-number-preserved c =
     let sign : get_or c.args.line.now c.loop-number.place 0 ≡ 61 = rw c.as_bytes-bytes.ensures.value at c.if-bytes-place-ne61.false in
     let there = slice_get-get_or c.args.numbers.now c.loop-number.number-index _ c.loop-number-test.true in
     let known = c.requires.known c.loop-number.number-index _ c.loop-number-test.true in
-    let is = rw (c.attribute_at.ensures, c.range.ensures.value) at c.in_ok-value.ensures in
-    imms_more c.args.context.now c.args.numbers.now c.loop-number.number-index _ there c.args.line.now c.args.start c.loop-number.place c.plain_end-end.result c.loop-number.imms.items c.push.new.self.items c.in_ok-value.value
-    c.loop-number.invariant known within sign c.plain_end-end.ensures is c.in_ok-push.ensures.items
+    let is = rw c.attribute_at.ensures at c.in_ok-at.ensures in
+    imms_more c.args.context.now c.args.numbers.now c.loop-number.number-index _ there c.args.line.now c.args.start c.loop-number.place c.in_ok-at.at.end c.loop-number.imms.items c.push.new.self.items c.in_ok-at.at.value
+    c.loop-number.invariant known within sign is.plain is.is c.in_ok-push.ensures.items

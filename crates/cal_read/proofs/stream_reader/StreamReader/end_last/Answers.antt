@@ -20,16 +20,16 @@ returns-then-is_empty-clause-taken g c = λ bytes h.
 pub returns-clause-ended : goal.returns-clause-ended
 returns-clause-ended g c =
     let some = some_there c.args.self.now.begun.items c.as_slice.result.now c.as_slice.ensures.value c.if-is_empty.ensures in
-    on_ok_weaker c.end_line.result (λ read bytes h. ended_read c.args.self.now c.args.context.now bytes h c.end_line.new.self c.end_line.new.context some (read bytes h)) c.end_line.ensures.read
+    on_ok_weaker c.end_begun.result (λ read bytes h. ended_read c.args.self.now c.args.context.now bytes h c.end_begun.new.self c.end_begun.new.context some (read bytes h)) c.end_begun.ensures.read
 
 pub returns-clause-taken : goal.returns-clause-taken
 returns-clause-taken g c =
     let some = some_there c.args.self.now.begun.items c.as_slice.result.now c.as_slice.ensures.value c.if-is_empty.ensures in
-    on_ok_weaker c.end_line.result (λ takes bytes h.
-    subst (TakesUpTo (g.T.Taker.has_taken c.args.taker.now c.args.context.now) (g.T.Taker.has_taken c.end_line.new.taker c.end_line.new.context) (rows_before bytes))
-    (ap rows_of_lines (sym (lines_ended c.args.self.now c.args.context.now bytes h some))) (takes bytes h)) c.end_line.ensures.taken
+    on_ok_weaker c.end_begun.result (λ takes bytes h.
+    subst (TakesUpTo (g.T.Taker.has_taken c.args.taker.now c.args.context.now) (g.T.Taker.has_taken c.end_begun.new.taker c.end_begun.new.context) (rows_before bytes))
+    (ap rows_of_lines (sym (lines_ended c.args.self.now c.args.context.now bytes h some))) (takes bytes h)) c.end_begun.ensures.taken
 
 pub returns-clause-fault : goal.returns-clause-fault
 returns-clause-fault g c =
     let some = some_there c.args.self.now.begun.items c.as_slice.result.now c.as_slice.ensures.value c.if-is_empty.ensures in
-    IfErr-weaker c.end_line.result _ _ (λ refusal f bytes h. subst (λ ls. IsRefusalOf ls refusal) (sym (lines_ended c.args.self.now c.args.context.now bytes h some)) (f bytes h)) c.end_line.ensures.fault
+    IfErr-weaker c.end_begun.result _ _ (λ refusal f bytes h. subst (λ ls. IsRefusalOf ls refusal) (sym (lines_ended c.args.self.now c.args.context.now bytes h some)) (f bytes h)) c.end_begun.ensures.fault

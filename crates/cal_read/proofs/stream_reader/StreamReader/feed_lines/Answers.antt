@@ -1,27 +1,42 @@
-use Rattle.std.proofs.Common.{[], ◌∷◌, ◌++◌, sym, ap, ◌∙◌, subst, append_assoc}
+use Rattle.std.proofs.Common.{[], ◌∷◌, ◌++◌, sym, ap, ◌∙◌, subst, append_assoc, append-nil}
 use Rattle.std.proofs.lemmas.Result.{on_ok_weaker}
-use Rattle.cal_context.proofs.CallerLemmas.{Grows-trans}
+use Rattle.cal_context.proofs.CallerLemmas.{Grows-refl, Grows-trans}
 use Rattle.cal_read.specs.Cuts.{ended_lines}
+use Rattle.cal_read.specs.Lines.{bytes_in}
 use Rattle.cal_read.specs.Reading.{HasRead, IsRefusalOf, TakesBytes, rows_before}
 use Rattle.cal_read.specs.Standing.{TakesUpTo}
-use Rattle.cal_read.proofs.ReadLemmas.{rows_begun, refusal_more, TakesUpTo-trans, turns, piece_turn, whole_turn}
+use Rattle.cal_read.proofs.ReadLemmas.{rows_begun, refusal_more, TakesUpTo-none, TakesUpTo-trans, turns, piece_turn, whole_turn}
 use Rattle.cal_read.proofs.WholeLemmas.{end_passes}
 use Rattle.cal_read.proofs.stream_reader.StreamReader.feed_lines.Goals as goal
 
-pub end_line-requires : goal.end_line-requires
-end_line-requires g c =
+pub loop-line-init : goal.loop-line-init
+loop-line-init g c =
+    let had = g.T.Taker.has_taken c.args.taker.now c.args.context.now in (
+      Grows-refl c.args.context.now,
+      (
+        [],
+        sym c.of-rest.ensures,
+        (λ bytes h. subst (HasRead c.args.self.now c.args.context.now) (sym (append-nil bytes)) h),
+        (λ bytes h. TakesUpTo-none had had (rows_before bytes) (rows_before (bytes ++ [])) (ap rows_before (append-nil bytes)) (λ rs k. k)),
+      ),
+    )
+
+pub begin-requires : goal.begin-requires
+begin-requires g c = rw c.bytes.ensures c.in_default.ensures.none
+
+pub end_line-requires-clause-read : goal.end_line-requires-clause-read
+end_line-requires-clause-read g c =
     let turn = c.loop-line.invariant.1 in
-    ((c.requires.0 ++ turn.0) ++ c.in-Some.line.now, c.in_ok-begin.ensures.read c.loop-line.context (c.requires.0 ++ turn.0) (turn.2 c.requires.0 c.requires.1))
+    (c.requires.0 ++ turn.0, turn.2 c.requires.0 c.requires.1)
 
 pub returns-in_err-end_line-clause-fault : goal.returns-in_err-end_line-clause-fault
 returns-in_err-end_line-clause-fault g c =
     let turn = c.loop-line.invariant.1 in
-    end_passes _ c.in_err-end_line.field-0.0 _ c.from_residual-in_err-end_line.ensures (λ bytes h.
-    let begun = c.in_ok-begin.ensures.read c.loop-line.context (bytes ++ turn.0) (turn.2 bytes h) in
+    end_passes _ c.in_err-end_line.field-0.0 _ c.from_residual.ensures (λ bytes h.
     subst (λ b. IsRefusalOf (ended_lines b) c.in_err-end_line.field-0.0)
-    (sym (whole_turn bytes c.args.piece.now turn.0 c.loop-line.rest.now c.in-Some.line.now c.in-Some.after.now turn.1 c.in-Some.ensures.parts))
-    (refusal_more c.begin.new.self c.loop-line.context ((bytes ++ turn.0) ++ c.in-Some.line.now) begun c.in-Some.after.now c.in_err-end_line.field-0.0
-    (c.in_err-end_line.ensures.fault ((bytes ++ turn.0) ++ c.in-Some.line.now) begun)))
+    (sym (whole_turn bytes c.args.piece.now turn.0 (bytes_in c.loop-line.rest) (bytes_in c.in-Some.line) (bytes_in c.in-Some.after) turn.1 c.in-Some.ensures.parts))
+    (refusal_more c.loop-line.self c.loop-line.context (bytes ++ turn.0) (turn.2 bytes h) (bytes_in c.in-Some.line) (bytes_in c.in-Some.after) c.in-Some.ensures.line c.in_err-end_line.field-0.0
+    (c.in_err-end_line.ensures.fault (bytes ++ turn.0) (turn.2 bytes h))))
 
 pub loop-line-preserved : goal.loop-line-preserved
 loop-line-preserved g c =
@@ -31,29 +46,27 @@ loop-line-preserved g c =
     let has = g.T.Taker.has_taken c.end_line.new.taker c.end_line.new.context in (
       Grows-trans _ _ _ c.loop-line.invariant.0 c.in_ok-end_line.ensures.grows,
       (
-        turn.0 ++ (c.in-Some.line.now ++ 10 ∷ []),
-        piece_turn c.args.piece.now turn.0 c.loop-line.rest.now c.in-Some.line.now c.in-Some.after.now turn.1 c.in-Some.ensures.parts,
-        (λ bytes h. subst (HasRead c.end_line.new.self c.end_line.new.context) (turns bytes turn.0 c.in-Some.line.now)
-            (c.in_ok-end_line.ensures.read ((bytes ++ turn.0) ++ c.in-Some.line.now) (c.in_ok-begin.ensures.read c.loop-line.context (bytes ++ turn.0) (turn.2 bytes h)))),
-        (λ bytes h. subst (TakesBytes had has bytes) (turns bytes turn.0 c.in-Some.line.now)
-            (TakesUpTo-trans had then has (rows_before bytes) (rows_before (bytes ++ turn.0)) (rows_before (((bytes ++ turn.0) ++ c.in-Some.line.now) ++ 10 ∷ [])) (turn.3 bytes h)
-            (subst (λ rs. TakesUpTo then has rs (rows_before (((bytes ++ turn.0) ++ c.in-Some.line.now) ++ 10 ∷ [])))
-            (rows_begun c.loop-line.self c.loop-line.context (bytes ++ turn.0) (turn.2 bytes h) c.in-Some.line.now c.in-Some.ensures.line)
-            (c.in_ok-end_line.ensures.taken ((bytes ++ turn.0) ++ c.in-Some.line.now) (c.in_ok-begin.ensures.read c.loop-line.context (bytes ++ turn.0) (turn.2 bytes h)))))),
+        turn.0 ++ ((bytes_in c.in-Some.line) ++ 10 ∷ []),
+        piece_turn c.args.piece.now turn.0 (bytes_in c.loop-line.rest) (bytes_in c.in-Some.line) (bytes_in c.in-Some.after) turn.1 c.in-Some.ensures.parts,
+        (λ bytes h. subst (HasRead c.end_line.new.self c.end_line.new.context) (turns bytes turn.0 (bytes_in c.in-Some.line)) (c.in_ok-end_line.ensures.read (bytes ++ turn.0) (turn.2 bytes h))),
+        (λ bytes h. subst (TakesBytes had has bytes) (turns bytes turn.0 (bytes_in c.in-Some.line))
+            (TakesUpTo-trans had then has (rows_before bytes) (rows_before (bytes ++ turn.0)) (rows_before (((bytes ++ turn.0) ++ (bytes_in c.in-Some.line)) ++ 10 ∷ [])) (turn.3 bytes h)
+            (c.in_ok-end_line.ensures.taken (bytes ++ turn.0) (turn.2 bytes h)))),
       ),
     )
 
 pub returns-clause-read : goal.returns-clause-read
 returns-clause-read g c =
     let turn = c.loop-line.invariant.1 in
-    on_ok_weaker c.begin-2.result (λ read bytes h. subst (HasRead c.begin-2.new.self c.loop-line.context)
-    (append_assoc bytes turn.0 c.loop-line.rest.now ∙ ap (λ p. bytes ++ p) (sym turn.1)) (read c.loop-line.context (bytes ++ turn.0) (turn.2 bytes h))) c.begin-2.ensures.read
+    on_ok_weaker c.begin.result (λ read bytes h. subst (HasRead c.begin.new.self c.loop-line.context)
+    (ap (λ p. (bytes ++ turn.0) ++ p) c.bytes.ensures ∙ append_assoc bytes turn.0 (bytes_in c.loop-line.rest) ∙ ap (λ p. bytes ++ p) (sym turn.1))
+    (read c.loop-line.context (bytes ++ turn.0) (turn.2 bytes h))) c.begin.ensures.read
 
 pub returns-clause-taken : goal.returns-clause-taken
 returns-clause-taken g c =
     let turn = c.loop-line.invariant.1 in
     let had = g.T.Taker.has_taken c.args.taker.now c.args.context.now in
     let has = g.T.Taker.has_taken c.loop-line.taker c.loop-line.context in
-    on_ok_weaker c.begin-2.result (λ read bytes h. subst (TakesUpTo had has (rows_before bytes))
-    (sym (rows_begun c.loop-line.self c.loop-line.context (bytes ++ turn.0) (turn.2 bytes h) c.loop-line.rest.now c.in_default.ensures.none)
-    ∙ ap rows_before (append_assoc bytes turn.0 c.loop-line.rest.now ∙ ap (λ p. bytes ++ p) (sym turn.1))) (turn.3 bytes h)) c.begin-2.ensures.read
+    on_ok_weaker c.begin.result (λ read bytes h. subst (TakesUpTo had has (rows_before bytes))
+    (sym (rows_begun c.loop-line.self c.loop-line.context (bytes ++ turn.0) (turn.2 bytes h) (bytes_in c.loop-line.rest) c.in_default.ensures.none)
+    ∙ ap rows_before (append_assoc bytes turn.0 (bytes_in c.loop-line.rest) ∙ ap (λ p. bytes ++ p) (sym turn.1))) (turn.3 bytes h)) c.begin.ensures.read
