@@ -27,6 +27,10 @@ pub struct Link {
     pub value: ValueNumber,
 }
 
+impl Exact for NodeNumber {
+    ghost tells = { Prim.search (rules, common_steps) };
+}
+
 impl Exact for Link {
     ghost tells = { Prim.search (rules, common_steps) };
 }

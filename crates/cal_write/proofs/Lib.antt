@@ -9,3 +9,4 @@ mod KeptLemmas
 mod RecordLemmas
 mod InterningLemmas
 mod WholeLemmas
+mod MeasureLemmas

@@ -201,7 +201,7 @@ record-written t old mid w sort snap refs columns text nodes imms is s k =
 
 -- ---- rows, and globals
 
-rows_text-push : (ns : List Node) (rows : List Rec) (r : Rec) → rows_text ns (rows ++ r ∷ []) ≡ rows_text ns rows ++ record_text (codes "ctx") (fold with_record ns rows) r
+pub rows_text-push : (ns : List Node) (rows : List Rec) (r : Rec) → rows_text ns (rows ++ r ∷ []) ≡ rows_text ns rows ++ record_text (codes "ctx") (fold with_record ns rows) r
 rows_text-push ns [] r = append-nil (record_text (codes "ctx") ns r)
 rows_text-push ns (q ∷ rows) r =
     ap (λ l. record_text (codes "ctx") ns q ++ l) (rows_text-push (with_record ns q) rows r)
@@ -232,7 +232,7 @@ below-entry t context n below = by (path_at t n) refl
         let zero_number : 0 ≡ n.0 = ap (λ m. m.0) one in
         absurd (omega (arith, below.below, zero_number))
 
-ends-length : (t : Tree) → IsContext t → (ns : List NodeNumber) → All (IsBelowRoot t) ns → (length (filter has_entry (map (path_at t) ns)) == 0) ≡ (length ns == 0)
+pub ends-length : (t : Tree) → IsContext t → (ns : List NodeNumber) → All (IsBelowRoot t) ns → (length (filter has_entry (map (path_at t) ns)) == 0) ≡ (length ns == 0)
 ends-length t context [] below = refl
 ends-length t context (n ∷ ns) below =
     let kept = below-entry t context n (below 0 n (omega arith)) in

@@ -12,3 +12,4 @@ pub mod SnapshotNeeds
 pub mod Writer
 pub mod WriterGrows
 pub mod Interning
+pub mod Measuring

@@ -12,9 +12,9 @@ use Rattle.cal_write.specs.declared.node_writer.NodeWriter.{NodeWriter}
 use Rattle.cal_write.specs.declared.writer.Writer.{Writer}
 
 -- what is noted stays right while the context grows
-kept-Grows : (old new : Tree) (w : NodeWriter) (s : Written) → Grows old new
+pub IsKept-stays : (old new : Tree) (w : NodeWriter) (s : Written) → Grows old new
     → IsKept old w s → IsKept new w s
-kept-Grows old new w s grows k = record {
+IsKept-stays old new w s grows k = record {
   stream = k.stream;
   nodes = λ n id h. let note = k.nodes n id h in
       record {
@@ -40,4 +40,4 @@ kept-Grows old new w s grows k = record {
 pub HasTaken-stays : (w : Writer) (old new : Tree) (rows : List Rec) → HasTaken w old rows
     → Grows old new → HasTaken w new rows
 HasTaken-stays w old new rows h grows =
-    record { sound = h.sound; kept = kept-Grows old new w.nodes (written rows) grows h.kept }
+    record { sound = h.sound; kept = IsKept-stays old new w.nodes (written rows) grows h.kept }

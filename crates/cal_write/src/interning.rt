@@ -8,14 +8,14 @@ use cal_value::{Entry, OutOfMemory, Rec, Seq, TryCopy};
 use std::alloc::Global;
 
 /// Puts a record into a context, and makes the snapshot mean it, but for paths without entries.
-pub(crate) fn intern_record(
+pub fn intern_record(
     alloc: Global,
     context: &mut Context,
     rec: &Rec,
     snapshot: &mut Snapshot,
 ) -> Result<(), OutOfMemory>
     ensures means { OnOk result (Means context.new snapshot.new rec.now) }
-    ensures grows { OnOk result (Grows context.old context.new) }
+    ensures grows { Grows context.old context.new }
 {
     snapshot.clear();
     intern_paths(context, rec.paths.as_slice(), &mut snapshot.nodes)?;
@@ -30,7 +30,7 @@ fn intern_paths(
 ) -> Result<(), OutOfMemory>
     ensures adds { OnOk result
         (AddsPaths context.old context.new paths.now nodes.old.items nodes.new.items) }
-    ensures grows { OnOk result (Grows context.old context.new) }
+    ensures grows { Grows context.old context.new }
 {
     for path in paths {
         intern_path(context, path.as_slice(), nodes)?;
@@ -45,7 +45,7 @@ fn intern_path(
 ) -> Result<(), OutOfMemory>
     ensures adds { OnOk result
         (AddsPath context.old context.new path.now nodes.old.items nodes.new.items) }
-    ensures grows { OnOk result (Grows context.old context.new) }
+    ensures grows { Grows context.old context.new }
 {
     if path.is_empty() {
         return Ok(());
@@ -58,7 +58,7 @@ fn intern_path(
 /// The node that a path leads to.
 fn reach(context: &mut Context, path: &[Entry]) -> Result<NodeNumber, OutOfMemory>
     ensures reached { IfOk result (IsReached context.new path.now) }
-    ensures grows { OnOk result (Grows context.old context.new) }
+    ensures grows { Grows context.old context.new }
 {
     context.has_each_once();
     let mut node = NodeNumber::ROOT;
@@ -72,7 +72,7 @@ fn reach(context: &mut Context, path: &[Entry]) -> Result<NodeNumber, OutOfMemor
 fn step(context: &mut Context, parent: NodeNumber, entry: &Entry) -> Result<NodeNumber, OutOfMemory>
     requires { parent.0 < length context.old.paths }
     ensures step { IfOk result (IsStep context.old context.new parent entry.now) }
-    ensures grows { OnOk result (Grows context.old context.new) }
+    ensures grows { Grows context.old context.new }
 {
     let attribute = context.attribute(&entry.attr)?;
     let node = context.child(parent, attribute, &entry.value)?;
@@ -87,7 +87,7 @@ fn intern_immediates(
 ) -> Result<(), OutOfMemory>
     ensures adds { OnOk result
         (AddsImmediates context.old context.new entries.now imms.old.items imms.new.items) }
-    ensures grows { OnOk result (Grows context.old context.new) }
+    ensures grows { Grows context.old context.new }
 {
     for entry in entries {
         intern_immediate(alloc, context, entry, imms)?;
@@ -103,7 +103,7 @@ fn intern_immediate(
 ) -> Result<(), OutOfMemory>
     ensures adds { OnOk result
         (AddsImmediate context.old context.new entry.now imms.old.items imms.new.items) }
-    ensures grows { OnOk result (Grows context.old context.new) }
+    ensures grows { Grows context.old context.new }
 {
     let attribute = context.attribute(&entry.attr)?;
     let value = entry.value.copy(alloc)?;

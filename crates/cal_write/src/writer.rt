@@ -14,7 +14,7 @@ use std::alloc::Global;
 /// immediates and in what is new with it, however deep its paths are.
 #[derive(Drop)]
 pub struct Writer {
-    nodes: NodeWriter,
+    pub(crate) nodes: NodeWriter,
     // the ids of a record's nodes, and of its immediates' attributes
     refs: Vec<u32>,
     columns: Vec<u32>,
@@ -66,7 +66,7 @@ impl Writer {
     }
 
     /// Writes what a snapshot's record needs, and its line.
-    fn write(
+    pub(crate) fn write(
         &mut self,
         context: &Context,
         sort: &str,
