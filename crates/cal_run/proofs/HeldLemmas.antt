@@ -313,6 +313,16 @@ opening-value t script ns is op c e places opens n at =
     value-is t script ns is op n (omega (arith, below, long)) at
 
 -- the process's board after one operation more
+pub board-more : (script : Script) (history : List Placed) (place : ℕ) (p : Placed)
+    → p ≡ get_or history place p → place < length history
+    → board_placed script (process_board script history place) (placed_operation script p)
+    ≡ process_board script history (place + 1)
+board-more script history place p at below =
+    ap (λ (p : Placed). board_placed script (process_board script history place)
+    (placed_operation script p)) at
+    ∙ sym (fold_more (λ (b : Blackboard Variant) (p : Placed). board_placed script b
+    (placed_operation script p)) nothing_open history place p below)
+
 pub process_board-more : (t : Tree) (script : Script) (history : List Placed) (place : ℕ)
     (p : Placed) (held : Blackboard NodeNumber)
     → p ≡ get_or history place p → place < length history
@@ -320,11 +330,4 @@ pub process_board-more : (t : Tree) (script : Script) (history : List Placed) (p
     (placed_operation script p))
     → Holds t script held (process_board script history (place + 1))
 process_board-more t script history place p held at below is =
-    let more = fold_more (λ (b : Blackboard Variant) (p : Placed). board_placed script b
-    (placed_operation script p)) nothing_open history place p below in
-    let here : board_placed script (process_board script history place) (placed_operation script p)
-    ≡ board_placed script (process_board script history place)
-    (placed_operation script (get_or history place p)) =
-    ap (λ (p : Placed). board_placed script (process_board script history place)
-    (placed_operation script p)) at in
-    subst (Holds t script held) (here ∙ sym more) is
+    subst (Holds t script held) (board-more script history place p at below) is

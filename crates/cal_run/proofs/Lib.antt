@@ -4,7 +4,10 @@ pub mod NumberLemmas
 pub mod ServiceLemmas
 pub mod LineLemmas
 pub mod RunLemmas
+pub mod PathLemmas
+pub mod CountLemmas
 pub mod LawLemmas
+pub mod OutlineLemmas
 pub mod PlainLemmas
 pub mod PlainLawLemmas
 pub mod BrokenLemmas

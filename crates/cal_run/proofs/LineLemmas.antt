@@ -6,6 +6,8 @@ use Rattle.cal_board.proofs.StandingLemmas.{reply_to-Stands}
 use Rattle.std.proofs.lemmas.List.Elements.{All-nil}
 use Rattle.cal_board.specs.Blackboard.{Blackboard, nothing_open}
 use Rattle.cal_board.specs.PathBoards.{AreKnown}
+use Rattle.cal_board.specs.Standing.{Stands}
+use Rattle.cal_board.specs.declared.opened.Opened.{Opened}
 use Rattle.cal_board.specs.declared.opened.Slot.{Slot}
 use Rattle.cal_board.specs.Contexts.{NodeStands}
 use Rattle.cal_context.specs.Taking.{TakesMore}
@@ -34,23 +36,28 @@ use Rattle.cal_value.specs.declared.record.Rec.{Rec}
 use Rattle.cal_value.specs.declared.variant.Variant.{Variant}
 use Rattle.cal_words.specs.declared.op.OpCode.TheVariants as code
 
--- a board of nodes replies to a line as the board that it stands for
+-- a board of whatever stands for values replies to a line as the board that it stands for
+module _ {N : Type 0} (P : N → List (Opened Variant) → Type 0) (script : Script)
+    (held : Blackboard N) (b : Blackboard Variant) (is : Stands P held b) where
+  pub reply_to_line-Stands : (l : lines.Line)
+      → reply_to_line script held l ≡ reply_to_line script b l
+  reply_to_line-Stands (line.Begin a v) =
+      λ j. Some (as_reply (reply_to-Stands P held b is (attr_ref script a) code.Begin j))
+  reply_to_line-Stands (line.End a) =
+      λ j. Some (as_reply (reply_to-Stands P held b is (attr_ref script a) code.End j))
+  reply_to_line-Stands (line.Set a v) =
+      λ j. Some (as_reply (reply_to-Stands P held b is (attr_ref script a) code.Set j))
+  reply_to_line-Stands (line.Flush c) = refl
+  reply_to_line-Stands line.Snapshot = refl
+  reply_to_line-Stands (line.Tick n) = refl
+
+-- as a board of nodes does
 pub reply_to_line-Holds : (t : Tree) (script : Script) (held : Blackboard NodeNumber)
     (b : Blackboard Variant)
     → Holds t script held b → (l : lines.Line)
     → reply_to_line script held l ≡ reply_to_line script b l
-reply_to_line-Holds t script held b is (line.Begin a v) =
-    λ j. Some (as_reply (reply_to-Stands (NodeStands t) held b is.stands (attr_ref script a)
-    code.Begin j))
-reply_to_line-Holds t script held b is (line.End a) =
-    λ j. Some (as_reply (reply_to-Stands (NodeStands t) held b is.stands (attr_ref script a)
-    code.End j))
-reply_to_line-Holds t script held b is (line.Set a v) =
-    λ j. Some (as_reply (reply_to-Stands (NodeStands t) held b is.stands (attr_ref script a)
-    code.Set j))
-reply_to_line-Holds t script held b is (line.Flush c) = refl
-reply_to_line-Holds t script held b is line.Snapshot = refl
-reply_to_line-Holds t script held b is (line.Tick n) = refl
+reply_to_line-Holds t script held b is =
+    reply_to_line-Stands (NodeStands t) script held b is.stands
 
 -- how many operations a line has seen before its own
 pub seen-is : (script : Script) (history : List Placed) (l : lines.Line) (note : LineNote)

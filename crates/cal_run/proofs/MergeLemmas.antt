@@ -1,12 +1,12 @@
 -- Which flushes were merged: the marks of the rows so far.
-use Rattle.std.proofs.Common.{◌≡◌, ℕ, suc, zero, ◌+◌, ◌*◌, ◌-◌, ◌<◌, List, [], ◌∷◌, ◌++◌, Bool}
-use Rattle.std.proofs.Common.{true, false, length, get_or, set, map, ap, subst, sym, refl, ◌∙◌}
-use Rattle.std.proofs.Common.{arith, replicate, ◌&&◌, ◌||◌}
-use Rattle.std.specs.Prelude.{Option, Some, None, ◌==◌, nat_lt, flat_map, zip, Any, ◌↔◌}
+use Rattle.std.proofs.Common.{◌≡◌, ℕ, suc, zero, ◌+◌, ◌*◌, List, [], ◌∷◌, Bool}
+use Rattle.std.proofs.Common.{true, false, length, get_or, map, ap, sym, refl, ◌∙◌}
+use Rattle.std.proofs.Common.{replicate, ◌&&◌, ◌||◌}
+use Rattle.std.specs.Prelude.{◌==◌, nat_lt, flat_map, zip, Any, ◌↔◌}
 use Rattle.std.specs.List.{enumerate_from, list_any}
-use Rattle.std.proofs.Math.Bool.{and-false, or-false}
-use Rattle.std.proofs.lemmas.Bool.{eqb-true, eqb-false, eq-eqb, lt-ltb, ltb-true}
-use Rattle.std.proofs.lemmas.List.{get_or-set_other, get_or-set_same, length-replicate, length-set}
+use Rattle.std.proofs.Math.Bool.{and-false}
+use Rattle.std.proofs.lemmas.Bool.{eqb-true, eq-eqb}
+use Rattle.std.proofs.lemmas.List.{length-replicate}
 use Rattle.std.proofs.lemmas.List.Folds.{Any-from_list_any, list_any-append, list_any-from_Any}
 use Rattle.cal_run.specs.Broken.{Row, all_rows, thread_rows}
 use Rattle.cal_run.specs.Broken.{Noted}
@@ -36,96 +36,6 @@ none-merged n marks long none = record {
       ∙ all-false n (thread * 16 + channel))
       ∙ and-false (nat_lt thread 64 && nat_lt channel 16);
 }
-
-module _ (front : List Row) (n : NotedLine) (marks : List Bool) (is : AreMerged front marks) where
-  -- a line without a merged flush marks nothing
-  pub merged-none : merged_channel n.line n.note.reply ≡ None
-      → AreMerged (front ++ Noted n ∷ []) marks
-  merged-none none = record {
-    long = is.long;
-    marked = λ thread channel.
-        is.marked thread channel
-        ∙ sym (or-false (list_any (merges thread channel) front))
-        ∙ ap (λ (b : Bool). list_any (merges thread channel) front || b) (sym (no thread channel))
-        ∙ sym (list_any-append (merges thread channel) front (Noted n ∷ []));
-  }
-    where
-      no : (thread channel : ℕ) → list_any (merges thread channel) (Noted n ∷ []) ≡ false
-      no thread channel =
-          or-false (merges thread channel (Noted n))
-          ∙ ap (λ (c : Option ℕ). (n.thread == thread) && is_channel channel c) none
-          ∙ and-false (n.thread == thread)
-
-  -- and one with a merged flush its own thread and channel
-  module _ (thread channel : ℕ) (own : n.thread ≡ thread) (in_threads : thread < 64)
-      (in_channels : channel < 16)
-      (merged : merged_channel n.line n.note.reply ≡ Some channel) where
-    keep : (t c : ℕ) → ¬ ((t ≡ thread) × (c ≡ channel))
-        → has_merged (set marks (thread * 16 + channel) true) t c ≡ has_merged marks t c
-    keep t c not = by (nat_lt t 64) refl (nat_lt c 16) refl
-      where
-        by : (a : Bool) → nat_lt t 64 ≡ a → (b : Bool) → nat_lt c 16 ≡ b
-            → (a && b && get_or (set marks (thread * 16 + channel) true) (t * 16 + c) false) ≡
-            (a && b && get_or marks (t * 16 + c) false)
-        by false e b f = refl
-        by true e false f = refl
-        by true e true f = get_or-set_other marks (thread * 16 + channel) (t * 16 + c) true false
-            (λ same. let small : c < 16 = ltb-true c 16 f in not
-            (omega (arith, same, small, in_channels), omega (arith, same, small, in_channels)))
-
-    row-is : (t c : ℕ) → list_any (merges t c) (Noted n ∷ []) ≡ ((thread == t) && (channel == c))
-    row-is t c =
-        or-false (merges t c (Noted n))
-        ∙ ap (λ (m : Option ℕ). (n.thread == t) && is_channel c m) merged
-        ∙ ap (λ u. (u == t) && (channel == c)) own
-
-    pub merged-set : AreMerged (front ++ Noted n ∷ []) (set marks (thread * 16 + channel) true)
-    merged-set = record {
-      long = length-set marks (thread * 16 + channel) true ∙ is.long;
-      marked = λ t c. by t c (thread == t) refl (channel == c) refl
-          ∙ ap (λ (b : Bool). list_any (merges t c) front || b) (sym (row-is t c))
-          ∙ sym (list_any-append (merges t c) front (Noted n ∷ []));
-    }
-      where
-        or-true : (b : Bool) → (b || true) ≡ true
-        or-true true = refl
-        or-true false = refl
-
-        unmarked : (t c : ℕ) → ¬ ((t ≡ thread) × (c ≡ channel))
-            → has_merged (set marks (thread * 16 + channel) true) t c ≡
-            (list_any (merges t c) front || false)
-        unmarked t c not = keep t c not ∙ is.marked t c
-            ∙ sym (or-false (list_any (merges t c) front))
-
-        here : has_merged (set marks (thread * 16 + channel) true) thread channel ≡ true
-        here =
-            ap (λ (a : Bool). a && nat_lt channel 16 && get_or
-            (set marks (thread * 16 + channel) true) (thread * 16 + channel) false)
-            (lt-ltb thread 64 in_threads)
-            ∙ ap (λ (b : Bool). b && get_or (set marks (thread * 16 + channel) true)
-            (thread * 16 + channel) false) (lt-ltb channel 16 in_channels)
-            ∙ get_or-set_same marks (thread * 16 + channel) true false
-            (let long = is.long in omega (arith, long, in_threads, in_channels))
-
-        by : (t c : ℕ) → (a : Bool) → (thread == t) ≡ a → (b : Bool) → (channel == c) ≡ b
-            → has_merged (set marks (thread * 16 + channel) true) t c ≡
-            (list_any (merges t c) front || ((thread == t) && (channel == c)))
-        by t c true e true f =
-            subst (λ u. has_merged (set marks (thread * 16 + channel) true) u c ≡ true)
-            (eqb-true thread t e)
-            (subst (λ v. has_merged (set marks (thread * 16 + channel) true) thread v ≡ true)
-            (eqb-true channel c f) here)
-            ∙ sym (or-true (list_any (merges t c) front))
-            ∙ ap (λ (b : Bool). list_any (merges t c) front || b)
-            (sym (ap (λ (b : Bool). b && (channel == c)) e ∙ f))
-        by t c true e false f =
-            unmarked t c (λ both. eqb-false channel c f (sym both.1))
-            ∙ ap (λ (b : Bool). list_any (merges t c) front || b)
-            (sym (ap (λ (b : Bool). b && (channel == c)) e ∙ f))
-        by t c false e b f =
-            unmarked t c (λ both. eqb-false thread t e (sym both.0))
-            ∙ ap (λ (b : Bool). list_any (merges t c) front || b)
-            (sym (ap (λ (b : Bool). b && (channel == c)) e))
 
 -- ---- the lines of all rows
 

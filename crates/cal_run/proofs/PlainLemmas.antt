@@ -9,20 +9,18 @@ use Rattle.std.proofs.Math.Seq.{drop-cons}
 use Rattle.std.proofs.lemmas.List.{length-append, length-map}
 use Rattle.std.proofs.lemmas.List.Sums.{sum_by-cons, sum_by-drop_more}
 use Rattle.cal_board.specs.Blackboard.{Blackboard, nothing_open}
-use Rattle.cal_context.specs.Tree.{Tree, Grows}
-use Rattle.cal_context.specs.declared.numbers.NodeNumber.{NodeNumber}
-use Rattle.cal_run.proofs.HeldLemmas.{Holds-Grows}
-use Rattle.cal_run.proofs.LineLemmas.{nothing-holds, reply_to_line-Holds}
-use Rattle.cal_run.specs.Held.{Holds, HoldsThen, IsProcess}
-use Rattle.cal_run.specs.History.{board_placed, process_board}
+use Rattle.cal_run.proofs.HeldLemmas.{board-more}
+use Rattle.cal_run.proofs.LineLemmas.{reply_to_line-Stands}
+use Rattle.cal_run.specs.History.{board_placed, placed_operation, process_board}
 use Rattle.cal_run.specs.Lawful.{process_lines, takes_start_reading}
 use Rattle.cal_run.specs.Lines.{clock_after, is_process_line, operation_of, takes}
-use Rattle.cal_run.specs.Noting.{IsPlain, before_after, noted}
+use Rattle.cal_run.specs.Noting.{HoldsPlaced, IsPlain, Outlines, OutlinesThen, before_after, noted}
 use Rattle.cal_run.specs.Plain.{met, note_of, notes_from, placed_lines, plain_history, threads_from}
 use Rattle.cal_run.specs.Steps.{ThreadState, at_start, changed, found_reply, is_accepted, looks}
 use Rattle.cal_run.specs.Steps.{reply_to_line, state_after}
 use Rattle.cal_run.specs.declared.noting.Plain.{Plain}
-use Rattle.cal_run.specs.declared.process.Process.{Process}
+use Rattle.cal_run.specs.declared.outline.Nothing.{Nothing}
+use Rattle.cal_run.specs.declared.placed.PlacedProcess.{PlacedProcess}
 use Rattle.cal_script.specs.declared.journal.LineNote.{LineNote}
 use Rattle.cal_script.specs.declared.journal.Placed.{Placed}
 use Rattle.cal_script.specs.declared.journal.Reply as replies
@@ -285,60 +283,51 @@ pub on_ok-always : {T E Q : Type 0} (r : Result T E) → Q → OnOk r Q
 on_ok-always (Ok x) q = q
 on_ok-always (Err e) q = tt
 
-pub IsProcess-Grows : {old new : Tree} → Grows old new
-    → (script : Script) (history : List Placed) (p : Process)
-    → IsProcess old script history p → IsProcess new script history p
-IsProcess-Grows grows script history p is = record {
-  holds = Holds-Grows grows script p.board (process_board script history p.count) is.holds;
-  within = is.within;
-}
-
 shared-false : (a p : Bool) → p ≡ true → (a && not p) ≡ false
 shared-false true true e = refl
 shared-false false p e = refl
 shared-false true false e = absurd cc
 
 -- a line of the process leaves the thread's own board
-pub shared-still : {old new : Tree} → Grows old new
-    → (script : Script) (held : Blackboard NodeNumber) (l : Line) (a : Bool)
+pub shared-still : (script : Script) (held : Blackboard Nothing) (l : Line) (a : Bool)
     → is_process_line script l ≡ true
-    → HoldsThen old new script held held
+    → OutlinesThen held held
     (λ b. if a && not (is_process_line script l) then board_placed script b (operation_of l) else b)
-shared-still {old} {new} grows script held l a shared b is =
-    subst (λ (q : Bool). Holds new script held
+shared-still script held l a shared b is =
+    subst (λ (q : Bool). Outlines held
     (if q then board_placed script b (operation_of l) else b))
-    (sym (shared-false a (is_process_line script l) shared)) (Holds-Grows grows script held b is)
+    (sym (shared-false a (is_process_line script l) shared)) is
 
--- what is found by boards of nodes
-pub held-found : (t : Tree) (script : Script) (thread : Plain) (process : Process)
+-- what is found by outlines
+pub held-found : (script : Script) (thread : Plain) (process : PlacedProcess)
     (state : ThreadState) (l : Line)
-    → IsPlain t script thread state → IsProcess t script (plain_history script) process
+    → IsPlain thread state → HoldsPlaced script (plain_history script) process
     → reply_to_line script (if is_process_line script l then process.board else thread.board) l
     ≡ found script process.count state l
-held-found t script thread process state l is sees =
-    reply_to_line-Holds t script (if is_process_line script l then process.board else thread.board)
+held-found script thread process state l is sees =
+    reply_to_line-Stands (λ _ _. Unit {0}) script
+    (if is_process_line script l then process.board else thread.board)
     (if is_process_line script l then process_board script (plain_history script) process.count else
     state.board)
     (by (is_process_line script l)) l
     ∙ found-is script process.count state l
   where
-    by : (p : Bool) → Holds t script (if p then process.board else thread.board)
+    by : (p : Bool) → Outlines (if p then process.board else thread.board)
         (if p then process_board script (plain_history script) process.count else state.board)
     by true = sees.holds
     by false = is.mine
 
 -- a thread is kept as its line leaves it
-pub kept-plain : (old new : Tree) (script : Script) (before : ℕ) (was is : Plain)
-    (state : ThreadState) (l : Line) (a : Bool)
-    → a ≡ is_accepted (found script before state l) → IsPlain old script was state
-    → HoldsThen old new script was.board is.board
+pub kept-plain : (script : Script) (before : ℕ) (was is : Plain) (state : ThreadState) (l : Line)
+    (a : Bool) → a ≡ is_accepted (found script before state l) → IsPlain was state
+    → OutlinesThen was.board is.board
     (λ b. if a && not (is_process_line script l) then board_placed script b (operation_of l) else b)
     → is.clock ≡ (if a && not (is_process_line script l) then clock_after was.clock l else
     was.clock)
-    → IsPlain new script is
+    → IsPlain is
     (state_after script (plain_history script) l (note_of script before was.seen state l) state)
-kept-plain old new script before was is state l a accepted kept holds clock =
-    subst (λ (a : Bool). IsPlain new script is
+kept-plain script before was is state l a accepted kept holds clock =
+    subst (λ (a : Bool). IsPlain is
     (if a && not (is_process_line script l) then changed script (plain_history script) l
     (note_of script before was.seen state l) state else state))
     (accepted ∙ ap is_accepted (sym (found-noted script before was.seen state l)))
@@ -346,31 +335,46 @@ kept-plain old new script before was is state l a accepted kept holds clock =
     (clock ∙ ap (λ c. if a && not (is_process_line script l) then clock_after c l else c)
     kept.clock))
   where
-    by : (q : Bool) → Holds new script is.board
+    by : (q : Bool) → Outlines is.board
         (if q then board_placed script state.board (operation_of l) else state.board)
         → is.clock ≡ (if q then clock_after state.clock l else state.clock)
-        → IsPlain new script is (if q then changed script (plain_history script) l
+        → IsPlain is (if q then changed script (plain_history script) l
         (note_of script before was.seen state l) state else state)
     by true holds clock = record { mine = holds; clock = clock }
     by false holds clock = record { mine = holds; clock = clock }
 
+nothing-outlined : Outlines nothing_open nothing_open
+nothing-outlined = record { references = tt; as_values = refl }
+
 -- a thread before its first line
-pub start-plain : (t : Tree) (script : Script) (thread : Plain) → thread.board ≡ nothing_open
-    → thread.clock ≡ 0
-    → IsPlain t script thread at_start
-start-plain t script thread board clock = record {
-  mine = subst (λ b. Holds t script b nothing_open) (sym board) (nothing-holds t script);
+pub start-plain : (thread : Plain) → thread.board ≡ nothing_open → thread.clock ≡ 0
+    → IsPlain thread at_start
+start-plain thread board clock = record {
+  mine = subst (λ b. Outlines b nothing_open) (sym board) nothing-outlined;
   clock = clock;
 }
 
 -- the process before its first operation
-pub start-process : (t : Tree) (script : Script) (history : List Placed) (process : Process)
-    → process.board ≡ nothing_open
-    → process.count ≡ 0 → IsProcess t script history process
-start-process t script history process board count = record {
-  holds = subst (λ n. Holds t script process.board (process_board script history n)) (sym count)
-      (subst (λ b. Holds t script b nothing_open) (sym board) (nothing-holds t script));
+pub start-process : (script : Script) (history : List Placed) (process : PlacedProcess)
+    → process.board ≡ nothing_open → process.count ≡ 0 → HoldsPlaced script history process
+start-process script history process board count = record {
+  holds = subst (λ n. Outlines process.board (process_board script history n)) (sym count)
+      (subst (λ b. Outlines b nothing_open) (sym board) nothing-outlined);
   within = omega (arith, count);
+}
+
+-- the process after one operation more
+pub process-more : (script : Script) (history : List Placed) (was is : PlacedProcess) (p : Placed)
+    → HoldsPlaced script history was → p ≡ get_or history was.count p
+    → was.count < length history
+    → OutlinesThen was.board is.board (λ b. board_placed script b (placed_operation script p))
+    → is.count ≡ was.count + 1
+    → HoldsPlaced script history is
+process-more script history was is p holds at below then_is count = record {
+  holds = subst (λ n. Outlines is.board (process_board script history n)) (sym count)
+      (subst (Outlines is.board) (board-more script history was.count p at below)
+      (then_is (process_board script history was.count) holds.holds));
+  within = omega (arith, count, below);
 }
 
 -- ---- the notes of lines and of threads

@@ -1,18 +1,21 @@
 -- Lines and threads are run one after another, each with its note.
 use Rattle.std.proofs.Common.{◌≡◌, ℕ, suc, zero, ◌+◌, ◌-◌, ◌<◌, ◌≤◌, List, [], ◌∷◌, ◌++◌, Bool}
-use Rattle.std.proofs.Common.{true, false, if◌then◌else◌, length, get_or, take, drop, ap, subst}
-use Rattle.std.proofs.Common.{sym, refl, ◌∙◌, append_assoc, append-nil, add-one, arith}
+use Rattle.std.proofs.Common.{true, false, if◌then◌else◌, ◌&&◌, length, get_or, take, drop, ap}
+use Rattle.std.proofs.Common.{subst, sym, refl, ◌∙◌, append_assoc, append-nil, add-one, arith}
 use Rattle.std.specs.Prelude.{flat_map, zip}
 use Rattle.std.specs.List.{All}
 use Rattle.std.proofs.lemmas.Grind.{flat_map-append}
-use Rattle.std.proofs.lemmas.List.{drop_all, take_all, take_more}
+use Rattle.std.proofs.Math.Bool.{and-false}
+use Rattle.std.proofs.lemmas.List.{get_or-drop, length-drop, take_all, take_more}
 use Rattle.std.proofs.lemmas.Slice.Zip.{get_or-zip, length-zip}
 use Rattle.cal_context.proofs.CallerLemmas.{TakesMore-trans}
 use Rattle.cal_context.specs.Taking.{TakesMore}
-use Rattle.cal_run.specs.Lines.{is_process_line}
+use Rattle.cal_run.specs.Lines.{is_process_line, operation_of, takes}
 use Rattle.cal_run.specs.Runs.{taken_from}
 use Rattle.cal_run.specs.Seeing.{MaySee, SeesInOrder}
-use Rattle.cal_run.specs.Steps.{ThreadState, previous_after, seen_before, state_after, taken_in}
+use Rattle.cal_run.specs.Snapshots.{snapshot_of}
+use Rattle.cal_run.specs.Steps.{ThreadState, found_reply, is_accepted, previous_after, seen_before}
+use Rattle.cal_run.specs.Steps.{sight_after, state_after, taken_in}
 use Rattle.cal_run.specs.Threads.{CanRun}
 use Rattle.cal_run.specs.declared.thread.Thread.{Thread}
 use Rattle.cal_script.specs.declared.journal.LineNote.{LineNote}
@@ -124,19 +127,49 @@ module _ (script : Script) (history : List Placed) where
         subst (SeesInOrder script history before) (zip_next lines notes i l n line note below long)
         order
 
-  -- no line is left
+  -- a channel that takes a snapshot on none of these lines takes nothing of them
+  none-taken : (channel : Channel) (state : ThreadState) (previous : ℕ)
+      (ls : List (Line × LineNote)) → All (λ l. takes script channel l.0 ≡ false) ls
+      → taken_from script history channel state previous ls ≡ []
+  none-taken channel state previous [] none = refl
+  none-taken channel state previous (l ∷ ls) none =
+      let after = state_after script history l.0 l.1 state in
+      let next = previous_after script history l.0 l.1 state channel previous in
+      let accepted = is_accepted (found_reply script history l.0 l.1 state) in
+      let one : List Rec = snapshot_of script
+      (sight_after script history l.0 l.1 state previous) channel (operation_of l.0) ∷ [] in
+      ap (λ (t : Bool). (if accepted && t then one else [])
+      ++ taken_from script history channel after next ls) (none 0 l (omega arith))
+      ∙ ap (λ (t : Bool). (if t then one else [])
+      ++ taken_from script history channel after next ls) (and-false accepted)
+      ∙ none-taken channel after next ls (λ k d below. none (suc k) d (omega (arith, below)))
+
+  none-left : (channel : Channel) (lines : List Line) (notes : List LineNote) (i : ℕ)
+      → ((k : ℕ) (d : Line) → i ≤ k → k < length lines
+      → takes script channel (get_or lines k d) ≡ false)
+      → All (λ l. takes script channel l.0 ≡ false) (drop i (zip lines notes))
+  none-left channel lines notes i none k d below =
+      let all = length-zip lines notes in
+      let left = length-drop i (zip lines notes) in
+      let at = get_or-drop i (zip lines notes) k d
+      ∙ get_or-zip lines notes (i + k) d (omega (arith, all, left, below))
+      (omega (arith, all, left, below)) in
+      ap (λ (l : Line × LineNote). takes script channel l.0) at
+      ∙ none (i + k) d.0 (omega arith) (omega (arith, all, left, below))
+
+  -- no line is left on which the channel takes a snapshot
   pub taken_from-end : (lines : List Line) (notes : List LineNote) (i : ℕ) (channel : Channel)
       (state : ThreadState) (previous : ℕ)
-      (had has : List Rec → Type 0) (taken all : List Rec) → length lines ≤ i
+      (had has : List Rec → Type 0) (taken all : List Rec)
+      → ((k : ℕ) (d : Line) → i ≤ k → k < length lines
+      → takes script channel (get_or lines k d) ≡ false)
       → taken ++ taken_from script history channel state previous (drop i (zip lines notes)) ≡ all
       → TakesMore had has taken → TakesMore had has all
-  taken_from-end lines notes i channel state previous had has taken all past so_far took =
-      let long = length-zip lines notes in
-      let none : drop i (zip lines notes) ≡ [] =
-      drop_all i (zip lines notes) (omega (arith, past, long)) in
+  taken_from-end lines notes i channel state previous had has taken all none so_far took =
+      let nothing = none-taken channel state previous (drop i (zip lines notes))
+      (none-left channel lines notes i none) in
       subst (TakesMore had has)
-      (sym (append-nil taken) ∙ ap
-      (λ ls. taken ++ taken_from script history channel state previous ls) (sym none) ∙ so_far) took
+      (sym (append-nil taken) ∙ ap (λ rs. taken ++ rs) (sym nothing) ∙ so_far) took
 
   seen-before-if : (p : Bool) (seen : ℕ) → (if p then seen - 1 else seen) ≤ seen
   seen-before-if true seen = omega arith

@@ -13,3 +13,6 @@ pub mod Threads
 pub mod Seeing
 pub mod Plain
 pub mod Noting
+pub mod Paths
+pub mod Holding
+pub mod Counting

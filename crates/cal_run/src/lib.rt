@@ -7,6 +7,7 @@
 
 mod boards;
 mod closing;
+mod counting;
 mod end;
 mod filling;
 mod finding;
@@ -23,6 +24,9 @@ mod noting;
 mod numbers;
 mod operation;
 mod order;
+mod outline;
+mod paths;
+mod placed;
 mod placing;
 mod plain;
 mod probes;
@@ -36,10 +40,12 @@ mod steps;
 mod thread;
 mod watch;
 
+pub use counting::count_snapshots;
 pub use end::CoreEnd;
 pub use lawful::check_journal;
-pub use laws::{first_broken_law, lawful_journal_law, plain_journal_law};
+pub use laws::{first_broken_law, lawful_journal_law, own_board_law, plain_journal_law};
 pub use numbers::{EventNumbers, Numbers};
 pub use operation::{Operation, operation_of};
+pub use paths::count_nodes;
 pub use plain::plain_journal;
 pub use run::take_channel;

@@ -17,10 +17,10 @@ use crate::boards::operate;
 use crate::filling::fill;
 use crate::lines::{attr_ref, is_process_line, takes};
 use crate::moment::Moment;
+use crate::steps::{self, reply_to_line};
 use crate::thread::Thread;
 use crate::{Numbers, operation_of};
-use cal_board::{Board, BoardReply};
-use cal_context::{Context, NodeNumber, Snapshot, Taker};
+use cal_context::{Context, Snapshot, Taker};
 use cal_script::{Channel, Line, LineNote, Placed, Script};
 use cal_value::OutOfMemory;
 use std::alloc::Global;
@@ -84,18 +84,9 @@ fn is_accepted(script: &Script, line: Line, shared: bool, thread: &Thread) -> bo
         (if shared then thread.now.process.board else thread.now.board) line) }
 {
     if shared {
-        is_accepted_on(script, line, &thread.process.board)
+        steps::is_accepted(reply_to_line(script, line, &thread.process.board))
     } else {
-        is_accepted_on(script, line, &thread.board)
-    }
-}
-
-fn is_accepted_on(script: &Script, line: Line, board: &Board<NodeNumber>) -> bool
-    ensures { result ≡ is_accepted (reply_to_line script.now board.now line) }
-{
-    match operation_of(line) {
-        Some(op) => board.check(op.code, attr_ref(script, op.attr)) == BoardReply::Done,
-        None => !matches!(line, Line::Flush { .. }),
+        steps::is_accepted(reply_to_line(script, line, &thread.board))
     }
 }
 

@@ -1,6 +1,7 @@
-ghost use Rattle.std.specs.Prelude.{◌≡◌, [], slice_get, slice_index_or};
+ghost use Rattle.std.specs.Prelude.{◌≡◌, ℕ, ◌<◌, ◌≤◌, [], false, length, slice_get, slice_index_or};
 ghost use Rattle.cal_run.specs.Lines.{attr_ref, attribute_of, is_event, is_process_line};
 ghost use Rattle.cal_run.specs.Lines.{is_shared, is_such, line_at, operation_of, takes};
+ghost use Rattle.cal_script.specs.declared.script.Line as script_lines;
 
 use crate::{Operation, operation_of};
 use cal_board::AttrRef;
@@ -63,6 +64,21 @@ pub fn takes(script: &Script, channel: &Channel, line: Line) -> bool
         Line::Snapshot => true,
         _ => channel.event && is_event(script, line),
     }
+}
+
+/// How many lines there are up to the last on which a channel may take a snapshot.
+pub(crate) fn lines_to_run(script: &Script, channel: &Channel, lines: &[Line]) -> usize
+    ensures within { result ≤ length lines.now }
+    ensures behind { (place : ℕ) (l : script_lines.Line) → result ≤ place → place < length lines.now
+        → takes script.now channel.now (slice_index_or lines.now place l) ≡ false }
+{
+    for back in 0..lines.len() {
+        let place = lines.len() - 1 - back;
+        if takes(script, channel, lines[place]) {
+            return place + 1;
+        }
+    }
+    0
 }
 
 /// The line that is placed, by its thread and its number.

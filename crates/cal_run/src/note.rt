@@ -5,7 +5,7 @@ ghost use Rattle.cal_run.specs.Steps.{reply_to_line};
 
 use crate::lines::is_process_line;
 use crate::noting::Plain;
-use crate::process::Process;
+use crate::placed::PlacedProcess;
 use crate::steps::{is_accepted, is_read, is_taken, reply_to_line};
 use cal_script::{Line, LineNote, Reply, Script};
 
@@ -14,7 +14,7 @@ pub(crate) fn found_reply(
     script: &Script,
     line: Line,
     thread: &Plain,
-    process: &Process,
+    process: &PlacedProcess,
 ) -> Option<Reply>
     ensures { result ≡ reply_to_line script.now (if is_process_line script.now line
         then process.now.board else thread.now.board) line }
@@ -32,7 +32,7 @@ pub(crate) fn note_of(
     line: Line,
     reply: Option<Reply>,
     thread: &Plain,
-    process: &Process,
+    process: &PlacedProcess,
 ) -> LineNote
     requires { process.now.count < 18446744073709551615 }
     ensures { result ≡ noted script.now process.now.count thread.now.seen thread.now.clock line
@@ -52,6 +52,8 @@ fn seen_with(script: &Script, line: Line, reply: Option<Reply>, before: u64, see
 {
     if is_process_line(script, line) {
         before + 1
+    } else if before == seen {
+        seen
     } else if is_taken(script, line, is_accepted(reply)) {
         before
     } else {

@@ -1,36 +1,33 @@
 ghost use Rattle.std.specs.Prelude.{◌≡◌, ◌+◌, ◌<◌, ◌≤◌, true, length, All, IfOk, OnOk};
 ghost use Rattle.std.specs.Prelude.{◌&&◌, not, if◌then◌else◌};
 ghost use Rattle.cal_board.specs.Blackboard.{nothing_open};
-ghost use Rattle.cal_context.specs.Tree.{Grows};
 ghost use Rattle.cal_run.specs.Adding.{MayHavePlaces};
-ghost use Rattle.cal_run.specs.Held.{HoldsSome, HoldsThen, IsProcess};
 ghost use Rattle.cal_run.specs.History.{board_placed};
 ghost use Rattle.cal_run.specs.Lawful.{process_lines};
 ghost use Rattle.cal_run.specs.Lines.{clock_after, is_process_line, operation_of};
-ghost use Rattle.cal_run.specs.Noting.{IsNoted, IsPlain, IsSomePlain, before_after};
-ghost use Rattle.cal_run.specs.Numbers.{AreNumbered};
+ghost use Rattle.cal_run.specs.Noting.{HoldsPlaced, IsNoted, IsPlain, IsSomePlain, OutlinesSome};
+ghost use Rattle.cal_run.specs.Noting.{OutlinesThen, before_after};
 ghost use Rattle.cal_run.specs.Plain.{notes_from, plain_history};
 ghost use Rattle.cal_run.specs.Steps.{ThreadState, at_start};
 ghost use Rattle.cal_valid.specs.Valid.{IsPlaced, IsRunnable};
 
-use crate::boards::operate;
 use crate::lines::is_process_line;
 use crate::note::{found_reply, note_of};
+use crate::operation_of;
+use crate::outline::{Nothing, operate_outline};
+use crate::placed::PlacedProcess;
 use crate::placing::line_in;
-use crate::process::Process;
 use crate::steps::{clock_after, is_accepted};
-use crate::{Numbers, operation_of};
 use cal_board::Board;
-use cal_context::{Context, NodeNumber};
 use cal_script::{Line, LineNote, Placed, Script};
 use cal_value::{OutOfMemory, Seq};
 use std::alloc::Global;
 
-/// What is kept of a thread between two lines while they are noted: its board, its clock, and how
-/// many operations it has seen.
+/// What is kept of a thread between two lines while they are noted: the outline of its board, its
+/// clock, and how many operations it has seen.
 #[derive(Drop)]
 pub(crate) struct Plain {
-    pub board: Board<NodeNumber>,
+    pub board: Board<Nothing>,
     pub clock: u64,
     pub seen: u64,
 }
@@ -54,41 +51,28 @@ impl Plain {
 pub(crate) fn note_lines(
     alloc: Global,
     script: &Script,
-    numbers: &Numbers,
     history: &[Placed],
     lines: &[Line],
-    process: &mut Process,
-    context: &mut Context,
+    process: &mut PlacedProcess,
 ) -> Result<Seq<LineNote>, OutOfMemory>
     requires runnable { IsRunnable script.now }
-    requires numbered { AreNumbered context.old script.now numbers.now }
     requires placed { All (IsPlaced script.now.attributes script.now.channels script.now.values)
         lines.now }
     requires history { history.now ≡ plain_history script.now }
-    requires process { IsProcess context.old script.now history.now process.old }
+    requires process { HoldsPlaced script.now history.now process.old }
     requires room { process.old.count + length (process_lines script.now lines.now)
         ≤ length history.now }
     ensures noted { IfOk result (λ notes.
         notes ≡ notes_from script.now process.old.count 0 at_start lines.now) }
-    ensures process { OnOk result (IsProcess context.new script.now history.now process.new) }
+    ensures process { OnOk result (HoldsPlaced script.now history.now process.new) }
     ensures count { OnOk result (process.new.count
         ≡ process.old.count + length (process_lines script.now lines.now)) }
-    ensures grows { Grows context.old context.new }
 {
     let mut thread = Plain::new(alloc);
     let mut notes = Seq::new(alloc);
     for place in 0..lines.len() {
         let line = line_in(lines, place);
-        let note = note_line(
-            alloc,
-            script,
-            numbers,
-            history,
-            line,
-            &mut thread,
-            process,
-            context,
-        )?;
+        let note = note_line(alloc, script, history, line, &mut thread, process)?;
         notes.push(note)?;
     }
     Ok(notes)
@@ -98,37 +82,31 @@ pub(crate) fn note_lines(
 fn note_line(
     alloc: Global,
     script: &Script,
-    numbers: &Numbers,
     history: &[Placed],
     line: Line,
     thread: &mut Plain,
-    process: &mut Process,
-    context: &mut Context,
+    process: &mut PlacedProcess,
 ) -> Result<LineNote, OutOfMemory>
     requires runnable { IsRunnable script.now }
-    requires numbered { AreNumbered context.old script.now numbers.now }
     requires placed { IsPlaced script.now.attributes script.now.channels script.now.values line }
     requires history { history.now ≡ plain_history script.now }
-    requires process { IsProcess context.old script.now history.now process.old }
-    requires thread { IsSomePlain context.old script.now thread.old }
+    requires process { HoldsPlaced script.now history.now process.old }
+    requires thread { IsSomePlain thread.old }
     requires room { is_process_line script.now line ≡ true
         → process.old.count < length history.now }
     ensures noted { IfOk result (λ note. (state : ThreadState)
-        → IsPlain context.old script.now thread.old state
-        → IsNoted context.new script.now process.old.count thread.old.seen line note thread.new
+        → IsPlain thread.old state
+        → IsNoted script.now process.old.count thread.old.seen line note thread.new
         state) }
-    ensures process { OnOk result (IsProcess context.new script.now history.now process.new) }
+    ensures process { OnOk result (HoldsPlaced script.now history.now process.new) }
     ensures count { OnOk result (process.new.count
         ≡ before_after script.now process.old.count line) }
-    ensures grows { Grows context.old context.new }
 {
     let reply = found_reply(script, line, thread, process);
     let note = note_of(script, line, reply, thread, process);
     thread.seen = note.seen;
     let accepted = is_accepted(reply);
-    follow(
-        alloc, script, numbers, history, line, accepted, thread, process, context,
-    )?;
+    follow(alloc, script, history, line, accepted, thread, process)?;
     Ok(note)
 }
 
@@ -137,63 +115,53 @@ fn note_line(
 fn follow(
     alloc: Global,
     script: &Script,
-    numbers: &Numbers,
     history: &[Placed],
     line: Line,
     accepted: bool,
     thread: &mut Plain,
-    process: &mut Process,
-    context: &mut Context,
+    process: &mut PlacedProcess,
 ) -> Result<(), OutOfMemory>
     requires runnable { IsRunnable script.now }
-    requires numbered { AreNumbered context.old script.now numbers.now }
     requires places { MayHavePlaces script.now (operation_of line) }
-    requires process { IsProcess context.old script.now history.now process.old }
-    requires holds { HoldsSome context.old script.now thread.old.board }
+    requires process { HoldsPlaced script.now history.now process.old }
+    requires outlines { OutlinesSome thread.old.board }
     requires room { is_process_line script.now line ≡ true
         → process.old.count < length history.now }
-    ensures board { OnOk result (HoldsThen context.old context.new script.now
-        thread.old.board thread.new.board
+    ensures board { OnOk result (OutlinesThen thread.old.board thread.new.board
         (λ b. if accepted && not (is_process_line script.now line)
         then board_placed script.now b (operation_of line) else b)) }
     ensures clock { OnOk result (thread.new.clock
         ≡ (if accepted && not (is_process_line script.now line)
         then clock_after thread.old.clock line else thread.old.clock)) }
     ensures seen { OnOk result (thread.new.seen ≡ thread.old.seen) }
-    ensures process { OnOk result (IsProcess context.new script.now history.now process.new) }
+    ensures process { OnOk result (HoldsPlaced script.now history.now process.new) }
     ensures count { OnOk result (process.new.count
         ≡ before_after script.now process.old.count line) }
-    ensures grows { Grows context.old context.new }
 {
     if is_process_line(script, line) {
-        let seen = process.count + 1;
-        process.take_in(alloc, script, numbers, history, seen, context)
+        process.take_next(alloc, script, history)
     } else if accepted {
         thread.clock = clock_after(thread.clock, line);
-        change(alloc, script, numbers, line, &mut thread.board, context)
+        change(alloc, script, line, &mut thread.board)
     } else {
         Ok(())
     }
 }
 
-/// Does to a board what a line does.
+/// Does to the outline of a board what a line does.
 fn change(
     alloc: Global,
     script: &Script,
-    numbers: &Numbers,
     line: Line,
-    board: &mut Board<NodeNumber>,
-    context: &mut Context,
+    board: &mut Board<Nothing>,
 ) -> Result<(), OutOfMemory>
-    requires numbered { AreNumbered context.old script.now numbers.now }
     requires places { MayHavePlaces script.now (operation_of line) }
-    requires holds { HoldsSome context.old script.now board.old }
-    ensures changed { OnOk result (HoldsThen context.old context.new script.now board.old board.new
+    requires outlines { OutlinesSome board.old }
+    ensures changed { OnOk result (OutlinesThen board.old board.new
         (λ b. board_placed script.now b (operation_of line))) }
-    ensures grows { Grows context.old context.new }
 {
     match operation_of(line) {
         None => Ok(()),
-        Some(op) => operate(alloc, script, numbers, op, board, context),
+        Some(op) => operate_outline(alloc, script, op, board),
     }
 }

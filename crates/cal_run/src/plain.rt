@@ -1,15 +1,12 @@
 ghost use Rattle.std.specs.Prelude.{◌≡◌, IfOk, Some, None, if◌then◌else◌};
 ghost use Rattle.cal_run.specs.Lawful.{takes_start_reading};
-ghost use Rattle.cal_run.specs.Numbers.{AreNumbered};
 ghost use Rattle.cal_run.specs.Plain.{plain, plain_history, threads_from};
 ghost use Rattle.cal_valid.specs.Valid.{IsRunnable};
 
-use crate::Numbers;
 use crate::noting::note_lines;
+use crate::placed::PlacedProcess;
 use crate::placing::{lines_of_thread, plain_history};
-use crate::process::Process;
 use crate::steps::takes_start_reading;
-use cal_context::Context;
 use cal_script::{Journal, Placed, Script, ThreadNote};
 use cal_value::{OutOfMemory, Seq};
 use std::alloc::Global;
@@ -20,10 +17,8 @@ pub fn plain_journal(alloc: Global, script: &Script) -> Result<Journal, OutOfMem
     requires runnable { IsRunnable script.now }
     ensures plain { IfOk result (λ journal. journal ≡ plain script.now) }
 {
-    let mut context = Context::new(alloc);
-    let numbers = Numbers::of(alloc, script, &mut context)?;
     let ops = plain_history(alloc, script)?;
-    let threads = note_threads(alloc, script, &numbers, ops.as_slice(), &mut context)?;
+    let threads = note_threads(alloc, script, ops.as_slice())?;
     Ok(Journal {
         real: false,
         ops,
@@ -35,29 +30,18 @@ pub fn plain_journal(alloc: Global, script: &Script) -> Result<Journal, OutOfMem
 fn note_threads(
     alloc: Global,
     script: &Script,
-    numbers: &Numbers,
     history: &[Placed],
-    context: &mut Context,
 ) -> Result<Seq<ThreadNote>, OutOfMemory>
     requires runnable { IsRunnable script.now }
-    requires numbered { AreNumbered context.old script.now numbers.now }
     requires history { history.now ≡ plain_history script.now }
     ensures { IfOk result (λ notes. notes ≡ threads_from script.now 0 script.now.threads) }
 {
     let start = start_reading(script);
-    let mut process = Process::new(alloc);
+    let mut process = PlacedProcess::new(alloc);
     let mut notes = Seq::new(alloc);
     for number in 0..script.threads.len() {
         let lines = lines_of_thread(script, number);
-        let noted = note_lines(
-            alloc,
-            script,
-            numbers,
-            history,
-            lines,
-            &mut process,
-            context,
-        )?;
+        let noted = note_lines(alloc, script, history, lines, &mut process)?;
         notes.push(ThreadNote {
             start,
             lines: noted,

@@ -64,7 +64,7 @@ impl Process {
 }
 
 /// What is placed there.
-fn placed_at(history: &[Placed], place: usize) -> Placed
+pub(crate) fn placed_at(history: &[Placed], place: usize) -> Placed
     requires { place < length history.now }
     ensures { (d : places.Placed) → result ≡ slice_index_or history.now place d }
 {
@@ -94,7 +94,7 @@ fn place_on(
 }
 
 /// The operation that is placed.
-fn placed_operation(script: &Script, placed: Placed) -> Option<Operation>
+pub(crate) fn placed_operation(script: &Script, placed: Placed) -> Option<Operation>
     ensures { result ≡ placed_operation script.now placed }
 {
     operation_of(line_at(script, placed)?)

@@ -10,6 +10,7 @@ ghost use Rattle.cal_valid.specs.Valid.{IsPlaced, IsRunnable};
 
 use crate::Numbers;
 use crate::line::run_line;
+use crate::lines::lines_to_run;
 use crate::thread::Thread;
 use cal_context::{Context, Snapshot, Taker};
 use cal_script::{Channel, Journal, Line, LineNote, Placed, Script, ThreadNote};
@@ -60,7 +61,8 @@ pub fn take_channel<T: Taker>(
     Ok(())
 }
 
-/// Hands what a channel takes of a thread to a taker.
+/// Hands what a channel takes of a thread to a taker. Lines behind the last on which it may take a
+/// snapshot aren't run.
 fn take_thread<T: Taker>(
     alloc: Global,
     script: &Script,
@@ -88,7 +90,7 @@ fn take_thread<T: Taker>(
     let start = note.start.unwrap_or(0);
     let notes = note.lines.as_slice();
     let mut thread = Thread::new(alloc, start);
-    for place in 0..lines.len() {
+    for place in 0..lines_to_run(script, channel, lines) {
         let (line, note) = noted_at(lines, notes, place);
         run_line(
             alloc,

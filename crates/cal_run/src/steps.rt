@@ -7,12 +7,11 @@ ghost use Rattle.cal_run.specs.Steps.{as_reply, is_accepted, reply_to_line};
 
 use crate::lines::{attr_ref, takes};
 use cal_board::{Board, BoardReply};
-use cal_context::NodeNumber;
 use cal_script::{Line, Reply, Script};
 use cal_words::OpCode;
 
 /// The reply to a line, by the board that it acts on. That to a flush is none.
-pub(crate) fn reply_to_line(script: &Script, line: Line, board: &Board<NodeNumber>) -> Option<Reply>
+pub(crate) fn reply_to_line<N>(script: &Script, line: Line, board: &Board<N>) -> Option<Reply>
     ensures { result ≡ reply_to_line script.now board.now line }
 {
     match line {
@@ -24,7 +23,7 @@ pub(crate) fn reply_to_line(script: &Script, line: Line, board: &Board<NodeNumbe
     }
 }
 
-fn reply_on(script: &Script, code: OpCode, attr: u32, board: &Board<NodeNumber>) -> Reply
+fn reply_on<N>(script: &Script, code: OpCode, attr: u32, board: &Board<N>) -> Reply
     ensures { result ≡ as_reply (reply_to board.now code (attr_ref script.now attr)) }
 {
     as_reply(board.check(code, attr_ref(script, attr)))

@@ -1,6 +1,4 @@
 use Rattle.std.proofs.Common.{◌+◌, ◌++◌, drop, length, ap, subst, sym, refl, ◌∙◌}
-use Rattle.cal_context.proofs.CallerLemmas.{Grows-refl, Grows-trans}
-use Rattle.cal_run.proofs.NumberLemmas.{AreNumbered-Grows}
 use Rattle.cal_run.proofs.PlainLemmas.{count-drop, count-end, notes-drop, notes-end, room-left}
 use Rattle.cal_run.proofs.PlainLemmas.{start-plain}
 use Rattle.cal_run.specs.Lawful.{process_lines}
@@ -14,13 +12,11 @@ loop-place-init c =
     let script = c.args.script.now in
     let start = c.new-thread.ensures in
     record {
-      numbered = c.requires.numbered;
-      grows = Grows-refl _;
       process = c.requires.process;
       count = refl;
       so_far = (
         at_start,
-        start-plain c.args.context.now script c.new-thread.result start.board start.clock,
+        start-plain c.new-thread.result start.board start.clock,
         (λ j. c.new-notes.ensures j ++ notes_from script c.args.process.now.count (start.seen j)
             at_start c.args.lines.now),
       );
@@ -59,8 +55,6 @@ loop-place-preserved c =
     let noted = step.noted state old.so_far.1 in
     let after = state_after script (plain_history script) l note state in
     record {
-      numbered = AreNumbered-Grows step.grows script c.args.numbers.now old.numbered;
-      grows = Grows-trans _ _ _ old.grows step.grows;
       process = step.process;
       count = ap (λ n. n + length (process_lines script (drop (i + 1) lines))) step.count
           ∙ count-drop script c.loop-place.process.count lines i l c.loop-place-test.true

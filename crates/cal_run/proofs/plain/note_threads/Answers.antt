@@ -1,7 +1,5 @@
 use Rattle.std.proofs.Common.{◌+◌, ◌<◌, ◌≤◌, ◌++◌, drop, length, ap, subst, sym, ◌∙◌, arith}
 use Rattle.std.specs.List.{All}
-use Rattle.cal_context.proofs.CallerLemmas.{Grows-refl, Grows-trans}
-use Rattle.cal_run.proofs.NumberLemmas.{AreNumbered-Grows}
 use Rattle.cal_run.proofs.PlainLemmas.{history-long, start-process, threads-drop, threads-end}
 use Rattle.cal_run.proofs.PlainLemmas.{total-next, total-room}
 use Rattle.cal_run.specs.Plain.{plain_history, threads_from}
@@ -14,10 +12,8 @@ loop-number-init c =
     let start = c.new-process.ensures in
     let long = history-long script 0 script.threads in
     record {
-      numbered = c.requires.numbered;
-      grows = Grows-refl _;
-      process = start-process c.args.context.now script c.args.history.now c.new-process.result
-          start.board start.count;
+      process = start-process script c.args.history.now c.new-process.result start.board
+          start.count;
       count = (let none = start.count in omega (arith, none, long));
       so_far = (λ j. c.new-notes.ensures j ++ threads_from script (start.count j) script.threads);
     }
@@ -52,8 +48,6 @@ loop-number-preserved c =
     let below : i < length script.threads = omega arith in
     let step = c.in_ok-noted.ensures in
     record {
-      numbered = AreNumbered-Grows step.grows script c.args.numbers.now old.numbered;
-      grows = Grows-trans _ _ _ old.grows step.grows;
       process = step.process;
       count = total-next script c.loop-number.process.count c.note_lines.new.process.count
           (length (plain_history script))

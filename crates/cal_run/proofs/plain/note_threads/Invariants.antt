@@ -1,7 +1,5 @@
 use Rattle.std.proofs.Common.{◌≡◌, ◌+◌, ◌++◌, drop, length}
-use Rattle.cal_context.specs.Tree.{Grows}
-use Rattle.cal_run.specs.Held.{IsProcess}
-use Rattle.cal_run.specs.Numbers.{AreNumbered}
+use Rattle.cal_run.specs.Noting.{HoldsPlaced}
 use Rattle.cal_run.specs.Plain.{plain_history, threads_from}
 use Rattle.cal_run.proofs.PlainLemmas.{total}
 use Rattle.cal_run.proofs.plain.note_threads.Given as goal
@@ -10,9 +8,7 @@ use Rattle.cal_run.proofs.plain.note_threads.Given as goal
 -- make all notes whole.
 abbrev pub invariant-loop-number : goal.invariant-loop-number
 invariant-loop-number l = record {
-  numbered : AreNumbered l.context l.script l.numbers;
-  grows : Grows l.fn.context l.context;
-  process : IsProcess l.context l.script l.history l.process;
+  process : HoldsPlaced l.script l.history l.process;
   count : l.process.count + total l.script (drop l.number l.script.threads)
       ≡ length (plain_history l.script);
   so_far : l.notes ++ threads_from l.script l.process.count (drop l.number l.script.threads)

@@ -1,4 +1,5 @@
-use Rattle.std.proofs.Common.{[], ◌++◌, get_or, ap, subst, sym, refl, ◌∙◌, append-nil, arith}
+use Rattle.std.proofs.Common.{[], ◌<◌, ◌++◌, length, get_or, ap, subst, sym, refl, ◌∙◌}
+use Rattle.std.proofs.Common.{append-nil, arith}
 use Rattle.std.specs.Prelude.{unwrap_or}
 use Rattle.cal_context.proofs.CallerLemmas.{Grows-refl, Grows-trans, TakesMore-trans}
 use Rattle.cal_run.proofs.LineLemmas.{start-thread}
@@ -41,7 +42,8 @@ run_line-requires-clause-can g c =
     let order = order-drop script history c.args.lines.now c.args.note.now.lines c.loop-place.place
     l n (c.noted_at-line.ensures.line l)
     (c.noted_at-line.ensures.note n
-    ∙ ap (λ ns. get_or ns c.loop-place.place n) c.as_slice-notes.ensures) c.loop-place-test.true
+    ∙ ap (λ ns. get_or ns c.loop-place.place n) c.as_slice-notes.ensures)
+    (omega (arith, c.loop-place-test.true, c.lines_to_run-place-end.ensures.within))
     c.requires.noted so_far.2 so_far.6 in
     can_run script history c.loop-place.thread so_far.2 l n so_far.5 order.0
 
@@ -51,7 +53,8 @@ run_line-requires-clause-placed g c =
     let l = c.noted_at-line.result.0 in
     subst (IsPlaced script.attributes script.channels script.values)
     (sym (c.noted_at-line.ensures.line l))
-    (c.requires.placed c.loop-place.place l c.loop-place-test.true)
+    (c.requires.placed c.loop-place.place l
+    (omega (arith, c.loop-place-test.true, c.lines_to_run-place-end.ensures.within)))
 
 pub returns-in_err-run_line-clause-grows : goal.returns-in_err-run_line-clause-grows
 returns-in_err-run_line-clause-grows g c =
@@ -70,8 +73,10 @@ loop-place-preserved g c =
     let n = c.noted_at-line.result.1 in
     let line = c.noted_at-line.ensures.line l in
     let note = c.noted_at-line.ensures.note n ∙ ap (λ ns. get_or ns i n) c.as_slice-notes.ensures in
+    let below : i < length c.args.lines.now =
+    omega (arith, c.loop-place-test.true, c.lines_to_run-place-end.ensures.within) in
     let order = order-drop script history c.args.lines.now c.args.note.now.lines i l n line note
-    c.loop-place-test.true c.requires.noted
+    below c.requires.noted
     so_far.2 so_far.6 in
     let runs = c.in_ok-run_line.ensures.runs state previous so_far.4 in
     let grows = c.run_line.ensures.grows in
@@ -92,7 +97,7 @@ loop-place-preserved g c =
             (has_taken c.loop-place.taker c.loop-place.context)
             (has_taken c.run_line.new.taker c.run_line.new.context) so_far.3 _ so_far.7 runs.taken,
         taken_from-drop script history c.args.lines.now c.args.note.now.lines i l n line note
-            c.loop-place-test.true c.requires.noted
+            below c.requires.noted
             c.args.channel.now state previous so_far.3 _ so_far.8,
       );
     }
@@ -105,4 +110,6 @@ returns-clause-taken g c =
     c.loop-place.place c.args.channel.now
     so_far.0 so_far.1 (has_taken c.args.taker.now c.args.context.now)
     (has_taken c.loop-place.taker c.loop-place.context) so_far.3 _
-    c.loop-place-test.false so_far.8 so_far.7
+    (λ k d past. c.lines_to_run-place-end.ensures.behind k d
+    (omega (arith, past, c.loop-place-test.false)))
+    so_far.8 so_far.7

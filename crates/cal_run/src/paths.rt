@@ -1,0 +1,206 @@
+ghost use Rattle.std.specs.Prelude.{◌≡◌, [], flat_map, map, All, IfOk, OnOk};
+ghost use Rattle.cal_board.specs.Blackboard.{Blackboard};
+ghost use Rattle.cal_context.specs.Snapshots.{IsBelowRoot};
+ghost use Rattle.cal_context.specs.Tree.{Grows, path_at};
+ghost use Rattle.cal_run.specs.Adding.{MayHavePlaces};
+ghost use Rattle.cal_run.specs.Held.{Holds, HoldsSome, HoldsThen};
+ghost use Rattle.cal_run.specs.History.{board_placed};
+ghost use Rattle.cal_run.specs.Holding.{HoldsPaths};
+ghost use Rattle.cal_run.specs.Numbers.{AreNumbered};
+ghost use Rattle.cal_run.specs.Paths.{held_behind, held_by_process, held_by_thread, nodes};
+ghost use Rattle.cal_run.specs.Paths.{own_operation, paths_of};
+ghost use Rattle.cal_valid.specs.Valid.{IsPlaced, IsRunnable};
+ghost use Rattle.cal_value.specs.declared.variant.Variant as variants;
+
+use crate::boards::operate;
+use crate::lines::is_process_line;
+use crate::placing::{line_in, lines_of_thread};
+use crate::process::{placed_at, placed_operation};
+use crate::{Numbers, Operation, operation_of};
+use cal_board::Board;
+use cal_context::{Context, Interner, NodeNumber};
+use cal_script::{Journal, Line, Placed, Script};
+use cal_value::OutOfMemory;
+use std::alloc::Global;
+
+/// The nodes whose paths boards held so far, each once.
+#[derive(Drop)]
+pub(crate) struct HeldNodes {
+    nodes: Interner<NodeNumber>,
+    /// Room for the nodes of a board.
+    room: Vec<NodeNumber>,
+}
+
+/// How many different paths the boards of the threads and of the process hold in a run, which are
+/// the nodes of its context tree. It takes time in the lines, and for each in the slots in use.
+pub fn count_nodes(alloc: Global, script: &Script, journal: &Journal) -> Result<usize, OutOfMemory>
+    requires { IsRunnable script.now }
+    ensures { IfOk result (λ count. count ≡ nodes script.now journal.now) }
+{
+    let mut context = Context::new(alloc);
+    let numbers = Numbers::of(alloc, script, &mut context)?;
+    let mut held = HeldNodes::new(alloc);
+    hold_threads(alloc, script, &numbers, &mut context, &mut held)?;
+    let history = journal.ops.as_slice();
+    hold_process(alloc, script, &numbers, history, &mut context, &mut held)?;
+    context.has_each_once();
+    Ok(held.nodes.as_slice().len())
+}
+
+/// Adds what the boards of the threads hold.
+fn hold_threads(
+    alloc: Global,
+    script: &Script,
+    numbers: &Numbers,
+    context: &mut Context,
+    held: &mut HeldNodes,
+) -> Result<(), OutOfMemory>
+    requires runnable { IsRunnable script.now }
+    requires numbered { AreNumbered context.old script.now numbers.now }
+    ensures held { OnOk result (HoldsPaths context.old context.new held.old.nodes held.new.nodes
+        (flat_map (held_by_thread script.now) script.now.threads)) }
+    ensures grows { Grows context.old context.new }
+{
+    for number in 0..script.threads.len() {
+        let lines = lines_of_thread(script, number);
+        hold_thread(alloc, script, numbers, lines, context, held)?;
+    }
+    Ok(())
+}
+
+/// Adds what the board of a thread holds.
+fn hold_thread(
+    alloc: Global,
+    script: &Script,
+    numbers: &Numbers,
+    lines: &[Line],
+    context: &mut Context,
+    held: &mut HeldNodes,
+) -> Result<(), OutOfMemory>
+    requires numbered { AreNumbered context.old script.now numbers.now }
+    requires placed { All (IsPlaced script.now.attributes script.now.channels script.now.values)
+        lines.now }
+    ensures held { OnOk result (HoldsPaths context.old context.new held.old.nodes held.new.nodes
+        (held_by_thread script.now lines.now)) }
+    ensures grows { Grows context.old context.new }
+{
+    let mut board = Board::new(alloc);
+    for place in 0..lines.len() {
+        let op = own_operation(script, line_in(lines, place));
+        hold_behind(alloc, script, numbers, op, &mut board, context, held)?;
+    }
+    Ok(())
+}
+
+/// Adds what the process's board holds behind each operation of a history.
+fn hold_process(
+    alloc: Global,
+    script: &Script,
+    numbers: &Numbers,
+    history: &[Placed],
+    context: &mut Context,
+    held: &mut HeldNodes,
+) -> Result<(), OutOfMemory>
+    requires runnable { IsRunnable script.now }
+    requires numbered { AreNumbered context.old script.now numbers.now }
+    ensures held { OnOk result (HoldsPaths context.old context.new held.old.nodes held.new.nodes
+        (held_by_process script.now history.now)) }
+    ensures grows { Grows context.old context.new }
+{
+    let mut board = Board::new(alloc);
+    for place in 0..history.len() {
+        let op = placed_operation(script, placed_at(history, place));
+        hold_behind(alloc, script, numbers, op, &mut board, context, held)?;
+    }
+    Ok(())
+}
+
+/// What a line does to its thread's own board.
+fn own_operation(script: &Script, line: Line) -> Option<Operation>
+    ensures { result ≡ own_operation script.now line }
+{
+    if is_process_line(script, line) {
+        None
+    } else {
+        operation_of(line)
+    }
+}
+
+/// Does an operation to a board, if there is one, and adds what the board holds behind it.
+fn hold_behind(
+    alloc: Global,
+    script: &Script,
+    numbers: &Numbers,
+    op: Option<Operation>,
+    board: &mut Board<NodeNumber>,
+    context: &mut Context,
+    held: &mut HeldNodes,
+) -> Result<(), OutOfMemory>
+    requires numbered { AreNumbered context.old script.now numbers.now }
+    requires places { MayHavePlaces script.now op }
+    requires holds { HoldsSome context.old script.now board.old }
+    ensures changed { OnOk result (HoldsThen context.old context.new script.now board.old board.new
+        (λ b. board_placed script.now b op)) }
+    ensures held { OnOk result ((b : Blackboard variants.Variant)
+        → Holds context.old script.now board.old b → HoldsPaths context.old context.new
+        held.old.nodes held.new.nodes (held_behind script.now b op)) }
+    ensures grows { Grows context.old context.new }
+{
+    match op {
+        None => Ok(()),
+        Some(op) => {
+            operate(alloc, script, numbers, op, board, context)?;
+            held.add_board(script, numbers, board, context)
+        }
+    }
+}
+
+impl HeldNodes {
+    fn new(alloc: Global) -> Self
+        ensures { result.nodes ≡ [] }
+    {
+        HeldNodes {
+            nodes: Interner::new(alloc),
+            room: Vec::new(alloc),
+        }
+    }
+
+    /// Adds what a board holds.
+    fn add_board(
+        &mut self,
+        script: &Script,
+        numbers: &Numbers,
+        board: &Board<NodeNumber>,
+        context: &Context,
+    ) -> Result<(), OutOfMemory>
+        requires numbered { AreNumbered context.now script.now numbers.now }
+        requires holds { HoldsSome context.now script.now board.now }
+        ensures { OnOk result ((b : Blackboard variants.Variant)
+            → Holds context.now script.now board.now b → HoldsPaths context.now context.now
+            self.old.nodes self.new.nodes (paths_of script.now b)) }
+    {
+        let _ = script;
+        let _ = numbers;
+        board.has_few_slots();
+        self.room.clear();
+        board.refs(&mut self.room)?;
+        add_nodes(context, &self.room, &mut self.nodes)
+    }
+}
+
+/// Adds nodes to those that are there.
+fn add_nodes(
+    context: &Context,
+    nodes: &[NodeNumber],
+    held: &mut Interner<NodeNumber>,
+) -> Result<(), OutOfMemory>
+    requires { All (IsBelowRoot context.now) nodes.now }
+    ensures { OnOk result (HoldsPaths context.now context.now held.old held.new
+        (map (path_at context.now) nodes.now)) }
+{
+    let _ = context;
+    for node in nodes {
+        held.intern(*node)?;
+    }
+    Ok(())
+}
