@@ -3,3 +3,4 @@ pub mod Seen
 pub mod Showing
 pub mod Filling
 pub mod Placing
+pub mod Rooms

@@ -1,7 +1,8 @@
 -- The cells of a row in the columns of an answer.
-use Rattle.std.proofs.Common.{◌≡◌, ℕ, ◌+◌, ◌<◌, ◌≤◌, Bool, true, false, cond, List, [], ◌∷◌, ◌++◌, ◌⊎◌, inl, inr, Option, None, Some, length, get_or, slice_get, refl, sym, ap, ◌∙◌, subst, arith}
+use Rattle.std.proofs.Common.{◌≡◌, ℕ, ◌+◌, ◌<◌, ◌≤◌, true, List, [], ◌∷◌, ◌++◌, ◌⊎◌, inl, inr, Option, None, Some, is_none, length, get_or, refl, sym, ap, ◌∙◌, subst, arith}
 use Rattle.std.proofs.lemmas.Bool.{cases_lt, cond-true, cond-false}
 use Rattle.std.proofs.lemmas.List.{get_or_append_left, get_or_push}
+use Rattle.std.proofs.lemmas.List.Folds.{list_any_at}
 use Rattle.std.proofs.lemmas.Option.{get_or_from_slice_get, slice_get_within}
 use Rattle.cal_value.specs.Flat.{flat}
 use Rattle.cal_value.specs.declared.attribute.Entry.{Entry}
@@ -15,7 +16,6 @@ use Rattle.cal_rowset.specs.Hierarchy.{hierarchy}
 use Rattle.cal_rowset.specs.Known.{is_known, known_entries}
 use Rattle.cal_rowset.specs.Showing.{IsFor, IsPlaceOf, ShowsRow, cell_for, nth_column}
 use Rattle.cal_rowset.specs.Texts.{is_same}
-use Rattle.cal_rowset.specs.declared.cell.Cell.{Cell}
 use Rattle.cal_rowset.specs.declared.rowset.Column.{Column}
 use Rattle.cal_rowset.specs.declared.shown_row.ShownRow.{ShownRow}
 use Rattle.cal_rowset.proofs.Knowing.{known_at}
@@ -53,9 +53,9 @@ values_with-known names name known (e ∷ es) =
     ]
 
 -- the cell of a place shows what the name shows of the row
-pub place_shows : (s : ShownRow) (row : Rec) (name : List ℕ) (place : Option ℕ) → IsPlaceOf (names s.cells) name place → Shows s.hierarchy (values (hierarchy row))
+pub place_shows : (s : ShownRow) (row : Rec) (name : List ℕ) (place : Option ℕ) → IsPlaceOf (names s.cells) name place → (place ≡ None → Shows s.hierarchy (values (hierarchy row)))
     → Holds s.cells (known_entries (names s.cells) (flat row)) → Shows (cell_for s place) (shown_values row name)
-place_shows s row name None is shows holds = rw (cond-true (is_path name) (values (hierarchy row)) (values_with name (flat row)) is) shows
+place_shows s row name None is shows holds = rw (cond-true (is_path name) (values (hierarchy row)) (values_with name (flat row)) is) (shows refl)
 place_shows s row name (Some p) is shows holds =
     let within = slice_get_within (names s.cells) p name is.1 in
     let named : nth_name (names s.cells) p ≡ name = get_or_from_slice_get (names s.cells) p name [] is.1 in
@@ -66,9 +66,10 @@ place_shows s row name (Some p) is shows holds =
     subst (Shows (nth_cell s.cells.cells.items p)) all (holds.shows p within)
 
 -- so all columns show the row
-pub row_shows : (s : ShownRow) (columns : List Column) (row : Rec) → IsFor s columns → Shows s.hierarchy (values (hierarchy row))
+pub row_shows : (s : ShownRow) (columns : List Column) (row : Rec) → IsFor s columns → (s.shows_path ≡ true → Shows s.hierarchy (values (hierarchy row)))
     → Holds s.cells (known_entries (names s.cells) (flat row)) → ShowsRow s columns row
 row_shows s columns row is shows holds = record {
   is = is;
-  shows = λ k l. place_shows s row (nth_column columns k).name (get_or s.places.items k None) (is.places k l) shows holds;
+  shows = λ k l. place_shows s row (nth_column columns k).name (get_or s.places.items k None) (is.places k l)
+      (λ none. shows (is.path ∙ list_any_at is_none s.places.items k None (omega (arith, is.counted, l)) (ap is_none none))) holds;
 }

@@ -5,3 +5,7 @@ pub mod Names
 pub mod Filling
 pub mod Known
 pub mod Showing
+pub mod Links
+pub mod Answers
+pub mod Numbers
+pub mod Rooms

@@ -1,6 +1,7 @@
 -- The cells of a row in the columns of an answer.
 use Rattle.std.specs.Prelude.{◌≡◌, ℕ, ◌<◌, true, false, List, [], Option, None, Some, length}
-use Rattle.std.specs.Prelude.{slice_get, slice_index_or, MatchOption}
+use Rattle.std.specs.Prelude.{is_none, slice_get, slice_index_or, MatchOption}
+use Rattle.std.specs.List.{list_any}
 use Rattle.cal_value.specs.declared.record.Rec.{Rec}
 use Rattle.cal_rowset.specs.Cells.{is_path, shown_values}
 use Rattle.cal_rowset.specs.Filling.{HoldsSome, Shows, names, nth_cell}
@@ -28,6 +29,7 @@ pub record IsFor (s : ShownRow) (columns : List Column) : Type 0 where
   pub counted : length s.places.items ≡ length columns
   pub places : (k : ℕ) → k < length columns → IsPlaceOf (names s.cells)
       (nth_column columns k).name (slice_index_or s.places.items k None)
+  pub path : s.shows_path ≡ list_any is_none s.places.items
 
 -- and show this row
 pub record ShowsRow (s : ShownRow) (columns : List Column) (row : Rec) : Type 0 where

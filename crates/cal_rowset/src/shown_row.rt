@@ -1,14 +1,17 @@
 ghost use Rattle.std.specs.Prelude.{◌≡◌, ◌<◌, List, length, slice_get, true, false};
-ghost use Rattle.std.specs.Prelude.{IfOk, IsSomeAnd, MatchOption, OnOk, Some};
+ghost use Rattle.std.specs.Prelude.{is_none, IfOk, IsSomeAnd, MatchOption, OnOk, Some};
+ghost use Rattle.std.specs.List.{list_any};
 ghost use Rattle.cal_value.specs.declared.attribute.Entry.{Entry};
 ghost use Rattle.cal_value.specs.declared.record.Rec.{Rec};
 ghost use Rattle.cal_context.specs.Lists.{IsFront};
-ghost use Rattle.cal_rowset.specs.Cells.{is_path, shown_values};
+ghost use Rattle.cal_rowset.specs.Cells.{is_path, shown_values, values};
 ghost use Rattle.cal_rowset.specs.Filling.{Holds, Shows, names};
+ghost use Rattle.cal_rowset.specs.Hierarchy.{hierarchy as hierarchy_of};
 ghost use Rattle.cal_rowset.specs.Showing.{IsFor, IsPlaceOf, ShowsRow, nth_column};
 ghost use Rattle.cal_rowset.specs.declared.rowset.Column.{Column};
 
 use crate::{Cell, Cells, Column, is_path};
+use cal_context::Link;
 use cal_value::{OutOfMemory, Rec, Text};
 use std::alloc::Global;
 
@@ -16,10 +19,16 @@ use std::alloc::Global;
 /// takes time in its entries alone. After an `Err` nothing is promised of it.
 #[derive(Drop)]
 pub struct ShownRow {
-    cells: Cells,
-    hierarchy: Cell,
+    pub(crate) cells: Cells,
+    pub(crate) hierarchy: Cell,
     // of each column the place of its name, unless it shows the hierarchy
     places: Vec<Option<usize>>,
+    // whether some column shows the hierarchy, so that the cell for it is filled
+    pub(crate) shows_path: bool,
+    // of each attribute of a context the place of its name, where it has one
+    pub(crate) attributes: Vec<Option<usize>>,
+    // the links of one path
+    pub(crate) links: Vec<Link>,
 }
 
 impl ShownRow {
@@ -32,10 +41,14 @@ impl ShownRow {
         for column in columns {
             places.push(place_of(&mut cells, &column.name)?)?;
         }
+        let shows_path = has_none(&places);
         Ok(ShownRow {
             cells,
             hierarchy: Cell::new(alloc),
             places,
+            shows_path,
+            attributes: Vec::new(alloc),
+            links: Vec::new(alloc),
         })
     }
 
@@ -45,7 +58,7 @@ impl ShownRow {
             → ShowsRow self.new columns row.now) }
     {
         self.cells.fill(row)?;
-        self.hierarchy.show_hierarchy(row)
+        show_path(&mut self.hierarchy, self.shows_path, row)
     }
 
     /// The cell in a column.
@@ -60,6 +73,24 @@ impl ShownRow {
             Some(place) => self.cells.cells().get(*place),
         }
     }
+}
+
+// shows a row's hierarchy, if a column shows it
+fn show_path(hierarchy: &mut Cell, shows_path: bool, row: &Rec) -> Result<(), OutOfMemory>
+    ensures { OnOk result (shows_path ≡ true
+        → Shows hierarchy.new (values (hierarchy_of row.now))) }
+{
+    if shows_path {
+        hierarchy.show_hierarchy(row)
+    } else {
+        Ok(())
+    }
+}
+
+fn has_none(places: &[Option<usize>]) -> bool
+    ensures { result ≡ list_any is_none places.now }
+{
+    places.iter().any(|place| place.is_none())
 }
 
 // the place of a name, unless it is the hierarchy's
