@@ -1,3 +1,6 @@
 pub mod Escapes
-pub mod Texts
-pub mod MemberLemmas
+pub mod WritingLemmas
+pub mod ChoosingLemmas
+pub mod ObjectLemmas
+pub mod KeyLemmas
+pub mod NumberLemmas

@@ -1,3 +1,4 @@
 pub mod Strings
 pub mod Json
-pub mod Printing
+pub mod Writing
+pub mod Choosing

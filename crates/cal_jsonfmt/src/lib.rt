@@ -1,10 +1,13 @@
 //! The answer of a query as JSON (`json`).
 //!
 //! `json_text` gives exactly the layout of `specs/`: one line, an array with an object for each
-//! row. It is built as a value of `serde_json` and printed by it. Nothing is promised of time.
+//! row. Its tokens are written one after another by the kit's `json`, so that no row is kept.
+//! Nothing is promised of time.
 #![tactic(auto)]
 
+mod keys;
 mod members;
+mod objects;
 mod text;
 mod value;
 

@@ -1,44 +1,46 @@
-ghost use Rattle.std.specs.Prelude.{◌≡◌, map, IfOk, OnOk};
-ghost use Rattle.cal_rowset.specs.Showing.{ShowsRow};
-ghost use Rattle.cal_jsonfmt.specs.Json.{json, row_json};
-ghost use Rattle.cal_jsonfmt.specs.Printing.{PrintEach, Prints};
+ghost use Rattle.std.specs.Prelude.{◌≡◌, map, IfOk, IsUtf8, OnOk};
+ghost use Rattle.cal_jsonfmt.specs.Json.{array_json, json, row_json};
+ghost use Rattle.cal_jsonfmt.specs.Writing.{WritesValue};
 
-use crate::members::row_members;
-use cal_rowset::{Column, Rowset, ShownRow};
-use cal_value::{OutOfMemory, Rec, Text};
-use serde_json::Value;
+use crate::objects::Objects;
+use cal_rowset::Answer;
+use cal_value::{OutOfMemory, Text};
+use json::Writer;
 use std::alloc::Global;
 
 /// The answer as one line of JSON. It takes time in the rows' entries, and for each row in the
-/// columns. The whole value stands in memory before it is printed.
-pub fn json_text(alloc: Global, answer: &Rowset) -> Result<Text, OutOfMemory>
-    ensures { IfOk result (λ text. text ≡ json answer.now) }
+/// columns, and keeps no row: its memory is that of the text.
+pub fn json_text<A: Answer>(alloc: Global, answer: &A) -> Result<Text, OutOfMemory>
+    ensures { IfOk result (λ text. text ≡ json (A.answer answer.now)) }
 {
-    let columns = answer.columns.as_slice();
-    let objects = row_values(alloc, columns, answer.rows.rows.as_slice())?;
-    let mut text = Value::from(objects).to_string(alloc)?;
+    let mut writer = Writer::new(Vec::new(alloc));
+    write_rows(alloc, &mut writer, answer)?;
+    let mut text = utf8_text(writer.into_inner());
     text.push_str("\n")?;
-    Ok(Text::from_string(text))
+    Ok(text)
 }
 
-/// The object of each row.
-fn row_values(alloc: Global, columns: &[Column], rows: &[Rec]) -> Result<Vec<Value>, OutOfMemory>
-    ensures { IfOk result (λ values.
-        PrintEach values.items (map (row_json columns.now) rows.now)) }
+fn utf8_text(bytes: Vec<u8>) -> Text
+    requires { IsUtf8 bytes.items }
+    ensures { result ≡ bytes.items }
 {
-    let mut shown = ShownRow::new(alloc, columns)?;
-    let mut values = Vec::new(alloc);
-    for row in rows {
-        shown.fill(row)?;
-        values.push(row_value(alloc, columns, &shown)?)?;
+    Text::from_string(String::from_utf8(bytes).unwrap())
+}
+
+/// Writes an array with the object of each row.
+fn write_rows<A: Answer>(alloc: Global, writer: &mut Writer, answer: &A) -> Result<(), OutOfMemory>
+    ensures { OnOk result (WritesValue writer.old writer.new
+        (array_json (map (row_json (A.answer answer.now).columns)
+        (A.answer answer.now).rows.rows))) }
+{
+    let columns = answer.columns();
+    let mut objects = Objects::new(alloc, columns)?;
+    let mut shown = answer.cells(alloc, columns)?;
+    writer.begin_array()?;
+    for place in 0..answer.row_count() {
+        answer.show(place, &mut shown)?;
+        objects.write(writer, columns, &shown)?;
     }
-    Ok(values)
-}
-
-/// The object of a row that is shown in these columns.
-fn row_value(alloc: Global, columns: &[Column], shown: &ShownRow) -> Result<Value, OutOfMemory>
-    ensures { IfOk result (λ value. (row : Rec) → ShowsRow shown.now columns.now row
-        → Prints value (row_json columns.now row)) }
-{
-    Ok(Value::from(row_members(alloc, columns, shown)?))
+    writer.end_array()?;
+    Ok(())
 }

@@ -1,46 +1,50 @@
-ghost use Rattle.std.specs.Prelude.{◌≡◌, List, IfOk};
+ghost use Rattle.std.specs.Prelude.{◌≡◌, OnOk};
 ghost use Rattle.std.specs.Fmt.{signed_decimal};
-ghost use Rattle.cal_value.specs.declared.variant.Variant.{Variant};
-ghost use Rattle.cal_rowset.specs.Filling.{Shows};
 ghost use Rattle.cal_rowset.specs.declared.cell.Content.TheVariants as content;
-ghost use Rattle.cal_jsonfmt.specs.Json.{json_of, value_json};
-ghost use Rattle.cal_jsonfmt.specs.Printing.{Prints, PrintsIf};
+ghost use Rattle.cal_jsonfmt.specs.Choosing.{IsSpelled};
+ghost use Rattle.cal_jsonfmt.specs.Json.{value_json};
 ghost use Rattle.cal_jsonfmt.specs.Strings.{string_json};
+ghost use Rattle.cal_jsonfmt.specs.Writing.{WritesValue};
 
 use cal_rowset::{Cell, Content};
 use cal_value::{OutOfMemory, Text};
-use serde_json::Value;
-use std::alloc::Global;
+use json::Writer;
 
-/// What a cell is in JSON, if it is there.
-pub(crate) fn cell_value(alloc: Global, cell: &Cell) -> Result<Option<Value>, OutOfMemory>
-    ensures { IfOk result (λ value. (vs : List Variant) → Shows cell.now vs
-        → PrintsIf value (json_of vs)) }
+/// Writes what a cell that is there is in JSON.
+pub(crate) fn write_value(writer: &mut Writer, cell: &Cell) -> Result<(), OutOfMemory>
+    ensures { OnOk result (IsSpelled cell.now
+        → WritesValue writer.old writer.new
+        (value_json cell.now.content cell.now.text)) }
 {
     match cell.content {
-        Content::Nothing => Ok(None),
-        Content::Whole(number) => Ok(Some(number_value(alloc, number, &cell.text)?)),
-        Content::Decimal => Ok(Some(text_value(alloc, &cell.text)?)),
-        Content::Words => Ok(Some(text_value(alloc, &cell.text)?)),
+        Content::Nothing => write_text(writer, &cell.text),
+        Content::Whole(number) => write_number(writer, number, &cell.text),
+        Content::Decimal => write_text(writer, &cell.text),
+        Content::Words => write_text(writer, &cell.text),
     }
 }
 
-/// A number that 64 bits hold, or else its text.
-fn number_value(alloc: Global, number: i128, text: &Text) -> Result<Value, OutOfMemory>
-    ensures { IfOk result (λ value. text.now ≡ signed_decimal number
-        → Prints value (value_json (content.Whole number) text.now)) }
+/// Writes a number that 64 bits hold, or else its text.
+fn write_number(writer: &mut Writer, number: i128, text: &Text) -> Result<(), OutOfMemory>
+    ensures { OnOk result (text.now ≡ signed_decimal number
+        → WritesValue writer.old writer.new
+        (value_json (content.Whole number) text.now)) }
 {
     if 0 <= number && number <= 18_446_744_073_709_551_615 {
-        return Ok(Value::from(number as u64));
+        writer.u64(number as u64)?;
+        return Ok(());
     }
     if -9_223_372_036_854_775_808 <= number && number < 0 {
-        return Ok(Value::from(number as i64));
+        writer.i64(number as i64)?;
+        return Ok(());
     }
-    text_value(alloc, text)
+    write_text(writer, text)
 }
 
-fn text_value(alloc: Global, text: &Text) -> Result<Value, OutOfMemory>
-    ensures { IfOk result (λ value. Prints value (string_json text.now)) }
+fn write_text(writer: &mut Writer, text: &Text) -> Result<(), OutOfMemory>
+    ensures { OnOk result (WritesValue writer.old writer.new
+        (string_json text.now)) }
 {
-    Ok(Value::try_from_str(alloc, text.as_str())?)
+    writer.string(text.as_str())?;
+    Ok(())
 }

@@ -1,8 +1,6 @@
 -- One line more, one text more, one column more.
-use Rattle.std.proofs.Common.{◌≡◌, ℕ, zero, suc, ◌+◌, ◌<◌, ◌≤◌, Bool, List, [], ◌∷◌, ◌++◌, length, get_or, take, map, max, cond, nat_cmp, Ordering, refl, sym, ap, ap₂, ◌∙◌, append-nil, add-one, arith}
+use Rattle.std.proofs.Common.{◌≡◌, ℕ, zero, suc, ◌+◌, ◌<◌, ◌≤◌, Bool, List, [], ◌∷◌, ◌++◌, length, get_or, take, map, max, refl, sym, ap, ap₂, ◌∙◌, append-nil, add-one, arith}
 use Rattle.std.specs.List.{flat_map, join_with_byte}
-use Rattle.std.specs.Ordering.{ord_max, is_lt}
-use Rattle.std.proofs.lemmas.Cmp.{by_ranked, ranked}
 use Rattle.std.proofs.lemmas.Grind.{flat_map-append}
 use Rattle.std.proofs.lemmas.List.{length-take-le, map-append, take_more}
 use Rattle.cal_rowset.proofs.Showing.{join-push}
@@ -10,16 +8,8 @@ use Rattle.cal_tabfmt.specs.Ends.{front_of_line, gap}
 use Rattle.cal_tabfmt.specs.Grid.{grid_line, nth_text, placed, placed_texts, shape, shapes, widest, width}
 use Rattle.cal_tabfmt.specs.declared.shape.Shape.{Shape}
 
--- what `a.max(b)` answers
-pub max_is : (a b : ℕ) → ord_max nat_cmp a b ≡ max a b
-max_is a b =
-    by_ranked (b < a) (b ≡ a) (a < b) (nat_cmp b a) (ranked b a _ refl)
-    (λ less lt. let is : a ≡ max a b = omega (arith, lt) in ap (λ (o : Ordering). cond (is_lt o) a b) less ∙ is)
-    (λ equal eq. let is : b ≡ max a b = omega (arith, eq) in ap (λ (o : Ordering). cond (is_lt o) a b) equal ∙ is)
-    (λ greater gt. let is : b ≡ max a b = omega (arith, gt) in ap (λ (o : Ordering). cond (is_lt o) a b) greater ∙ is)
-
 -- one text more
-widest-push : (texts : List (List ℕ)) (text : List ℕ) → widest (texts ++ text ∷ []) ≡ max (widest texts) (width text)
+pub widest-push : (texts : List (List ℕ)) (text : List ℕ) → widest (texts ++ text ∷ []) ≡ max (widest texts) (width text)
 widest-push [] text = omega arith
 widest-push (t ∷ texts) text = let more = widest-push texts text in omega (arith, more)
 

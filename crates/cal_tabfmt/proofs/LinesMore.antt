@@ -3,9 +3,10 @@ use Rattle.std.proofs.Common.{◌≡◌, ℕ, ◌+◌, ◌<◌, List, [], ◌∷
 use Rattle.std.specs.Prelude.{option_to_list}
 use Rattle.std.specs.List.{filter_map}
 use Rattle.std.proofs.lemmas.Grind.{flat_map-append}
-use Rattle.std.proofs.lemmas.List.{append-nil, take_more}
+use Rattle.std.proofs.lemmas.List.{append-nil, get_or_default, take_more}
 use Rattle.std.proofs.lemmas.List.Elements.{filter_map-append}
 use Rattle.cal_value.specs.declared.record.Rec.{Rec}
+use Rattle.cal_rowset.specs.Answers.{nth_row}
 use Rattle.cal_rowset.specs.declared.rowset.Column.{Column}
 use Rattle.cal_tabfmt.specs.Expand.{expand_line, expand_lines, part_of}
 
@@ -17,6 +18,10 @@ lines_more columns rows i row l is =
     ∙ sym (flat_map-append line (take i rows) (row ∷ []))
     ∙ ap (λ (r : Rec). expand_lines columns (take i rows ++ r ∷ [])) is
     ∙ ap (expand_lines columns) (sym (take_more rows i row l))
+
+pub lines_at : (columns : Option (List Column)) (rows : List Rec) (i : ℕ) → i < length rows
+    → expand_lines columns (take i rows) ++ (expand_line columns (nth_row rows i) ++ 10 ∷ []) ≡ expand_lines columns (take (i + 1) rows)
+lines_at columns rows i l = lines_more columns rows i (nth_row rows i) l (get_or_default rows i _ (nth_row rows i) l)
 
 option_one : (o : Option (List ℕ)) → filter_map (λ (x : Option (List ℕ)). x) (o ∷ []) ≡ option_to_list o
 option_one None = refl

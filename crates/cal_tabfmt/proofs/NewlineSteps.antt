@@ -1,5 +1,5 @@
 -- A text on a line while it is made.
-use Rattle.std.proofs.Common.{◌≡◌, ◌≢◌, ℕ, ◌+◌, ◌<◌, ◌==◌, List, [], ◌∷◌, ◌++◌, length, get_or, take, if◌then◌else◌, sym, ap, ◌∙◌, append_assoc, append-nil, ne_eqb, arith}
+use Rattle.std.proofs.Common.{◌≡◌, ◌≢◌, ℕ, ◌+◌, ◌<◌, ◌==◌, List, [], ◌∷◌, ◌++◌, length, get_or, take, if◌then◌else◌, sym, ap, ap₂, ◌∙◌, append_assoc, append-nil, ne_eqb, arith}
 use Rattle.std.specs.List.{between}
 use Rattle.std.specs.Str.{IsUtf8}
 use Rattle.std.proofs.lemmas.Bool.{cond-false}
@@ -19,6 +19,14 @@ on_line-push (c ∷ text) b = ap (λ (rest : List ℕ). shown_byte c ++ rest) (o
 
 on_line-more : (text : List ℕ) (place : ℕ) → place < length text → on_line (take (place + 1) text) ≡ on_line (take place text) ++ shown_byte (get_or text place 0)
 on_line-more text place within = ap on_line (take_more text place 0 within) ∙ on_line-push (take place text) (get_or text place 0)
+
+-- one byte more that is shown as it is
+pub on_line-plain : (text : List ℕ) (place : ℕ) → place < length text → on_line (take place text) ≡ take place text → on_line (get_or text place 0 ∷ []) ≡ get_or text place 0 ∷ []
+    → on_line (take (place + 1) text) ≡ take (place + 1) text
+on_line-plain text place within so_far as_is =
+    on_line-more text place within
+    ∙ ap₂ (λ (front last : List ℕ). front ++ last) so_far (sym (append-nil (shown_byte (get_or text place 0))) ∙ as_is)
+    ∙ sym (take_more text place 0 within)
 
 -- as it is, in the run
 pub Runs-plain : (text old out : List ℕ) (run place : ℕ) → Runs text old out run place (on_line (take place text)) → place < length text → get_or text place 0 ≢ 10

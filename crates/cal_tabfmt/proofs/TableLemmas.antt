@@ -1,19 +1,30 @@
 -- One row more of a table, and one column more.
-use Rattle.std.proofs.Common.{◌≡◌, ◌≢◌, ℕ, zero, suc, ◌+◌, ◌<◌, Bool, true, false, ◌||◌, List, [], ◌∷◌, ◌++◌, length, get_or, take, set, map, not, refl, sym, ap, ap₂, ◌∙◌, append_assoc, append-nil, add-one, drop_of_length-le, ◌≤◌, arith}
+use Rattle.std.proofs.Common.{◌≡◌, ◌≢◌, ℕ, zero, suc, ◌+◌, ◌<◌, Bool, true, false, ◌||◌, List, [], ◌∷◌, ◌++◌, length, get_or, take, set, map, not, max, flat_map, refl, sym, ap, ap₂, subst, ◌∙◌, append_assoc, append-nil, length-append, add-one, drop_of_length-le, ◌≤◌, arith}
 use Rattle.std.specs.List.{list_any}
-use Rattle.std.proofs.lemmas.List.{map-append, take_all, take_more}
+use Rattle.std.proofs.lemmas.Grind.{flat_map-append}
+use Rattle.std.proofs.lemmas.List.{get_or-map, map-append, take_all, take_more}
 use Rattle.std.proofs.lemmas.List.Folds.{list_any-append}
 use Rattle.cal_value.specs.declared.record.Rec.{Rec}
+use Rattle.cal_rowset.specs.Answers.{nth_row}
 use Rattle.cal_rowset.specs.Cells.{content, shown_values}
 use Rattle.cal_rowset.specs.Filling.{Shows, is_nothing}
 use Rattle.cal_rowset.specs.declared.cell.Cell.{Cell}
 use Rattle.cal_rowset.specs.declared.cell.Content.{Content}
 use Rattle.cal_rowset.specs.declared.rowset.Column.{Column}
 use Rattle.cal_rowset.specs.Showing.{nth_column}
-use Rattle.cal_tabfmt.specs.Grid.{grid, on_line}
+use Rattle.cal_tabfmt.specs.Grid.{grid, grid_line, nth_text, on_line, shapes, widest, width}
 use Rattle.cal_tabfmt.specs.Table.{cell_text, header_line, is_right, is_words, row_line, table_lines}
-use Rattle.cal_tabfmt.specs.Tables.{are_numbers, held, held_before}
+use Rattle.cal_tabfmt.specs.Tables.{held, held_before, shape_of}
 use Rattle.cal_tabfmt.specs.declared.held.Held.{Held}
+use Rattle.cal_tabfmt.specs.declared.shape.Shape.{Shape}
+use Rattle.cal_tabfmt.proofs.GridLemmas.{widest-push}
+
+-- what stands at the place of an item
+nth_of_map : {X : Type 0} (f : X → List ℕ) (front rest : List X) (x : X) (k : ℕ) → length front ≡ k → nth_text (map f (front ++ x ∷ rest)) k ≡ f x
+nth_of_map f [] rest x zero counted = refl
+nth_of_map f [] rest x (suc k) counted = absurd (omega (arith, counted))
+nth_of_map f (y ∷ front) rest x zero counted = absurd (omega (arith, counted))
+nth_of_map f (y ∷ front) rest x (suc k) counted = nth_of_map f front rest x k (omega (arith, counted))
 
 or_none : (a b : Bool) → (a || (b || false)) ≡ (a || b)
 or_none true b = refl
@@ -24,11 +35,23 @@ or_none false false = refl
 any_more : (p : Rec → Bool) (rows : List Rec) (row : Rec) → list_any p (rows ++ row ∷ []) ≡ (list_any p rows || p row)
 any_more p rows row = list_any-append p rows (row ∷ []) ∙ or_none (list_any p rows) (p row)
 
-pub held-push : (rows : List Rec) (row : Rec) (column : Column) (new : Held) → new.some ≡ ((held rows column).some || not (is_nothing (content row column.name))) → new.words ≡ ((held rows column).words || is_words (content row column.name))
+pub held-push : (rows : List Rec) (row : Rec) (column : Column) (new : Held) → new.width ≡ max (held rows column).width (width (cell_text row column))
+    → new.some ≡ ((held rows column).some || not (is_nothing (content row column.name))) → new.words ≡ ((held rows column).words || is_words (content row column.name))
     → new ≡ held (rows ++ row ∷ []) column
-held-push rows row column new some words = ap₂ (λ (a b : Bool). record { some = a; words = b })
-    (some ∙ sym (any_more (λ r. not (is_nothing (content r column.name))) rows row))
-    (words ∙ sym (any_more (λ r. is_words (content r column.name)) rows row))
+held-push rows row column new wide some words =
+    let shown : Rec → List ℕ = λ r. cell_text r column in
+    let widths : new.width ≡ (held (rows ++ row ∷ []) column).width =
+    wide ∙ sym (ap (λ (texts : List (List ℕ)). widest (on_line column.header ∷ texts)) (map-append shown rows (row ∷ []))
+    ∙ widest-push (on_line column.header ∷ map shown rows) (shown row)) in
+    let somes = some ∙ sym (any_more (λ r. not (is_nothing (content r column.name))) rows row) in
+    let those = words ∙ sym (any_more (λ r. is_words (content r column.name)) rows row) in
+    λ i. record { width = widths i; some = somes i; words = those i }
+
+-- what a column holds without a row
+pub held-none : (column : Column) (wide : ℕ) → wide ≡ width (on_line column.header) → record { width = wide; some = false; words = false } ≡ held [] column
+held-none column wide is =
+    let widths : wide ≡ max (width (on_line column.header)) 0 = omega (arith, is) in
+    λ i. record { width = widths i; some = false; words = false }
 
 -- the column at a place has a row more
 before-set : (rows : List Rec) (row : Rec) (columns : List Column) (k : ℕ) (new : Held) → k < length columns → new ≡ held (rows ++ row ∷ []) (nth_column columns k)
@@ -50,12 +73,13 @@ held_before-at rows row (c ∷ columns) (suc k) d within = held_before-at rows r
 -- the cell at that place is added
 pub hold_more : (rows : List Rec) (row : Rec) (columns : List Column) (k : ℕ) (all : List Held) (old new : Held) (cell : Cell) → k < length columns → all ≡ held_before rows row columns k
     → old ≡ get_or all k old → Shows cell (shown_values row (nth_column columns k).name)
-    → new.some ≡ (old.some || not (is_nothing cell.content)) → new.words ≡ (old.words || is_words cell.content)
+    → new.width ≡ max old.width (width (on_line cell.text)) → new.some ≡ (old.some || not (is_nothing cell.content)) → new.words ≡ (old.words || is_words cell.content)
     → set all k new ≡ held_before rows row columns (k + 1)
-hold_more rows row columns k all old new cell within is read shows some words =
+hold_more rows row columns k all old new cell within is read shows wide some words =
     let before : old ≡ held rows (nth_column columns k) =
     read ∙ ap (λ (hs : List Held). get_or hs k old) is ∙ held_before-at rows row columns k old within in
     let added = held-push rows row (nth_column columns k) new
+    (wide ∙ ap₂ (λ (h : Held) (text : List ℕ). max h.width (width (on_line text))) before shows.text)
     (some ∙ ap₂ (λ (h : Held) (in_cell : Content). h.some || not (is_nothing in_cell)) before shows.content)
     (words ∙ ap₂ (λ (h : Held) (in_cell : Content). h.words || is_words in_cell) before shows.content) in
     ap (λ (hs : List Held). set hs k new) is ∙ held_before-set rows row columns k new within added
@@ -88,17 +112,47 @@ cells-more row columns k before line text within so_far same =
     (sym (map-append (cell_text row) (take k columns) (nth_column columns k ∷ []))
     ∙ ap (map (cell_text row)) (sym (take_more columns k (record { header = []; name = [] }) within)))
 
--- a table with one row more
-pub lines-push : (columns : List Column) (rows : List Rec) (row : Rec) (lines : List (List (List ℕ))) (line : List (List ℕ)) → lines ≡ header_line columns ∷ map (row_line columns) rows → line ≡ row_line columns row
-    → lines ++ line ∷ [] ≡ header_line columns ∷ map (row_line columns) (rows ++ row ∷ [])
-lines-push columns rows row lines line is same =
-    ap₂ (λ (ls : List (List (List ℕ))) (l : List (List ℕ)). ls ++ l ∷ []) is same
-    ∙ ap (λ (rest : List (List (List ℕ))). header_line columns ∷ rest) (sym (map-append (row_line columns) rows (row ∷ [])))
+-- the text of a row in a column
+pub row_line-at : (row : Rec) (columns : List Column) (k : ℕ) (text : List ℕ) → k < length columns → text ≡ cell_text row (nth_column columns k) → text ≡ get_or (row_line columns row) k text
+row_line-at row columns k text within is = is ∙ sym (get_or-map (cell_text row) columns k (record { header = []; name = [] }) text within)
 
--- which columns are right-aligned
-pub rights_are : (columns : List Column) (rows : List Rec) → map are_numbers (map (held rows) columns) ≡ map (is_right rows) columns
-rights_are [] rows = refl
-rights_are (column ∷ columns) rows = ap (λ (rest : List Bool). is_right rows column ∷ rest) (rights_are columns rows)
+-- a column's texts are those at its place
+column_texts : (front rest : List Column) (column : Column) (rows : List Rec) (k : ℕ) → length front ≡ k
+    → map (λ line. nth_text line k) (map (row_line (front ++ column ∷ rest)) rows) ≡ map (λ row. cell_text row column) rows
+column_texts front rest column [] k counted = refl
+column_texts front rest column (row ∷ rows) k counted =
+    ap₂ (λ (text : List ℕ) (texts : List (List ℕ)). text ∷ texts)
+    (nth_of_map (cell_text row) front rest column k counted) (column_texts front rest column rows k counted)
+
+-- the columns of a table
+shapes_are-from : (front columns : List Column) (rows : List Rec) (k : ℕ) → length front ≡ k
+    → map shape_of (map (held rows) columns) ≡ shapes (header_line (front ++ columns) ∷ map (row_line (front ++ columns)) rows) k (map (is_right rows) columns)
+shapes_are-from front [] rows k counted = refl
+shapes_are-from front (column ∷ columns) rows k counted =
+    let all = front ++ column ∷ columns in
+    let texts : on_line column.header ∷ map (λ row. cell_text row column) rows ≡ map (λ line. nth_text line k) (header_line all ∷ map (row_line all) rows) =
+    sym (ap₂ (λ (text : List ℕ) (rest : List (List ℕ)). text ∷ rest)
+    (nth_of_map (λ (c : Column). on_line c.header) front columns column k counted) (column_texts front columns column rows k counted)) in
+    let next : map shape_of (map (held rows) columns) ≡ shapes (header_line all ∷ map (row_line all) rows) (suc k) (map (is_right rows) columns) =
+    subst (λ (those : List Column). map shape_of (map (held rows) columns) ≡ shapes (header_line those ∷ map (row_line those) rows) (suc k) (map (is_right rows) columns))
+    (append_assoc front (column ∷ []) columns)
+    (shapes_are-from (front ++ column ∷ []) columns rows (suc k) (omega (arith, counted, length-append front (column ∷ [])))) in
+    ap₂ (λ (first : Shape) (rest : List Shape). first ∷ rest)
+    (ap (λ (ts : List (List ℕ)). record { width = widest ts; right = is_right rows column }) texts) next
+
+pub shapes_are : (columns : List Column) (rows : List Rec) → map shape_of (map (held rows) columns) ≡ shapes (header_line columns ∷ map (row_line columns) rows) 0 (map (is_right rows) columns)
+shapes_are columns rows = shapes_are-from [] columns rows 0 refl
+
+-- the lines of rows, with one more
+pub rows-more : (made : List Shape) (columns : List Column) (rows : List Rec) (k : ℕ) → k < length rows
+    → flat_map (grid_line made) (map (row_line columns) (take k rows)) ++ grid_line made (row_line columns (nth_row rows k)) ≡ flat_map (grid_line made) (map (row_line columns) (take (k + 1) rows))
+rows-more made columns rows k within =
+    let line : Rec → List ℕ = λ r. grid_line made (row_line columns r) in
+    let before = map (row_line columns) (take k rows) in
+    ap (λ (t : List ℕ). flat_map (grid_line made) before ++ t) (sym (append-nil (line (nth_row rows k))))
+    ∙ sym (flat_map-append (grid_line made) before (row_line columns (nth_row rows k) ∷ []))
+    ∙ ap (flat_map (grid_line made)) (sym (map-append (row_line columns) (take k rows) (nth_row rows k ∷ [])))
+    ∙ ap (λ (rs : List Rec). flat_map (grid_line made) (map (row_line columns) rs)) (sym (take_more rows k _ within))
 
 -- the table of some columns
 pub table_lines-some : (columns : List Column) (rows : List Rec) → length columns ≢ 0 → table_lines columns rows ≡ grid (map (is_right rows) columns) (header_line columns ∷ map (row_line columns) rows)

@@ -6,7 +6,7 @@ use Rattle.cal_value.specs.declared.attribute.Entry.{Entry}
 use Rattle.cal_context.specs.Tree.{Tree, path_at}
 use Rattle.cal_context.specs.declared.numbers.Link.{Link}
 use Rattle.cal_context.specs.declared.numbers.NodeNumber.{NodeNumber}
-use Rattle.cal_tabfmt.specs.Snapshots.{link_entry}
+use Rattle.cal_rowset.specs.Links.{link_entry}
 
 -- one link more
 pub noted-down : (t : Tree) (to below parent : NodeNumber) (links new : List Link) (link : Link) → path_at t to ≡ path_at t below ++ map (link_entry t) (reverse links)

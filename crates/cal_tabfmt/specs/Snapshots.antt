@@ -1,31 +1,12 @@
 -- What is known of a context's attributes and paths while a snapshot is laid out.
 use Rattle.std.specs.Prelude.{◌≡◌, ℕ, zero, suc, ◌<◌, ◌≤◌, List, [], ◌++◌, Some}
-use Rattle.std.specs.Prelude.{length, map, slice_get, slice_index_or}
-use Rattle.std.specs.List.{All}
+use Rattle.std.specs.Prelude.{length, slice_get, slice_index_or}
 use Rattle.cal_value.specs.declared.attribute.Entry.{Entry}
-use Rattle.cal_context.specs.Tree.{Tree, attribute_at, path_at, value_at}
+use Rattle.cal_context.specs.Tree.{Tree, attribute_at, path_at}
 use Rattle.cal_context.specs.declared.numbers.AttributeNumber.{AttributeNumber}
-use Rattle.cal_context.specs.declared.numbers.Link.{Link}
 use Rattle.cal_context.specs.declared.numbers.NodeNumber.{NodeNumber}
 use Rattle.cal_tabfmt.specs.Trails.{IsTrail}
 use Rattle.cal_tabfmt.specs.declared.snapshot_cells.SnapshotCells.{SnapshotCells}
-
--- the attribute and the value of a link are the context's
-pub record IsEntryOf (t : Tree) (link : Link) : Type 0 where
-  pub attribute : link.attribute.0 < length t.attributes
-  pub value : link.value.0 < length t.values
-
--- the entry of a link
-abbrev pub link_entry : Tree → Link → Entry
-link_entry t link = record {
-  attr = attribute_at t link.attribute;
-  value = value_at t link.value;
-}
-
--- links from the root down make the path of a node
-pub record AreLinksOf (t : Tree) (node : NodeNumber) (links : List Link) : Type 0 where
-  pub path : path_at t node ≡ map (link_entry t) links
-  pub entries : All (IsEntryOf t) links
 
 -- of the first attributes it is known at which place their names stand
 pub record KnowsPlaces (t : Tree) (names : List (List ℕ)) (places : List ℕ) : Type 0 where

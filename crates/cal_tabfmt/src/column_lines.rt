@@ -7,22 +7,23 @@ ghost use Rattle.cal_tabfmt.specs.Expand.{expand_line, expand_lines, part_of};
 ghost use Rattle.cal_tabfmt.specs.Parts.{HasParts};
 
 use crate::part::append_part;
-use cal_rowset::{Column, ShownRow};
-use cal_value::{OutOfMemory, Rec, Text};
+use cal_rowset::{Answer, Column, ShownRow};
+use cal_value::{OutOfMemory, Text};
 use std::alloc::Global;
 
-/// The lines of rows in these columns.
-pub(crate) fn column_lines(
+/// The lines of an answer's rows in these columns.
+pub(crate) fn column_lines<A: Answer>(
     alloc: Global,
     columns: &[Column],
-    rows: &[Rec],
+    answer: &A,
 ) -> Result<Text, OutOfMemory>
-    ensures { IfOk result (λ text. text ≡ expand_lines (Some columns.now) rows.now) }
+    ensures { IfOk result (λ text. text
+        ≡ expand_lines (Some columns.now) (A.answer answer.now).rows.rows) }
 {
     let mut out = Text::new(alloc);
-    let mut shown = ShownRow::new(alloc, columns)?;
-    for row in rows {
-        shown.fill(row)?;
+    let mut shown = answer.cells(alloc, columns)?;
+    for place in 0..answer.row_count() {
+        answer.show(place, &mut shown)?;
         append_line(&mut out, columns, &shown)?;
     }
     Ok(out)

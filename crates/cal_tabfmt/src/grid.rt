@@ -22,7 +22,7 @@ pub fn grid_text(alloc: Global, rights: &[bool], lines: &[Seq<Text>]) -> Result<
 }
 
 /// Appends a line.
-fn append_line(out: &mut Text, shapes: &[Shape], texts: &[Text]) -> Result<(), OutOfMemory>
+pub fn append_line(out: &mut Text, shapes: &[Shape], texts: &[Text]) -> Result<(), OutOfMemory>
     ensures { OnOk result (out.new ≡ out.old ++ grid_line shapes.now texts.now) }
 {
     let mut pending = 0;
@@ -33,7 +33,7 @@ fn append_line(out: &mut Text, shapes: &[Shape], texts: &[Text]) -> Result<(), O
 }
 
 /// Appends the text at a place of a line, if there is such a column.
-fn append_column(
+pub(crate) fn append_column(
     out: &mut Text,
     pending: usize,
     place: usize,

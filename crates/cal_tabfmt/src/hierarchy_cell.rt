@@ -6,11 +6,10 @@ ghost use Rattle.cal_context.specs.Tree.{path_at};
 ghost use Rattle.cal_rowset.specs.Cells.{values};
 ghost use Rattle.cal_rowset.specs.Filling.{Shows};
 ghost use Rattle.cal_rowset.specs.Hierarchy.{hierarchy, is_of_hierarchy};
-ghost use Rattle.cal_tabfmt.specs.Snapshots.{IsEntryOf, link_entry};
+ghost use Rattle.cal_rowset.specs.Links.{IsEntryOf, link_entry};
 
-use crate::path::find_links;
 use cal_context::{Context, Link, NodeNumber, Snapshot};
-use cal_rowset::{Cell, is_of_hierarchy};
+use cal_rowset::{Cell, find_links, is_of_hierarchy};
 use cal_value::OutOfMemory;
 use std::alloc::Global;
 

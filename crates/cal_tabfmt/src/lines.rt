@@ -2,6 +2,7 @@ ghost use Rattle.std.specs.Prelude.{◌≡◌, ℕ, ◌<◌, List, [], ◌∷◌
 ghost use Rattle.std.specs.Prelude.{option_to_list, IfOk, OnOk};
 ghost use Rattle.cal_value.specs.Flat.{flat};
 ghost use Rattle.cal_value.specs.declared.record.Rec.{Rec};
+ghost use Rattle.cal_rowset.specs.Answers.{AreWithin, rows_of};
 ghost use Rattle.cal_rowset.specs.Cells.{values};
 ghost use Rattle.cal_rowset.specs.Filling.{Holds, Shows, names, nth_name};
 ghost use Rattle.cal_rowset.specs.Hierarchy.{hierarchy as hierarchy_of};
@@ -10,20 +11,31 @@ ghost use Rattle.cal_tabfmt.specs.Parts.{HasParts};
 
 use crate::column_lines::column_lines;
 use crate::part::append_part;
-use cal_rowset::{Cell, Cells, Rowset, is_path};
+use crate::snapshot_lines::snapshot_lines;
+use cal_rowset::{Answer, Cell, Cells, Rows, is_path};
 use cal_value::{OutOfMemory, Rec, Text};
 use std::alloc::Global;
 
 /// The plain lines of an answer. It takes time in the entries of the rows and the parts of the
 /// lines; the answer's columns count only where it has a list of its own.
-pub fn expand_text(alloc: Global, answer: &Rowset) -> Result<Text, OutOfMemory>
-    ensures { IfOk result (λ text. text ≡ expand answer.now) }
+pub fn expand_text<A: Answer>(alloc: Global, answer: &A) -> Result<Text, OutOfMemory>
+    ensures { IfOk result (λ text. text ≡ expand (A.answer answer.now)) }
 {
-    let rows = answer.rows.rows.as_slice();
-    if answer.all {
-        own_lines(alloc, rows)
+    if answer.shows_all() {
+        all_lines(alloc, answer.rows())
     } else {
-        column_lines(alloc, answer.columns.as_slice(), rows)
+        column_lines(alloc, answer.columns(), answer)
+    }
+}
+
+/// The lines of rows by their own names, wherever they are kept.
+fn all_lines(alloc: Global, rows: Rows<'_>) -> Result<Text, OutOfMemory>
+    requires { AreWithin rows }
+    ensures { IfOk result (λ text. text ≡ expand_lines None (rows_of rows.entry)) }
+{
+    match rows {
+        Rows::Owned(rows) => own_lines(alloc, rows),
+        Rows::Numbered(context, snapshots) => snapshot_lines(alloc, context, snapshots),
     }
 }
 

@@ -1,4 +1,4 @@
-ghost use Rattle.std.specs.Prelude.{◌≡◌, ◌<◌, ◌≤◌, map, IfOk};
+ghost use Rattle.std.specs.Prelude.{◌≡◌, ◌<◌, ◌≤◌, map, max, IfOk};
 ghost use Rattle.std.specs.Fmt.{is_char_start};
 ghost use Rattle.cal_tabfmt.specs.Grid.{nth_text, shapes, widest, width};
 
@@ -7,13 +7,13 @@ use std::alloc::Global;
 
 /// A column of lines: its width in characters, and whether its texts stand at its right end.
 #[derive(Clone, Copy, Debug)]
-pub(crate) struct Shape {
-    pub(crate) width: usize,
-    pub(crate) right: bool,
+pub struct Shape {
+    pub width: usize,
+    pub right: bool,
 }
 
 /// The columns of these lines, by whether each is right-aligned.
-pub(crate) fn shapes(
+pub fn shapes(
     alloc: Global,
     rights: &[bool],
     lines: &[Seq<Text>],
@@ -36,7 +36,7 @@ fn widest_at(lines: &[Seq<Text>], place: usize) -> usize
 {
     let mut most = 0;
     for line in lines {
-        most = most.max(width_at(line, place));
+        most = wider(most, width_at(line, place));
     }
     most
 }
@@ -49,6 +49,13 @@ fn width_at(line: &Seq<Text>, place: usize) -> usize
         Some(text) => width(text),
         None => 0,
     }
+}
+
+/// The greater of two widths.
+pub(crate) fn wider(width: usize, other: usize) -> usize
+    ensures { result ≡ max width other }
+{
+    width.max(other)
 }
 
 /// How many characters a text has.

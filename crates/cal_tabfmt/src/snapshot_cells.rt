@@ -4,14 +4,15 @@ ghost use Rattle.cal_value.specs.Flat.{flat, joined};
 ghost use Rattle.cal_value.specs.declared.attribute.Entry.{Entry};
 ghost use Rattle.cal_context.specs.Snapshots.{IsIn, entry_of, meaning};
 ghost use Rattle.cal_context.specs.Tree.{Tree, path_at};
-ghost use Rattle.cal_tabfmt.specs.Snapshots.{AreFilled, AreReady, IsEntryOf, KnowsAll};
-ghost use Rattle.cal_tabfmt.specs.Snapshots.{KnowsPlaces, StandAt, StandKnowing, link_entry};
+ghost use Rattle.cal_rowset.specs.Links.{IsEntryOf, link_entry};
+ghost use Rattle.cal_tabfmt.specs.Snapshots.{AreFilled, AreReady, KnowsAll, KnowsPlaces};
+ghost use Rattle.cal_tabfmt.specs.Snapshots.{StandAt, StandKnowing};
 ghost use Rattle.cal_tabfmt.specs.Trails.{IsTrail};
 
-use crate::path::find_links;
 use crate::trail::Trail;
 use crate::walk::walk;
 use cal_context::{AttributeNumber, Context, Immediate, Link, NodeNumber, Snapshot};
+use cal_rowset::find_links;
 use cal_value::{OutOfMemory, Variant};
 use std::alloc::Global;
 

@@ -1,86 +1,82 @@
-ghost use Rattle.std.specs.Prelude.{◌≡◌, ◌∷◌, ◌++◌, [], List, IfOk, OnOk, length, map};
-ghost use Rattle.cal_value.specs.declared.record.Rec.{Rec};
-ghost use Rattle.cal_rowset.specs.Showing.{ShowsRow};
-ghost use Rattle.cal_rowset.specs.declared.rowset.Column as columns;
-ghost use Rattle.cal_tabfmt.specs.Grid.{grid};
-ghost use Rattle.cal_tabfmt.specs.Table.{is_right, header_line, row_line, table};
-ghost use Rattle.cal_tabfmt.specs.Tables.{IsTable};
+ghost use Rattle.std.specs.Prelude.{◌≡◌, ◌++◌, map, IfOk, OnOk};
+ghost use Rattle.std.specs.List.{flat_map};
+ghost use Rattle.cal_tabfmt.specs.Grid.{grid_line};
+ghost use Rattle.cal_tabfmt.specs.Table.{header_line, row_line, table};
+ghost use Rattle.cal_tabfmt.specs.Tables.{held};
 
-use crate::grid::grid_text;
-use crate::held::{Held, hold_row, nothing_held, rights};
-use crate::table_lines::{push_cells, push_headers};
-use cal_rowset::{Column, Rowset, ShownRow};
-use cal_value::{OutOfMemory, Rec, Seq, Text};
+use crate::grid::append_line;
+use crate::held::{Held, hold_row, nothing_held, shapes_of};
+use crate::shape::Shape;
+use crate::table_lines::{append_row, push_headers};
+use cal_rowset::{Answer, Column};
+use cal_value::{OutOfMemory, Seq, Text};
 use std::alloc::Global;
 
-/// The table of an answer. It takes time in the entries of the rows and in its own text, and keeps
-/// each cell once.
-pub fn table_text(alloc: Global, answer: &Rowset) -> Result<Text, OutOfMemory>
-    ensures { IfOk result (λ text. text ≡ table answer.now) }
+/// The table of an answer. It goes over the rows twice: first it learns how wide the columns are,
+/// and what they hold, and then it writes the lines. It takes time in the entries of the rows and in
+/// its own text, and keeps nothing but that.
+pub fn table_text<A: Answer>(alloc: Global, answer: &A) -> Result<Text, OutOfMemory>
+    ensures { IfOk result (λ text. text ≡ table (A.answer answer.now)) }
 {
-    let columns = answer.columns.as_slice();
+    let columns = answer.columns();
+    let mut out = Text::new(alloc);
     if columns.is_empty() {
-        return Ok(Text::new(alloc));
+        return Ok(out);
     }
-    let made = made_table(alloc, columns, answer.rows.rows.as_slice())?;
-    made.text(alloc)
+    let all = all_held(alloc, columns, answer)?;
+    let shapes = shapes_of(alloc, &all)?;
+    append_headers(alloc, &mut out, &shapes, columns)?;
+    append_rows(alloc, &mut out, &shapes, columns, answer)?;
+    Ok(out)
 }
 
-/// The lines of a table, and what its columns hold.
-#[derive(Drop)]
-pub(crate) struct Table {
-    lines: Seq<Seq<Text>>,
-    held: Vec<Held>,
-}
-
-/// The table of these rows.
-fn made_table(alloc: Global, columns: &[Column], rows: &[Rec]) -> Result<Table, OutOfMemory>
-    ensures { IfOk result (λ made. IsTable made columns.now rows.now) }
+/// What the columns hold in an answer's rows.
+fn all_held<A: Answer>(
+    alloc: Global,
+    columns: &[Column],
+    answer: &A,
+) -> Result<Vec<Held>, OutOfMemory>
+    ensures { IfOk result (λ all. all.items
+        ≡ map (held (A.answer answer.now).rows.rows) columns.now) }
 {
-    let mut made = Table::new(alloc, columns)?;
-    let mut shown = ShownRow::new(alloc, columns)?;
-    for row in rows {
-        shown.fill(row)?;
-        made.add(alloc, columns.len(), &shown)?;
+    let mut all = nothing_held(alloc, columns)?;
+    let mut shown = answer.cells(alloc, columns)?;
+    for place in 0..answer.row_count() {
+        answer.show(place, &mut shown)?;
+        hold_row(alloc, &mut all, &shown)?;
     }
-    Ok(made)
+    Ok(all)
 }
 
-impl Table {
-    /// The line of headers.
-    fn new(alloc: Global, columns: &[Column]) -> Result<Table, OutOfMemory>
-        ensures { IfOk result (λ made. IsTable made columns.now []) }
-    {
-        let mut headers = Seq::new(alloc);
-        push_headers(alloc, &mut headers, columns)?;
-        let mut lines = Seq::new(alloc);
-        lines.push(headers)?;
-        Ok(Table {
-            lines,
-            held: nothing_held(alloc, columns)?,
-        })
-    }
+/// Appends the line of headers.
+fn append_headers(
+    alloc: Global,
+    out: &mut Text,
+    shapes: &[Shape],
+    columns: &[Column],
+) -> Result<(), OutOfMemory>
+    ensures { OnOk result (out.new ≡ out.old ++ grid_line shapes.now (header_line columns.now)) }
+{
+    let mut headers = Seq::new(alloc);
+    push_headers(alloc, &mut headers, columns)?;
+    append_line(out, shapes, headers.as_slice())
+}
 
-    /// Adds the line of a row, which is shown in so many columns.
-    fn add(&mut self, alloc: Global, count: usize, shown: &ShownRow) -> Result<(), OutOfMemory>
-        ensures { OnOk result ((columns : List columns.Column) (row : Rec) (rows : List Rec)
-            → ShowsRow shown.now columns row → count ≡ length columns
-            → IsTable self.old columns rows → IsTable self.new columns (rows ++ row ∷ [])) }
-    {
-        let mut line = Seq::new(alloc);
-        push_cells(alloc, &mut line, count, shown)?;
-        self.lines.push(line)?;
-        hold_row(&mut self.held, shown);
-        Ok(())
+/// Appends the lines of an answer's rows.
+fn append_rows<A: Answer>(
+    alloc: Global,
+    out: &mut Text,
+    shapes: &[Shape],
+    columns: &[Column],
+    answer: &A,
+) -> Result<(), OutOfMemory>
+    ensures { OnOk result (out.new ≡ out.old ++ flat_map (grid_line shapes.now)
+        (map (row_line columns.now) (A.answer answer.now).rows.rows)) }
+{
+    let mut shown = answer.cells(alloc, columns)?;
+    for place in 0..answer.row_count() {
+        answer.show(place, &mut shown)?;
+        append_row(alloc, out, shapes, columns.len(), &shown)?;
     }
-
-    /// Its text.
-    fn text(&self, alloc: Global) -> Result<Text, OutOfMemory>
-        ensures { IfOk result (λ text. (columns : List columns.Column) (rows : List Rec)
-            → IsTable self.now columns rows → text ≡ grid (map (is_right rows) columns)
-            (header_line columns ∷ map (row_line columns) rows)) }
-    {
-        let rights = rights(alloc, &self.held)?;
-        grid_text(alloc, &rights, self.lines.as_slice())
-    }
+    Ok(())
 }

@@ -2,7 +2,7 @@ ghost use Rattle.std.specs.Prelude.{◌≡◌, ◌<◌, [], ◌∷◌, ◌++◌,
 ghost use Rattle.std.specs.List.{All};
 ghost use Rattle.cal_context.specs.Tree.{path_at};
 ghost use Rattle.cal_context.specs.declared.numbers.Link.{Link};
-ghost use Rattle.cal_tabfmt.specs.Snapshots.{IsEntryOf, link_entry};
+ghost use Rattle.cal_rowset.specs.Links.{IsEntryOf, link_entry};
 ghost use Rattle.cal_tabfmt.specs.Trails.{IsTrail};
 
 use crate::trail::Trail;

@@ -1,9 +1,10 @@
 -- Items in first-seen order: one more of them, and which are there.
-use Rattle.std.proofs.Common.{◌≡◌, ℕ, Bool, true, false, not, if◌then◌else◌, List, [], ◌∷◌, ◌++◌, ◌<◌, ◌⊎◌, inl, inr, filter, length, get_or, refl, sym, ap, ◌∙◌, arith}
+use Rattle.std.proofs.Common.{◌≡◌, ℕ, Bool, true, false, not, if◌then◌else◌, List, [], ◌∷◌, ◌++◌, ◌<◌, ◌⊎◌, inl, inr, filter, length, get_or, refl, sym, ap, ◌∙◌, subst, arith, append_assoc, All}
 use Rattle.std.specs.Cmp.{IsEquivalence}
 use Rattle.std.specs.List.{Contains, list_any}
 use Rattle.std.proofs.lemmas.Grind.{common_steps}
-use Rattle.std.proofs.lemmas.List.Elements.{filter-append}
+use Rattle.std.proofs.lemmas.List.{append-nil}
+use Rattle.std.proofs.lemmas.List.Elements.{All-head, All-tail, filter-append}
 use Rattle.std.proofs.lemmas.Map.Views.{list_any-from_Contains, Contains-from_any}
 use Rattle.cal_context.specs.Lists.{Adds}
 use Rattle.cal_treefmt.specs.Nodes.{firsts}
@@ -67,3 +68,13 @@ module _ {A : Type 0} {eq : A → A → Bool} (laws : IsEquivalence eq) (same : 
       by false e =
           h.1 ∙ ap (λ xs. xs ++ g ∷ []) is
           ∙ sym (firsts-push gs g ∙ ap (λ b. if b then firsts eq gs else firsts eq gs ++ g ∷ []) e)
+
+  -- items that were seen change nothing
+  pub firsts-again : (gs xs : List A) → All (Contains (firsts eq gs)) xs → firsts eq (gs ++ xs) ≡ firsts eq gs
+  firsts-again gs [] all = ap (firsts eq) (append-nil gs)
+  firsts-again gs (x ∷ xs) all =
+      let seen = sym (list_any-firsts (eq x) gs) ∙ list_any-from_Contains laws x (firsts eq gs) (All-head (Contains (firsts eq gs)) x xs all) in
+      let once : firsts eq (gs ++ x ∷ []) ≡ firsts eq gs = firsts-push gs x ∙ ap (λ b. if b then firsts eq gs else firsts eq gs ++ x ∷ []) seen in
+      ap (firsts eq) (sym (append_assoc gs (x ∷ []) xs))
+      ∙ firsts-again (gs ++ x ∷ []) xs (subst (λ (ys : List A). All (Contains ys) xs) (sym once) (All-tail (Contains (firsts eq gs)) x xs all))
+      ∙ once

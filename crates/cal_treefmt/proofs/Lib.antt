@@ -1,5 +1,6 @@
 pub mod Firsts
 pub mod Walking
+pub mod WayLemmas
 pub mod Chaining
 pub mod Keyed
 pub mod Ordering

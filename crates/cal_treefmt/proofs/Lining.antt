@@ -1,8 +1,7 @@
 -- The lines of nodes and of rows.
-use Rattle.std.proofs.Common.{◌≡◌, ℕ, suc, ◌+◌, ◌-◌, ◌<◌, ◌≤◌, Bool, true, false, List, [], ◌∷◌, ◌++◌, ◌⊎◌, inl, inr, length, get_or, map, take, drop, filter, Option, None, Some, refl, sym, ap, ◌∙◌, subst, arith, append_assoc, drop-cons, if◌then◌else◌, slice_get}
-use Rattle.std.specs.List.{flat_map}
-use Rattle.std.proofs.lemmas.Grind.{flat_map-append}
-use Rattle.std.proofs.lemmas.List.{append-nil, map-append, take_all, take_more}
+use Rattle.std.proofs.Common.{◌≡◌, ℕ, suc, ◌+◌, ◌-◌, ◌<◌, false, List, [], ◌∷◌, ◌++◌, length, get_or, map, drop, Option, None, Some, refl, sym, ap, ◌∙◌, subst, arith, append_assoc, drop-cons, if◌then◌else◌, slice_get, All}
+use Rattle.std.proofs.lemmas.List.{append-nil, map-append}
+use Rattle.std.proofs.lemmas.List.Elements.{All-push}
 use Rattle.std.proofs.lemmas.Option.{slice_get-get_or}
 use Rattle.cal_value.specs.ExactOrder.{exact_decides}
 use Rattle.cal_value.specs.OrderLaws.{path_exact}
@@ -16,11 +15,10 @@ use Rattle.cal_context.proofs.CallerLemmas.{root_path, root_within}
 use Rattle.cal_rowset.specs.Hierarchy.{hierarchy}
 use Rattle.cal_treefmt.specs.Chains.{IsChained, IsNext, key_at}
 use Rattle.cal_treefmt.specs.Lines as lines
-use Rattle.cal_treefmt.specs.Lines.{indent, label, lines_of, node_lines, row_lines, rows_at, tree_lines}
-use Rattle.cal_treefmt.specs.Nodes.{is_node, ordered_nodes}
+use Rattle.cal_treefmt.specs.Lines.{indent, label, lines_of, node_lines, row_lines, rows_at}
+use Rattle.cal_treefmt.specs.Nodes.{is_node}
 use Rattle.cal_treefmt.specs.Orders.{AreRows, nodes_in}
-use Rattle.cal_treefmt.specs.Plans.{IsPlaceOf, IsPlan, IsPlanOf, left_rows, shown}
-use Rattle.cal_treefmt.specs.Walks.{AreAt}
+use Rattle.cal_treefmt.specs.Plans.{IsPlaceOf, IsPlan, IsPlanOf, IsWithin, left_rows, shown}
 use Rattle.cal_treefmt.specs.declared.chains.Chains.{Chains}
 use Rattle.cal_treefmt.specs.declared.lines.Line.{Line}
 use Rattle.cal_treefmt.specs.declared.plan.Plan.{Plan}
@@ -106,13 +104,16 @@ module _ (t : Tree) (context : IsContext t) (rows : List Rec) (chains : Chains) 
 -- ---- lines
 
 -- a line with a row, and those that are left
-pub row_lines-more : (rows : List Rec) (text : List ℕ) (old : List Line) (line : Line) (k : ℕ) (left : List Rec) (whole : List lines.Line) → k < length rows → line ≡ record { label = text; row = Some k }
-    → map (shown rows) old ++ row_lines text (row_at rows k ∷ left) ≡ whole → map (shown rows) (old ++ line ∷ []) ++ row_lines text left ≡ whole
-row_lines-more rows text old line k left whole l is before =
-    ap (λ front. front ++ row_lines text left) (map-append (shown rows) old (line ∷ []))
-    ∙ append_assoc (map (shown rows) old) (shown rows line ∷ []) (row_lines text left)
-    ∙ ap (λ (first : lines.Line). map (shown rows) old ++ first ∷ row_lines text left)
-    (ap (shown rows) is ∙ (λ j. record { label = text; row = slice_get-get_or rows k no_row l j }))
+pub row_lines-more : (t : Tree) (rows : List Rec) (n : NodeNumber) (old : List Line) (k : ℕ) (left : List Rec) (whole : List lines.Line) → k < length rows
+    → map (shown t rows) old ++ row_lines (label (path_at t n)) (row_at rows k ∷ left) ≡ whole
+    → map (shown t rows) (old ++ record { node = n; row = Some k } ∷ []) ++ row_lines (label (path_at t n)) left ≡ whole
+row_lines-more t rows n old k left whole l before =
+    let line : Line = record { node = n; row = Some k } in
+    let text = label (path_at t n) in
+    ap (λ front. front ++ row_lines text left) (map-append (shown t rows) old (line ∷ []))
+    ∙ append_assoc (map (shown t rows) old) (shown t rows line ∷ []) (row_lines text left)
+    ∙ ap (λ (first : lines.Line). map (shown t rows) old ++ first ∷ row_lines text left)
+    (λ j. record { label = text; row = slice_get-get_or rows k no_row l j })
     ∙ before
 
 -- how many places there are from one on
@@ -142,14 +143,16 @@ module _ (p : Plan) (k : ℕ) (next : Option ℕ) where
       by None lacks = omega (arith, within)
       by (Some j) first = omega (arith, within, first.within, first.later, of.1.at.2.places_counted)
 
-  pub lines-more : (rows : List Rec) (text : List ℕ) (old new : List Line) (copied : List ℕ) (whole : List lines.Line) (plan : IsPlan p rows) → k < length p.rows.next.items → Follows p k next
-      → copied ≡ text → new ≡ old ++ record { label = copied; row = Some k } ∷ [] → map (shown rows) old ++ row_lines text (left_rows rows (Some k)) ≡ whole
-      → map (shown rows) new ++ row_lines text (left_rows rows next) ≡ whole
-  lines-more rows text old new copied whole plan within is copy written before =
+  pub lines-more : (rows : List Rec) (n : NodeNumber) (old new : List Line) (whole : List lines.Line) (plan : IsPlan p rows) → k < length p.rows.next.items → Follows p k next
+      → new ≡ old ++ record { node = n; row = Some k } ∷ []
+      → map (shown p.context rows) old ++ row_lines (label (path_at p.context n)) (left_rows rows (Some k)) ≡ whole
+      → map (shown p.context rows) new ++ row_lines (label (path_at p.context n)) (left_rows rows next) ≡ whole
+  lines-more rows n old new whole plan within is written before =
       let places_is = places p.context plan.context rows p.rows plan.at in
-      ap (λ l. map (shown rows) l ++ row_lines text (left_rows rows next)) written
-      ∙ row_lines-more rows text old (record { label = copied; row = Some k }) k (left_rows rows next) whole (omega (arith, within, places_is)) (λ j. record { label = copy j; row = Some k })
-      (ap (λ left. map (shown rows) old ++ row_lines text left) (sym (left-next p.context plan.context rows p.rows plan.at k next (omega (arith, within, places_is)) (follows rows plan within is))) ∙ before)
+      let text = label (path_at p.context n) in
+      ap (λ l. map (shown p.context rows) l ++ row_lines text (left_rows rows next)) written
+      ∙ row_lines-more p.context rows n old k (left_rows rows next) whole (omega (arith, within, places_is))
+      (ap (λ left. map (shown p.context rows) old ++ row_lines text left) (sym (left-next p.context plan.context rows p.rows plan.at k next (omega (arith, within, places_is)) (follows rows plan within is))) ∙ before)
 
 -- the first place, of which it is known that it is the first in each reading of the plan
 abbrev pub Leads : Plan → ℕ → Option ℕ → Type 0
@@ -174,10 +177,10 @@ abbrev pub first_lines : List ℕ → List Rec → Option ℕ → List lines.Lin
 first_lines text rows None = record { label = text; row = None } ∷ []
 first_lines text rows (Some k) = row_lines text (left_rows rows (Some k))
 
-pub node_lines-first : (p : Plan) (rows : List Rec) (place : ℕ) (n : NodeNumber) (first : Option ℕ) (text : List ℕ) → IsPlan p rows → place < length (nodes_in p.context) → n.0 ≡ suc place → Leads p n.0 first
-    → text ≡ label (path_at p.context n) → first_lines text rows first ≡ node_lines rows (nth_node p.context place)
-node_lines-first p rows place n first text plan within is head labelled =
-    lines_are ∙ (λ j. lines_of (labelled j) (left j))
+pub node_lines-first : (p : Plan) (rows : List Rec) (place : ℕ) (n : NodeNumber) (first : Option ℕ) → IsPlan p rows → place < length (nodes_in p.context) → n.0 ≡ suc place → Leads p n.0 first
+    → first_lines (label (path_at p.context n)) rows first ≡ node_lines rows (nth_node p.context place)
+node_lines-first p rows place n first plan within is head =
+    lines_are ∙ ap (lines_of (label (path_at p.context n))) left
     ∙ ap (node_lines rows) (ap (λ (k : ℕ). path_at p.context (record { 0 = k })) is ∙ nth_is p.context place)
   where
     n_within : n.0 < length p.context.paths
@@ -185,6 +188,9 @@ node_lines-first p rows place n first text plan within is head labelled =
 
     left : left_rows rows first ≡ rows_at rows (path_at p.context n)
     left = first-rows p n first rows plan n_within head
+
+    text : List ℕ
+    text = label (path_at p.context n)
 
     by : (o : Option ℕ) → IsNext plan.at.0 0 n.0 o → first_lines text rows o ≡ lines_of text (left_rows rows o)
     by None lacks = refl
@@ -202,9 +208,14 @@ label-written empty spaces out path up e v is none indented same written =
     ∙ (λ j. (indented ∙ ap (λ front. front ++ indent up) none) j ++ value_text (same j))
     ∙ sym (label-push up e) ∙ ap label (sym is)
 
-pub lines-start : (p : Plan) (rows : List Rec) (first : Option ℕ) (text : List ℕ) (old : List Line) (new : List lines.Line) → IsPlan p rows → Leads p 0 first → old ≡ [] → text ≡ []
-    → new ≡ map (shown rows) old ++ row_lines text (left_rows rows first) → new ≡ row_lines (label []) (rows_at rows []) ++ []
-lines-start p rows first text old new plan leads none empty is =
+pub lines-start : (p : Plan) (rows : List Rec) (first : Option ℕ) (old : List Line) (new : List lines.Line) → IsPlan p rows → Leads p 0 first → old ≡ []
+    → new ≡ map (shown p.context rows) old ++ row_lines (label (path_at p.context (record { 0 = 0 }))) (left_rows rows first) → new ≡ row_lines (label []) (rows_at rows []) ++ []
+lines-start p rows first old new plan leads none is =
     is
-    ∙ (λ j. map (shown rows) (none j) ++ row_lines (empty j) ((first-rows p (record { 0 = 0 }) first rows plan (root_within plan.context) leads ∙ ap (rows_at rows) (root_path plan.context)) j))
+    ∙ (λ j. map (shown p.context rows) (none j) ++ row_lines (label (root_path plan.context j))
+    ((first-rows p (record { 0 = 0 }) first rows plan (root_within plan.context) leads ∙ ap (rows_at rows) (root_path plan.context)) j))
     ∙ sym (append-nil (row_lines [] (rows_at rows [])))
+
+-- lines with one more are those of nodes of the tree
+pub within-more : (t : Tree) (old new : List Line) (line : Line) → new ≡ old ++ line ∷ [] → IsWithin t line → All (IsWithin t) old → All (IsWithin t) new
+within-more t old new line is within all = subst (All (IsWithin t)) (sym is) (All-push (IsWithin t) old line all within)

@@ -1,28 +1,28 @@
 -- What a context has after one more node, after one more row.
-use Rattle.std.proofs.Common.{◌≡◌, ℕ, zero, suc, ◌+◌, ◌<◌, Bool, List, [], ◌∷◌, ◌++◌, ◌⊎◌, inl, inr, length, get_or, map, take, refl, sym, ap, ◌∙◌, subst, arith, append_assoc, true, false, filter, if◌then◌else◌}
+use Rattle.std.proofs.Common.{◌≡◌, ℕ, zero, suc, ◌+◌, ◌<◌, Bool, List, [], ◌∷◌, ◌++◌, inl, inr, length, get_or, map, take, refl, sym, ap, ◌∙◌, subst, arith, append_assoc, true, false, filter, if◌then◌else◌}
 use Rattle.std.specs.List.{All, Contains, flat_map}
 use Rattle.std.specs.Ordering.{eq_by_cmp}
 use Rattle.std.proofs.lemmas.Grind.{flat_map-append}
 use Rattle.std.proofs.lemmas.List.{append-nil, map-append, map-id, take_more}
-use Rattle.std.proofs.lemmas.List.Elements.{All-push, filter-append}
+use Rattle.std.proofs.lemmas.List.Elements.{All-append, All-cons, All-nil, All-push, Contains-append_left, Contains-get_or, filter-append}
 use Rattle.std.proofs.lemmas.Option.{get_or_from_slice_get, slice_get_within}
 use Rattle.cal_value.specs.ExactOrder.{exact_equiv, exact_tells}
-use Rattle.cal_value.specs.Order.{attribute_cmp, path_cmp}
+use Rattle.cal_value.specs.Order.{attribute_cmp}
 use Rattle.cal_value.specs.OrderLaws.{attribute_exact, path_exact}
 use Rattle.cal_value.specs.declared.attribute.Attribute.{Attribute}
 use Rattle.cal_value.specs.declared.attribute.Entry.{Entry}
 use Rattle.cal_value.specs.declared.record.Rec.{Rec}
 use Rattle.cal_context.specs.Children.{AddsAttribute, AddsChild}
-use Rattle.cal_context.specs.Lists.{Adds}
-use Rattle.cal_context.specs.Tree.{Tree, Grows, IsContext, attribute_at, path_at, no_attribute}
+use Rattle.cal_context.specs.Lists.{Adds, IsFront}
+use Rattle.cal_context.specs.Tree.{Tree, Grows, attribute_at, path_at, no_attribute}
 use Rattle.cal_context.specs.declared.numbers.AttributeNumber.{AttributeNumber}
 use Rattle.cal_context.specs.declared.numbers.NodeNumber.{NodeNumber}
 use Rattle.cal_context.proofs.CallerLemmas.{Grows-refl, Grows-trans, path_at-Grows, attribute_at-Grows, within_paths}
 use Rattle.cal_context.proofs.ListLemmas.{map-alike}
 use Rattle.cal_value.specs.Flat.{joined}
 use Rattle.cal_rowset.specs.Hierarchy.{hierarchy, is_of_hierarchy}
-use Rattle.cal_treefmt.specs.Nodes.{firsts, is_node, nodes_of, nodes_on}
-use Rattle.cal_treefmt.specs.Walks.{AreAt, HasNodes, Walks, attributes_of}
+use Rattle.cal_treefmt.specs.Nodes.{firsts, is_node, nodes_on}
+use Rattle.cal_treefmt.specs.Walks.{AreAt, HasNodes, HasOnWay, Walks, attributes_of}
 use Rattle.cal_treefmt.proofs.Firsts.{firsts-Adds}
 
 -- ---- nodes on the way
@@ -42,6 +42,23 @@ nodes_on-append (e ∷ path) more = ap (λ nodes. (e ∷ []) ∷ nodes) (
     ap (map (λ node. e ∷ node)) (nodes_on-append path more)
     ∙ map-append (λ node. e ∷ node) (nodes_on path) (further path (nodes_on more))
     ∙ ap (λ nodes. map (λ node. e ∷ node) (nodes_on path) ++ nodes) (further-further (e ∷ []) path (nodes_on more)))
+
+further-append : (p q es fs : List Entry) → q ≡ p ++ es → further p (nodes_on es) ++ further q (nodes_on fs) ≡ further p (nodes_on (es ++ fs))
+further-append p q es fs is =
+    ap (λ q. further p (nodes_on es) ++ further q (nodes_on fs)) is
+    ∙ ap (λ s. further p (nodes_on es) ++ s) (sym (further-further p es (nodes_on fs)))
+    ∙ sym (map-append (λ node. p ++ node) (nodes_on es) (further es (nodes_on fs)))
+    ∙ ap (further p) (sym (nodes_on-append es fs))
+
+-- what is there stays
+pub Contains-front : {A : Type 0} (xs ys : List A) (x : A) → IsFront xs ys → Contains xs x → Contains ys x
+Contains-front xs ys x front there = subst (λ zs. Contains zs x) (sym front.1) (Contains-append_left xs front.0 x there)
+
+pub HasOnWay-Grows : (old new : Tree) (path entries : List Entry) → Grows old new → HasOnWay old path entries → HasOnWay new path entries
+HasOnWay-Grows old new path entries grows has = record {
+  nodes = λ k d l. Contains-front old.paths new.paths _ grows.paths (has.nodes k d l);
+  attributes = λ k d l. Contains-front old.attributes new.attributes _ grows.attributes (has.attributes k d l);
+}
 
 -- ---- one node more
 
@@ -71,10 +88,11 @@ module _ (old mid new : Tree) (up : NodeNumber) (e : Entry) (a : AttributeNumber
   grows : Grows old new
   grows = Grows-trans old mid new first_grows child_grows
 
+  same : attribute_at new a ≡ e.attr
+  same = let is = attribute-is old mid e.attr a first in attribute_at-Grows child_grows a is.0 ∙ is.1
+
   path : path_at new n ≡ path_at old up ++ e ∷ []
   path =
-      let is = attribute-is old mid e.attr a first in
-      let same : attribute_at new a ≡ e.attr = attribute_at-Grows child_grows a is.0 ∙ is.1 in
       let above = path_at-Grows grows up within in
       child.child.path ∙ (λ j. above j ++ record { attr = same j; value = e.value } ∷ [])
 
@@ -91,8 +109,14 @@ module _ (old mid new : Tree) (up : NodeNumber) (e : Entry) (a : AttributeNumber
       ∙ firsts-Adds (exact_equiv attribute_exact) (λ x y h. exact_tells attribute_exact x y h) (map (λ (f : Entry). f.attr) seen) e.attr old.attributes mid.attributes is first.attributes.adds
       ∙ ap (firsts (eq_by_cmp attribute_cmp)) (sym (map-append (λ (f : Entry). f.attr) seen (e ∷ [])))
 
+  has : HasOnWay new (path_at old up) (e ∷ [])
+  has = record {
+    nodes = All-cons (Contains new.paths) (path_at old up ++ e ∷ []) [] (subst (Contains new.paths) path (Contains-get_or new.paths n.0 [] child.child.within)) (All-nil (Contains new.paths));
+    attributes = All-cons (Contains new.attributes) e.attr [] (subst (Contains new.attributes) same (Contains-get_or new.attributes a.0 no_attribute child.child.known)) (All-nil (Contains new.attributes));
+  }
+
   pub Walks-child : Walks old new up (e ∷ []) n
-  Walks-child = record { grows = grows; within = child.child.within; path = path; nodes = nodes; attributes = attributes }
+  Walks-child = record { grows = grows; within = child.child.within; path = path; nodes = nodes; attributes = attributes; has = has }
 
 -- ---- ways
 
@@ -103,6 +127,7 @@ Walks-none t n within = record {
   path = sym (append-nil (path_at t n));
   nodes = λ seen is. is ∙ ap (λ s. [] ∷ firsts is_node s) (sym (append-nil seen));
   attributes = λ seen is. is ∙ ap attributes_of (sym (append-nil seen));
+  has = record { nodes = All-nil (Contains t.paths); attributes = All-nil (Contains t.attributes) };
 }
 
 pub Walks-trans : (a b c : Tree) (from mid to : NodeNumber) (es fs : List Entry) → Walks a b from es mid → Walks b c mid fs to → Walks a c from (es ++ fs) to
@@ -114,12 +139,17 @@ Walks-trans a b c from mid to es fs h g = record {
       g.nodes (seen ++ further (path_at a from) (nodes_on es)) (h.nodes seen is)
       ∙ ap (λ s. [] ∷ firsts is_node s) (
       append_assoc seen (further (path_at a from) (nodes_on es)) (further (path_at b mid) (nodes_on fs))
-      ∙ ap (λ s. seen ++ s) (
-      ap (λ p. further (path_at a from) (nodes_on es) ++ further p (nodes_on fs)) h.path
-      ∙ ap (λ s. further (path_at a from) (nodes_on es) ++ s) (sym (further-further (path_at a from) es (nodes_on fs)))
-      ∙ sym (map-append (λ node. path_at a from ++ node) (nodes_on es) (further es (nodes_on fs)))
-      ∙ ap (further (path_at a from)) (sym (nodes_on-append es fs))));
+      ∙ ap (λ s. seen ++ s) (further-append (path_at a from) (path_at b mid) es fs h.path));
   attributes = λ seen is. g.attributes (seen ++ es) (h.attributes seen is) ∙ ap attributes_of (append_assoc seen es fs);
+  has =
+      let before = HasOnWay-Grows b c (path_at a from) es g.grows h.has in
+      let attr : Entry → Attribute = λ e. e.attr in
+      record {
+        nodes = subst (All (Contains c.paths)) (further-append (path_at a from) (path_at b mid) es fs h.path)
+            (All-append (Contains c.paths) (further (path_at a from) (nodes_on es)) (further (path_at b mid) (nodes_on fs)) before.nodes g.has.nodes);
+        attributes = subst (All (Contains c.attributes)) (sym (map-append attr es fs))
+            (All-append (Contains c.attributes) (map attr es) (map attr fs) before.attributes g.has.attributes);
+      };
 }
 
 -- ---- rows

@@ -2,7 +2,9 @@ pub mod Nodes
 pub mod Lines
 pub mod Chains
 pub mod Walks
+pub mod Ways
 pub mod Orders
 pub mod Plans
 pub mod Columns
 pub mod Tree
+pub mod Shown

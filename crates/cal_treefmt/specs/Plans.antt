@@ -1,13 +1,13 @@
 -- What is laid out, and the lines that are made of it.
 use Rattle.std.specs.Prelude.{◌≡◌, ℕ, ◌<◌, List, [], Option, None, Some, ⊤}
-use Rattle.std.specs.Prelude.{drop, filter, length, map, slice_get, slice_index_or, MatchOption}
+use Rattle.std.specs.Prelude.{drop, length, map, slice_get, slice_index_or, MatchOption}
 use Rattle.std.specs.Option.{option_and_then}
 use Rattle.std.specs.List.{All}
 use Rattle.cal_value.specs.declared.record.Rec.{Rec}
-use Rattle.cal_context.specs.Tree.{IsContext}
+use Rattle.cal_context.specs.Tree.{Tree, IsContext, path_at}
 use Rattle.cal_rowset.specs.Hierarchy.{hierarchy}
 use Rattle.cal_treefmt.specs.Lines as lines
-use Rattle.cal_treefmt.specs.Lines.{rows_at}
+use Rattle.cal_treefmt.specs.Lines.{label, rows_at}
 use Rattle.cal_treefmt.specs.Nodes.{ordered_nodes}
 use Rattle.cal_treefmt.specs.Orders.{AreRows, nodes_in}
 use Rattle.cal_treefmt.specs.Walks.{HasNodes}
@@ -37,9 +37,13 @@ left_rows rows (Some k) =
     rows_at (drop k rows)
     (hierarchy (slice_index_or rows k (record { paths = []; imms = [] })))
 
+-- the line of a node of the tree
+abbrev pub IsWithin : Tree → Line → Type 0
+IsWithin t line = line.node.0 < length t.paths
+
 -- the line that is meant
-abbrev pub shown : List Rec → Line → lines.Line
-shown rows line = record {
-  label = line.label;
+abbrev pub shown : Tree → List Rec → Line → lines.Line
+shown t rows line = record {
+  label = label (path_at t line.node);
   row = option_and_then (slice_get rows) line.row;
 }

@@ -1,6 +1,6 @@
 -- What a context has of rows.
 use Rattle.std.specs.Prelude.{◌≡◌, ◌<◌, List, [], ◌∷◌, ◌++◌, length, map}
-use Rattle.std.specs.List.{All, flat_map}
+use Rattle.std.specs.List.{All, Contains, flat_map}
 use Rattle.std.specs.Ordering.{eq_by_cmp}
 use Rattle.cal_value.specs.Order.{attribute_cmp}
 use Rattle.cal_value.specs.declared.attribute.Attribute.{Attribute}
@@ -25,6 +25,11 @@ pub record HasNodes (t : Tree) (rows : List Rec) : Type 0 where
   pub nodes : t.paths ≡ [] ∷ nodes_of rows
   pub attributes : t.attributes ≡ attributes_of (flat_map hierarchy rows)
 
+-- a context has the nodes on the way along entries from a node, and their attributes
+pub record HasOnWay (t : Tree) (path entries : List Entry) : Type 0 where
+  pub nodes : All (Contains t.paths) (map (λ node. path ++ node) (nodes_on entries))
+  pub attributes : All (Contains t.attributes) (map (λ e. e.attr) entries)
+
 -- From a node one comes along entries to another one. The nodes on the way are added where they are
 -- new, and so are the attributes.
 pub record Walks (old new : Tree) (from : NodeNumber) (entries : List Entry) (to : NodeNumber)
@@ -37,3 +42,4 @@ pub record Walks (old new : Tree) (from : NodeNumber) (entries : List Entry) (to
       (seen ++ map (λ node. path_at old from ++ node) (nodes_on entries))
   pub attributes : (seen : List Entry) → old.attributes ≡ attributes_of seen
       → new.attributes ≡ attributes_of (seen ++ entries)
+  pub has : HasOnWay new (path_at old from) entries

@@ -7,11 +7,15 @@
 
 mod chains;
 mod columns;
+mod headers;
+mod label;
 mod lines;
+mod measured;
 mod nodes;
 mod order;
 mod plan;
-mod texts;
+mod shown_line;
 mod tree;
+mod ways;
 
 pub use tree::tree_text;

@@ -1,89 +1,102 @@
 ghost use Rattle.std.specs.Prelude.{◌≡◌, ◌<◌, List, ◌∷◌, ◌++◌, length, map, suc, IfOk, OnOk};
 ghost use Rattle.std.specs.Prelude.{slice_index_or, [], None};
+ghost use Rattle.std.specs.List.{All};
 ghost use Rattle.cal_value.specs.declared.record.Rec.{Rec};
 ghost use Rattle.cal_context.specs.Tree.{path_at};
-ghost use Rattle.cal_treefmt.specs.Lines.{indent as indent_of, label as label_of, node_lines};
-ghost use Rattle.cal_treefmt.specs.Lines.{row_lines, tree_lines};
+ghost use Rattle.cal_treefmt.specs.Lines.{label, node_lines, row_lines, tree_lines};
 ghost use Rattle.cal_treefmt.specs.Orders.{nodes_in};
-ghost use Rattle.cal_treefmt.specs.Plans.{IsPlan, IsPlanOf, IsPlaceOf, left_rows, shown};
+ghost use Rattle.cal_treefmt.specs.Plans.{IsPlan, IsPlanOf, IsPlaceOf, IsWithin, left_rows};
+ghost use Rattle.cal_treefmt.specs.Plans.{shown};
 
 use crate::plan::Plan;
-use cal_context::{Context, NodeNumber};
-use cal_value::{OutOfMemory, Text, TryCopy, print_value};
+use cal_context::NodeNumber;
+use cal_value::OutOfMemory;
 use std::alloc::Global;
 
-/// A line: its label, and the place of its row, if it shows one.
-#[derive(Drop)]
+/// A line: its node, and the place of its row, if it shows one.
+#[derive(Debug, Drop)]
 pub(crate) struct Line {
-    pub(crate) label: Text,
+    pub(crate) node: NodeNumber,
     pub(crate) row: Option<usize>,
+}
+
+/// The line at a place.
+pub(crate) fn line_at(lines: &[Line], place: usize) -> &Line
+    requires { place < length lines.now }
+    ensures { result.now ≡ slice_index_or lines.now place result.now }
+{
+    &lines[place]
 }
 
 /// The lines of the rows of a plan.
 pub(crate) fn lines(alloc: Global, plan: &Plan) -> Result<Vec<Line>, OutOfMemory>
     requires { IsPlanOf plan.now }
-    ensures { IfOk result (λ lines. (rows : List Rec) → IsPlan plan.now rows
-        → map (shown rows) lines.items ≡ tree_lines rows) }
+    ensures within { IfOk result (λ lines. All (IsWithin plan.now.context) lines.items) }
+    ensures shown { IfOk result (λ lines. (rows : List Rec) → IsPlan plan.now rows
+        → map (shown plan.now.context rows) lines.items ≡ tree_lines rows) }
 {
     let mut lines = Vec::new(alloc);
-    let label = Text::new(alloc);
     let first = plan.rows.first(0);
-    push_rows(alloc, &mut lines, plan, &label, first)?;
+    push_rows(&mut lines, plan, NodeNumber::ROOT, first)?;
     for place in &plan.order {
-        push_node(alloc, &mut lines, plan, *place)?;
+        push_node(&mut lines, plan, *place)?;
     }
     Ok(lines)
 }
 
 /// Adds the lines of a node.
-fn push_node(
-    alloc: Global,
-    lines: &mut Vec<Line>,
-    plan: &Plan,
-    place: usize,
-) -> Result<(), OutOfMemory>
+fn push_node(lines: &mut Vec<Line>, plan: &Plan, place: usize) -> Result<(), OutOfMemory>
     requires plan { IsPlanOf plan.now }
-    requires within { place < length (nodes_in plan.now.context) }
-    ensures { OnOk result ((rows : List Rec) → IsPlan plan.now rows
-        → map (shown rows) lines.new.items ≡ map (shown rows) lines.old.items
+    requires place { place < length (nodes_in plan.now.context) }
+    ensures within { OnOk result (All (IsWithin plan.now.context) lines.old.items
+        → All (IsWithin plan.now.context) lines.new.items) }
+    ensures shown { OnOk result ((rows : List Rec) → IsPlan plan.now rows
+        → map (shown plan.now.context rows) lines.new.items
+        ≡ map (shown plan.now.context rows) lines.old.items
         ++ node_lines rows (slice_index_or (nodes_in plan.now.context) place [])) }
 {
-    let number = numbered(place)?;
-    let label = label(alloc, &plan.context, number)?;
-    let first = plan.rows.first(number.0 as usize);
+    let node = numbered(place)?;
+    let first = plan.rows.first(node.0 as usize);
     match first {
-        Some(row) => push_rows(alloc, lines, plan, &label, Some(row)),
-        None => push_line(lines, label),
+        Some(row) => push_rows(lines, plan, node, Some(row)),
+        None => push_line(lines, plan, node),
     }
 }
 
 /// Adds a line without a row.
-fn push_line(lines: &mut Vec<Line>, label: Text) -> Result<(), OutOfMemory>
-    ensures { OnOk result ((rows : List Rec) → map (shown rows) lines.new.items
-        ≡ map (shown rows) lines.old.items ++ record { label = label; row = None } ∷ []) }
+fn push_line(lines: &mut Vec<Line>, plan: &Plan, node: NodeNumber) -> Result<(), OutOfMemory>
+    requires { node.0 < length plan.now.context.paths }
+    ensures within { OnOk result (All (IsWithin plan.now.context) lines.old.items
+        → All (IsWithin plan.now.context) lines.new.items) }
+    ensures shown { OnOk result ((rows : List Rec) → map (shown plan.now.context rows)
+        lines.new.items ≡ map (shown plan.now.context rows) lines.old.items
+        ++ record { label = label (path_at plan.now.context node); row = None } ∷ []) }
 {
-    lines.push(Line { label, row: None })?;
+    lines.push(Line { node, row: None })?;
     Ok(())
 }
 
 /// Adds a line for a row and each later one at its node.
 fn push_rows(
-    alloc: Global,
     lines: &mut Vec<Line>,
     plan: &Plan,
-    label: &Text,
+    node: NodeNumber,
     from: Option<usize>,
 ) -> Result<(), OutOfMemory>
     requires plan { IsPlanOf plan.now }
-    requires within { IsPlaceOf plan.now from }
-    ensures { OnOk result ((rows : List Rec) → IsPlan plan.now rows
-        → map (shown rows) lines.new.items ≡ map (shown rows) lines.old.items
-        ++ row_lines label.now (left_rows rows from)) }
+    requires node { node.0 < length plan.now.context.paths }
+    requires from { IsPlaceOf plan.now from }
+    ensures within { OnOk result (All (IsWithin plan.now.context) lines.old.items
+        → All (IsWithin plan.now.context) lines.new.items) }
+    ensures shown { OnOk result ((rows : List Rec) → IsPlan plan.now rows
+        → map (shown plan.now.context rows) lines.new.items
+        ≡ map (shown plan.now.context rows) lines.old.items
+        ++ row_lines (label (path_at plan.now.context node)) (left_rows rows from)) }
 {
     let mut from = from;
     while let Some(row) = from {
         lines.push(Line {
-            label: label.copy(alloc)?,
+            node,
             row: Some(row),
         })?;
         from = plan.rows.next(row);
@@ -99,31 +112,4 @@ fn numbered(place: usize) -> Result<NodeNumber, OutOfMemory>
         Ok(place) if place < u32::MAX => Ok(NodeNumber(place + 1)),
         _ => Err(OutOfMemory),
     }
-}
-
-/// The label of a node.
-fn label(alloc: Global, context: &Context, node: NodeNumber) -> Result<Text, OutOfMemory>
-    requires { node.0 < length context.now.paths }
-    ensures { IfOk result (λ text. text ≡ label_of (path_at context.now node)) }
-{
-    let mut label = Text::new(alloc);
-    let Some(link) = context.link(node) else {
-        return Ok(label);
-    };
-    indent(&mut label, context, link.parent)?;
-    print_value(context.value_at(link.value), &mut label)?;
-    Ok(label)
-}
-
-/// Adds two spaces for each entry of a node.
-fn indent(label: &mut Text, context: &Context, node: NodeNumber) -> Result<(), OutOfMemory>
-    requires { node.0 < length context.now.paths }
-    ensures { OnOk result (label.new ≡ label.old ++ indent_of (path_at context.now node)) }
-{
-    let mut node = node;
-    while let Some(link) = context.link(node) {
-        label.push_str("  ")?;
-        node = link.parent;
-    }
-    Ok(())
 }

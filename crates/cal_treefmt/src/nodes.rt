@@ -1,10 +1,14 @@
-ghost use Rattle.std.specs.Prelude.{◌≡◌, ◌<◌, [], ◌∷◌, filter, length, map, IfOk};
+ghost use Rattle.std.specs.Prelude.{◌<◌, [], ◌∷◌, filter, length, map, IfOk};
+ghost use Rattle.std.specs.List.{All};
+ghost use Rattle.cal_context.specs.Snapshots.{IsIn, meaning};
+ghost use Rattle.cal_rowset.specs.Answers.{AreWithin, rows_of};
 ghost use Rattle.cal_rowset.specs.Hierarchy.{hierarchy, is_of_hierarchy};
 ghost use Rattle.cal_treefmt.specs.Walks.{AreAt, HasNodes, Walks};
 
-use cal_context::{Context, NodeNumber};
-use cal_rowset::is_of_hierarchy;
-use cal_value::{Entry, OutOfMemory, Rec};
+use crate::ways::Ways;
+use cal_context::{Context, NodeNumber, Snapshot};
+use cal_rowset::{Rows, is_of_hierarchy};
+use cal_value::{Attribute, Entry, OutOfMemory, Rec, Variant};
 use std::alloc::Global;
 
 /// The nodes of rows, and of each row the node to which its hierarchy leads.
@@ -15,7 +19,19 @@ pub(crate) struct Nodes {
 }
 
 impl Nodes {
-    pub(crate) fn new(alloc: Global, rows: &[Rec]) -> Result<Self, OutOfMemory>
+    pub(crate) fn new(alloc: Global, rows: Rows<'_>) -> Result<Self, OutOfMemory>
+        requires { AreWithin rows }
+        ensures nodes { IfOk result (λ nodes. HasNodes nodes.context (rows_of rows.entry)) }
+        ensures of_rows { IfOk result (λ nodes. AreAt nodes.context
+            nodes.of_rows.items (map hierarchy (rows_of rows.entry))) }
+    {
+        match rows {
+            Rows::Owned(rows) => Nodes::of_owned(alloc, rows),
+            Rows::Numbered(context, rows) => Nodes::of_numbered(alloc, context, rows),
+        }
+    }
+
+    fn of_owned(alloc: Global, rows: &[Rec]) -> Result<Self, OutOfMemory>
         ensures nodes { IfOk result (λ nodes. HasNodes nodes.context rows.now) }
         ensures of_rows { IfOk result (λ nodes. AreAt nodes.context
             nodes.of_rows.items (map hierarchy rows.now)) }
@@ -24,6 +40,24 @@ impl Nodes {
         let mut of_rows = Vec::with_capacity(alloc, rows.len())?;
         for row in rows {
             let node = add_row(&mut context, row)?;
+            of_rows.push(node)?;
+        }
+        Ok(Nodes { context, of_rows })
+    }
+
+    /// The same of rows that snapshots mean. Each node of theirs is walked once for all rows.
+    fn of_numbered(alloc: Global, numbers: &Context, rows: &[Snapshot]) -> Result<Self, OutOfMemory>
+        requires { All (IsIn numbers.now) rows.now }
+        ensures nodes { IfOk result (λ nodes. HasNodes nodes.context
+            (map (meaning numbers.now) rows.now)) }
+        ensures of_rows { IfOk result (λ nodes. AreAt nodes.context
+            nodes.of_rows.items (map hierarchy (map (meaning numbers.now) rows.now))) }
+    {
+        let mut ways = Ways::new(alloc, numbers)?;
+        let mut context = Context::new(alloc);
+        let mut of_rows = Vec::with_capacity(alloc, rows.len())?;
+        for row in rows {
+            let node = ways.add_row(numbers, row, &mut context)?;
             of_rows.push(node)?;
         }
         Ok(Nodes { context, of_rows })
@@ -54,35 +88,40 @@ fn add_path(
 {
     let mut node = from;
     for entry in path {
-        node = add_entry(context, node, entry)?;
+        node = add_entry(context, node, &entry.attr, &entry.value)?;
     }
     Ok(node)
 }
 
-fn add_entry(
+/// The node to which an entry of this attribute and value leads.
+pub(crate) fn add_entry(
     context: &mut Context,
     parent: NodeNumber,
-    entry: &Entry,
+    attribute: &Attribute,
+    value: &Variant,
 ) -> Result<NodeNumber, OutOfMemory>
     requires { parent.0 < length context.old.paths }
     ensures { IfOk result (λ n. Walks context.old context.new parent
-        (filter (λ e. is_of_hierarchy e.attr) (entry.now ∷ [])) n) }
+        (filter (λ e. is_of_hierarchy e.attr)
+        (record { attr = attribute.now; value = value.now } ∷ [])) n) }
 {
-    if !is_of_hierarchy(&entry.attr) {
+    if !is_of_hierarchy(attribute) {
         return Ok(parent);
     }
-    add_child(context, parent, entry)
+    add_child(context, parent, attribute, value)
 }
 
 fn add_child(
     context: &mut Context,
     parent: NodeNumber,
-    entry: &Entry,
+    attribute: &Attribute,
+    value: &Variant,
 ) -> Result<NodeNumber, OutOfMemory>
     requires { parent.0 < length context.old.paths }
-    ensures { IfOk result (λ n. Walks context.old context.new parent (entry.now ∷ []) n) }
+    ensures { IfOk result (λ n. Walks context.old context.new parent
+        (record { attr = attribute.now; value = value.now } ∷ []) n) }
 {
-    let attribute = context.attribute(&entry.attr)?;
-    let node = context.child(parent, attribute, &entry.value)?;
+    let number = context.attribute(attribute)?;
+    let node = context.child(parent, number, value)?;
     Ok(node)
 }

@@ -1,11 +1,13 @@
 ghost use Rattle.std.specs.Prelude.{IfOk};
+ghost use Rattle.cal_rowset.specs.Answers.{AreWithin, rows_of};
 ghost use Rattle.cal_treefmt.specs.Plans.{IsPlan};
 
 use crate::chains::Chains;
 use crate::nodes::Nodes;
 use crate::order::{children, order};
 use cal_context::Context;
-use cal_value::{OutOfMemory, Rec};
+use cal_rowset::Rows;
+use cal_value::OutOfMemory;
 use std::alloc::Global;
 
 /// What is laid out: the nodes of rows, their order, and the rows at each.
@@ -18,8 +20,9 @@ pub(crate) struct Plan {
 }
 
 impl Plan {
-    pub(crate) fn new(alloc: Global, rows: &[Rec]) -> Result<Self, OutOfMemory>
-        ensures { IfOk result (λ plan. IsPlan plan rows.now) }
+    pub(crate) fn new(alloc: Global, rows: Rows<'_>) -> Result<Self, OutOfMemory>
+        requires { AreWithin rows }
+        ensures { IfOk result (λ plan. IsPlan plan (rows_of rows.entry)) }
     {
         let nodes = Nodes::new(alloc, rows)?;
         nodes.context.has_each_once();

@@ -1,49 +1,97 @@
-ghost use Rattle.std.specs.Prelude.{◌≡◌, IfOk};
-ghost use Rattle.cal_treefmt.specs.Columns.{columns_beside as beside_of};
-ghost use Rattle.cal_treefmt.specs.Tree.{rights, tree, tree_of};
+ghost use Rattle.std.specs.Prelude.{◌≡◌, ◌++◌, List, map, length, suc, IfOk, OnOk};
+ghost use Rattle.std.specs.List.{All, flat_map};
+ghost use Rattle.cal_rowset.specs.declared.rowset.Column as columns;
+ghost use Rattle.cal_tabfmt.specs.Grid.{grid_line};
+ghost use Rattle.cal_treefmt.specs.Lines as lines;
+ghost use Rattle.cal_treefmt.specs.Plans.{IsWithin, shown};
+ghost use Rattle.cal_treefmt.specs.Shown.{ShowsLine};
+ghost use Rattle.cal_treefmt.specs.Tree.{header_texts, line_texts, tree};
 
 use crate::columns::columns_beside;
-use crate::lines::lines;
+use crate::headers::header_texts;
+use crate::lines::{Line, line_at, lines};
+use crate::measured::measured;
 use crate::plan::Plan;
-use crate::texts::texts;
-use cal_rowset::{Column, Rowset};
-use cal_tabfmt::grid_text;
-use cal_value::{OutOfMemory, Rec, Text};
+use crate::shown_line::ShownLine;
+use cal_context::Context;
+use cal_rowset::{Answer, Column};
+use cal_tabfmt::{Shape, append_line, append_shown};
+use cal_value::{OutOfMemory, Text};
 use std::alloc::Global;
 
-/// The tree of an answer. It takes time in the entries of the rows and in its own text, and keeps
-/// each cell once.
-pub fn tree_text(alloc: Global, answer: &Rowset) -> Result<Text, OutOfMemory>
-    ensures { IfOk result (λ text. text ≡ tree answer.now) }
+/// The tree of an answer. It takes time in the entries of the rows and in its own text. It goes over
+/// the lines twice, first for the widths of the columns, and keeps no text but its own.
+pub fn tree_text<A: Answer>(alloc: Global, answer: &A) -> Result<Text, OutOfMemory>
+    ensures { IfOk result (λ text. text ≡ tree (A.answer answer.now)) }
 {
-    laid_out(
-        alloc,
-        answer.columns.as_slice(),
-        answer.rows.rows.as_slice(),
-    )
-}
-
-/// The tree of rows, with those of the columns that stand beside it.
-fn laid_out(alloc: Global, columns: &[Column], rows: &[Rec]) -> Result<Text, OutOfMemory>
-    ensures { IfOk result (λ text. text ≡ tree_of (beside_of rows.now columns.now) rows.now) }
-{
-    let plan = Plan::new(alloc, rows)?;
-    let beside = columns_beside(alloc, columns, &plan.context)?;
+    let plan = Plan::new(alloc, answer.rows())?;
+    let beside = columns_beside(alloc, answer.columns(), &plan.context)?;
     let lines = lines(alloc, &plan)?;
-    let texts = texts(alloc, &beside, rows, &lines)?;
-    let rights = rights(alloc, &beside)?;
-    let text = grid_text(alloc, &rights, texts.as_slice())?;
-    Ok(text)
+    let shapes = measured(alloc, &beside, &plan.context, answer, &lines)?;
+    let mut out = Text::new(alloc);
+    write_headers(alloc, &mut out, &shapes, &beside)?;
+    write_lines(
+        alloc,
+        &mut out,
+        &shapes,
+        &beside,
+        &plan.context,
+        answer,
+        &lines,
+    )?;
+    Ok(out)
 }
 
-/// Labels stand on the left, and the columns beside them are right-aligned.
-fn rights(alloc: Global, columns: &[Column]) -> Result<Vec<bool>, OutOfMemory>
-    ensures { IfOk result (λ aligned. aligned.items ≡ rights columns.now) }
+fn write_headers(
+    alloc: Global,
+    out: &mut Text,
+    shapes: &[Shape],
+    columns: &[Column],
+) -> Result<(), OutOfMemory>
+    ensures { OnOk result (out.new ≡ out.old ++ grid_line shapes.now (header_texts columns.now)) }
 {
-    let mut rights = Vec::new(alloc);
-    rights.push(false)?;
-    for _column in columns {
-        rights.push(true)?;
+    let headers = header_texts(alloc, columns)?;
+    append_line(out, shapes, headers.as_slice())
+}
+
+/// Writes lines, with these columns beside their labels.
+fn write_lines<A: Answer>(
+    alloc: Global,
+    out: &mut Text,
+    shapes: &[Shape],
+    columns: &[Column],
+    context: &Context,
+    answer: &A,
+    lines: &[Line],
+) -> Result<(), OutOfMemory>
+    requires { All (IsWithin context.now) lines.now }
+    ensures { OnOk result (length shapes.now ≡ suc (length columns.now) → out.new ≡ out.old
+        ++ flat_map (λ line. grid_line shapes.now (line_texts columns.now
+        (shown context.now (A.answer answer.now).rows.rows line))) lines.now) }
+{
+    let mut shown = ShownLine::new(alloc, columns, answer)?;
+    for place in 0..lines.len() {
+        let line = line_at(lines, place);
+        shown.show(context, answer, line)?;
+        write_line(alloc, out, shapes, &shown)?;
     }
-    Ok(rights)
+    Ok(())
+}
+
+/// Writes a line that is shown.
+fn write_line(
+    alloc: Global,
+    out: &mut Text,
+    shapes: &[Shape],
+    shown: &ShownLine,
+) -> Result<(), OutOfMemory>
+    ensures { OnOk result ((columns : List columns.Column) (line : lines.Line)
+        → ShowsLine columns shown.now line → length shapes.now ≡ suc (length columns)
+        → out.new ≡ out.old ++ grid_line shapes.now (line_texts columns line)) }
+{
+    let mut pending = 0;
+    for place in 0..shapes.len() {
+        pending = append_shown(alloc, out, pending, place, shapes, shown.text(place))?;
+    }
+    out.push_str("\n")
 }

@@ -7,10 +7,10 @@ pub loop-place-preserved : goal.loop-place-preserved
 loop-place-preserved c =
     let kept = c.loop-place.invariant in
     record {
-      counted = c.hold_cell.ensures.counted ∙ kept.counted;
+      counted = c.in_ok-hold_cell.ensures.counted ∙ kept.counted;
       known = λ columns row rows shows is.
           let many = ap length is ∙ length-map columns _ in
-          c.hold_cell.ensures.held columns row rows shows (omega (arith, many, kept.counted, c.loop-place-test.true)) (kept.known columns row rows shows is);
+          c.in_ok-hold_cell.ensures.held columns row rows shows (omega (arith, many, kept.counted, c.loop-place-test.true)) (kept.known columns row rows shows is);
     }
 
 pub returns : goal.returns

@@ -4,7 +4,7 @@ use Rattle.cal_value.specs.declared.variant.Variant.{Variant}
 use Rattle.cal_rowset.specs.Cells.{values}
 use Rattle.cal_rowset.specs.Filling.{Shows}
 use Rattle.cal_rowset.specs.Hierarchy.{is_of_hierarchy}
-use Rattle.cal_tabfmt.specs.Snapshots.{link_entry}
+use Rattle.cal_rowset.specs.Links.{link_entry}
 use Rattle.cal_tabfmt.proofs.hierarchy_cell.push_links.Given as goal
 
 abbrev pub invariant-loop-link : goal.invariant-loop-link

@@ -1,6 +1,7 @@
 use Rattle.std.proofs.Common.{◌≡◌, List, ◌++◌, map, take}
 use Rattle.cal_value.specs.declared.attribute.Entry.{Entry}
-use Rattle.cal_tabfmt.specs.Snapshots.{KnowsAll, link_entry}
+use Rattle.cal_rowset.specs.Links.{link_entry}
+use Rattle.cal_tabfmt.specs.Snapshots.{KnowsAll}
 use Rattle.cal_tabfmt.specs.Trails.{IsTrail}
 use Rattle.cal_tabfmt.proofs.snapshot_cells.add_links.Given as goal
 

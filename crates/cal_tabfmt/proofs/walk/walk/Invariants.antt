@@ -1,6 +1,6 @@
 use Rattle.std.proofs.Common.{◌≡◌, ◌+◌, ◌<◌, ◌++◌, length, reverse, map, All}
 use Rattle.cal_context.specs.Tree.{path_at}
-use Rattle.cal_tabfmt.specs.Snapshots.{IsEntryOf, link_entry}
+use Rattle.cal_rowset.specs.Links.{IsEntryOf, link_entry}
 use Rattle.cal_tabfmt.specs.Trails.{IsTrail}
 use Rattle.cal_tabfmt.proofs.walk.walk.Given as goal
 
