@@ -27,6 +27,12 @@ read_map f [] n x y l e g = absurd (omega arith)
 read_map f (z ∷ zs) zero x y l e g = g ∙ ap f (sym e)
 read_map f (z ∷ zs) (suc n) x y l e g = read_map f zs n x y (omega arith) e g
 
+pub mapped_at : {A B : Type 0} (f : A → B) (xs : List A) (n : ℕ) (x : A) → n < length xs → x ≡ get_or xs n x
+    → (n < length (map f xs)) × (f x ≡ get_or (map f xs) n (f x))
+mapped_at f [] n x l e = absurd (omega arith)
+mapped_at f (y ∷ ys) zero x l e = (omega arith, ap f e)
+mapped_at f (y ∷ ys) (suc n) x l e = let rest = mapped_at f ys n x (omega arith) e in (omega (arith, rest.0), rest.1)
+
 -- what is kept for one group
 pub kept_at : (aggs : List Agg) (g : GroupLists) (keys : List Rec) (parts : List (List Gathered)) (all : List Gathered) (below : List (List Gathered))
     (n : ℕ) (key : Rec) (own lower : List Gathered)

@@ -1,5 +1,5 @@
 -- Names learned in turn are those names in first-seen order.
-use Rattle.std.proofs.Common.{◌≡◌, ℕ, Bool, true, false, not, ◌||◌, if◌then◌else◌, List, [], ◌∷◌, ◌++◌, codes, filter, map, refl, sym, ap, ◌∙◌, append_assoc, append-nil}
+use Rattle.std.proofs.Common.{◌≡◌, ℕ, zero, suc, ◌<◌, Bool, true, false, not, ◌||◌, if◌then◌else◌, List, [], ◌∷◌, ◌++◌, codes, filter, get_or, length, map, refl, sym, ap, ◌∙◌, append_assoc, append-nil, arith}
 use Rattle.std.specs.List.{flat_map, list_any}
 use Rattle.std.specs.Ordering.{eq_by_cmp}
 use Rattle.std.proofs.lemmas.Grind.{fold-append}
@@ -96,3 +96,14 @@ any_joined q (path ∷ paths) =
 
 pub nested_any : (row : Rec) → list_any (λ path. list_any (λ e. is_of_hierarchy e.attr) path) row.paths ≡ has_entries (hierarchy row)
 nested_any row = any_joined (λ e. is_of_hierarchy e.attr) row.paths ∙ has_entries-filter (λ e. is_of_hierarchy e.attr) (joined row.paths)
+
+-- some item passes a test where one at a place does
+pub any_at : {A B : Type 0} (q : B → Bool) (f : A → B) (xs : List A) (i : ℕ) (x : A) → i < length xs → x ≡ get_or xs i x → q (f x) ≡ true
+    → list_any q (map f xs) ≡ true
+any_at q f [] i x l e h = absurd (omega arith)
+any_at q f (y ∷ ys) zero x l e h = ap (λ b. b || list_any q (map f ys)) (ap (λ z. q (f z)) (sym e) ∙ h)
+any_at q f (y ∷ ys) (suc i) x l e h = by (q (f y)) (any_at q f ys i x (omega arith) e h)
+  where
+    by : (b : Bool) → list_any q (map f ys) ≡ true → (b || list_any q (map f ys)) ≡ true
+    by true rest = refl
+    by false rest = rest

@@ -26,3 +26,8 @@ pub mod Counting
 pub mod Tallying
 pub mod Gating
 pub mod Staying
+pub mod ResultNumbers
+pub mod SnapshotRanking
+pub mod MovedNumbers
+pub mod AnswerParts
+pub mod KeyWays

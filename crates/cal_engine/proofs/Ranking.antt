@@ -60,7 +60,7 @@ equal_total = record {
   congr = λ x y z e. refl;
 }
 
-values_total : (keys : List OrderKey) → IsTotalOrder (values_cmp keys)
+pub values_total : (keys : List OrderKey) → IsTotalOrder (values_cmp keys)
 values_total [] = equal_total
 values_total (key ∷ keys) =
     then_total
@@ -72,7 +72,7 @@ ranked_weak keys = ranks_by (values_total keys) (λ (r : Ranked). r.values)
 
 -- ---- it is that of the rows
 
-rank_cmp : (keys : List OrderKey) (row other : Rec) → ranked_cmp keys (rank keys row) (rank keys other) ≡ row_cmp keys row other
+pub rank_cmp : (keys : List OrderKey) (row other : Rec) → ranked_cmp keys (rank keys row) (rank keys other) ≡ row_cmp keys row other
 rank_cmp [] row other = refl
 rank_cmp (key ∷ keys) row other =
     ap (ordering_then (directed key.down (option_cmp value_cmp (value_named key.name row) (value_named key.name other))))
@@ -88,11 +88,11 @@ module _ {A B : Type 0} (f : A → B) (R : A → A → Ordering) (S : B → B �
       by true e rest = let other = ap is_lt (same y x) ∙ e in rw (e, other) (ap (λ zs. f y ∷ zs) rest)
       by false e rest = let other = ap is_lt (same y x) ∙ e in rw (e, other) refl
 
-  sorted-map : (xs : List A) → sorted S (map f xs) ≡ map f (sorted R xs)
+  pub sorted-map : (xs : List A) → sorted S (map f xs) ≡ map f (sorted R xs)
   sorted-map [] = refl
   sorted-map (x ∷ xs) = ap (put_in S (f x)) (sorted-map xs) ∙ put_in-map x (sorted R xs)
 
-rows_again : (keys : List OrderKey) (rows : List Rec) → map (λ (r : Ranked). r.row) (map (rank keys) rows) ≡ rows
+pub rows_again : (keys : List OrderKey) (rows : List Rec) → map (λ (r : Ranked). r.row) (map (rank keys) rows) ≡ rows
 rows_again keys [] = refl
 rows_again keys (row ∷ rows) = ap (λ rs. row ∷ rs) (rows_again keys rows)
 

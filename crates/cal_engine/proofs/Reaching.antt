@@ -12,22 +12,21 @@ use Rattle.cal_context.specs.declared.numbers.AttributeNumber.{AttributeNumber}
 use Rattle.cal_context.specs.declared.numbers.NodeNumber.{NodeNumber}
 use Rattle.cal_context.proofs.CallerLemmas.{Grows-trans, path_at-Grows, attribute_at-Grows, within_paths}
 use Rattle.cal_context.proofs.ListLemmas.{map-alike}
+use Rattle.cal_filter.specs.Results.{IsNumbered}
 use Rattle.cal_engine.specs.Totals.{AreWays, IsStep, Leads}
 use Rattle.cal_engine.specs.Trails.{trail}
 
 -- an attribute that was added is the one at its number
-attribute-is : (old new : Tree) (a : Attribute) (n : AttributeNumber) → AddsAttribute old a new n → (n.0 < length new.attributes) × (attribute_at new n ≡ a)
-attribute-is old new a n adds =
-    (slice_get_within new.attributes n.0 a adds.attributes.number, get_or_from_slice_get new.attributes n.0 a no_attribute adds.attributes.number)
+pub added-numbered : (old new : Tree) (a : Attribute) (n : AttributeNumber) → AddsAttribute old a new n → IsNumbered new a n
+added-numbered old new a n adds = record {
+  within = slice_get_within new.attributes n.0 a adds.attributes.number;
+  is = get_or_from_slice_get new.attributes n.0 a no_attribute adds.attributes.number;
+}
 
-pub attribute-within : (old new : Tree) (a : Attribute) (n : AttributeNumber) → AddsAttribute old a new n → n.0 < length new.attributes
-attribute-within old new a n adds = (attribute-is old new a n adds).0
-
-pub stepped : (old mid new : Tree) (parent : NodeNumber) (e : Entry) (a : AttributeNumber) (n : NodeNumber) → parent.0 < length old.paths → AddsAttribute old e.attr mid a → Grows old mid
+pub stepped : (old mid new : Tree) (parent : NodeNumber) (e : Entry) (a : AttributeNumber) (n : NodeNumber) → parent.0 < length old.paths → IsNumbered mid e.attr a → Grows old mid
     → AddsChild mid parent a e.value new n → Grows mid new → IsStep old new parent e n
-stepped old mid new parent e a n within attribute first child grows =
-    let is = attribute-is old mid e.attr a attribute in
-    let same : attribute_at new a ≡ e.attr = attribute_at-Grows grows a is.0 ∙ is.1 in
+stepped old mid new parent e a n within numbered first child grows =
+    let same : attribute_at new a ≡ e.attr = attribute_at-Grows grows a numbered.within ∙ numbered.is in
     let up = path_at-Grows (Grows-trans old mid new first grows) parent within in
     record {
       within = child.child.within;

@@ -4,9 +4,11 @@ use Rattle.std.specs.Prelude.{slice_index_or as get_or}
 use Rattle.std.specs.List.{All, AllZip, filter_map}
 use Rattle.std.proofs.Common.{refl, sym, ap, subst, ◌∙◌}
 use Rattle.std.proofs.lemmas.List.Elements.{All-weaker}
-use Rattle.cal_context.specs.Snapshots.{IsBelowRoot}
+use Rattle.cal_context.specs.Snapshots.{IsBelowRoot, IsIn, meaning}
 use Rattle.cal_context.specs.Tree.{Tree, Grows, path_at}
-use Rattle.cal_context.proofs.CallerLemmas.{Grows-refl, path_at-Grows, within_paths}
+use Rattle.cal_context.specs.declared.snapshot.Snapshot.{Snapshot}
+use Rattle.cal_context.proofs.CallerLemmas.{Grows-refl, IsIn-Grows, meaning-Grows}
+use Rattle.cal_context.proofs.CallerLemmas.{path_at-Grows, within_paths}
 use Rattle.cal_context.proofs.ListLemmas.{map-alike}
 use Rattle.cal_filter.specs.Kept.{kept}
 use Rattle.cal_filter.specs.Known.{Knows}
@@ -21,6 +23,7 @@ use Rattle.cal_engine.specs.Keys.{IsKeyIn, key_in, names_in, room_of}
 use Rattle.cal_engine.specs.Numbered.{Numbered, grouped_in}
 use Rattle.cal_engine.specs.Readings.{reading_of}
 use Rattle.cal_engine.specs.Sieves.{AreSieves, Sifts, in_paths, part_at}
+use Rattle.cal_engine.specs.SnapshotRows.{AreRows}
 use Rattle.cal_engine.specs.Standing.{HasFolded}
 use Rattle.cal_engine.specs.Tallies.{IsTally}
 use Rattle.cal_engine.specs.Totals.{Leads}
@@ -116,6 +119,17 @@ tally-Grows {t} {u} grows q rs y h =
       groups = grouped_in-Grows rooms y.groups h.keys ∙ h.groups;
     }
 
+-- rows by number mean the same records
+pub rows-Grows : {t u : Tree} → Grows t u → (rows : List Snapshot) (rs : List Rec)
+    → AreRows t rows rs → AreRows u rows rs
+rows-Grows {t} {u} grows rows rs h = record {
+  within = All-weaker (IsIn t) (IsIn u) (IsIn-Grows grows) rows h.within;
+  mean =
+      map-alike (meaning u) (meaning t) rows
+      (λ n d l. meaning-Grows grows (get_or rows n d) (h.within n d l))
+      ∙ h.mean;
+}
+
 pub HasFolded-stays : (fold : SnapshotFold) (old new : Tree) (rs : List Rec)
     → HasFolded fold old rs → Grows old new → HasFolded fold new rs
 HasFolded-stays fold old new rs h grows = record {
@@ -124,6 +138,6 @@ HasFolded-stays fold old new rs h grows = record {
   holds = record {
     groups = λ is. tally-Grows grows fold.query (filter_map (kept fold.query) rs) fold.tally
         (h.holds.groups is);
-    rows = h.holds.rows;
+    rows = λ isnt. rows-Grows grows fold.rows.items _ (h.holds.rows isnt);
   };
 }

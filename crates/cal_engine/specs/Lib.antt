@@ -17,7 +17,11 @@ pub mod Sieves
 pub mod Keys
 pub mod Numbered
 pub mod Counters
+pub mod SnapshotRows
 pub mod Tallies
 pub mod Gates
 pub mod Standing
 pub mod FoldGrows
+pub mod Results
+pub mod SnapshotRanks
+pub mod Moves

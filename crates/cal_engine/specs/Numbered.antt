@@ -1,9 +1,12 @@
 -- Groups whose keys are numbers.
 use Rattle.std.specs.Prelude.{◌≡◌, ℕ, List, [], map}
+use Rattle.std.specs.List.{All}
 use Rattle.cal_context.specs.Lists.{AreApart, Interns}
 use Rattle.cal_context.specs.Tree.{Tree}
-use Rattle.cal_engine.specs.Folding.{Grouped, put_parts}
-use Rattle.cal_engine.specs.Keys.{key_in}
+use Rattle.cal_ql.specs.declared.query.Query.{Query}
+use Rattle.cal_value.specs.declared.record.Rec.{Rec}
+use Rattle.cal_engine.specs.Folding.{Grouped, groups_over, put_parts}
+use Rattle.cal_engine.specs.Keys.{IsKeyIn, key_in}
 use Rattle.cal_engine.specs.Parts.{Gathered}
 use Rattle.cal_engine.specs.declared.key.GroupKey.{GroupKey}
 
@@ -22,3 +25,8 @@ pub record GathersKey (old : Numbered) (key : GroupKey) (fresh : List Gathered) 
   pub keys : Interns old.keys key new.keys number
   pub apart : AreApart old.keys
   pub parts : new.parts ≡ put_parts old.parts number fresh
+
+-- The groups are those of records, and their keys lie in the tree.
+pub record AreGroups (t : Tree) (q : Query) (rs : List Rec) (g : Numbered) : Type 0 where
+  pub keys : All (IsKeyIn t) g.keys
+  pub groups : grouped_in t g ≡ groups_over q rs

@@ -1,13 +1,16 @@
-ghost use Rattle.std.specs.Prelude.{◌≡◌, ◌<◌, [], length, fold, map, replicate, slice_index_or};
-ghost use Rattle.std.specs.Prelude.{All, IfOk};
+ghost use Rattle.std.specs.Prelude.{◌≡◌, ◌<◌, [], List, length, fold, map, replicate};
+ghost use Rattle.std.specs.Prelude.{slice_index_or, All, IfOk};
+ghost use Rattle.cal_value.specs.declared.record.Rec.{Rec as ARecord};
 ghost use Rattle.cal_engine.specs.Finishing.{parts_where};
+ghost use Rattle.cal_engine.specs.Keys.{key_in};
 ghost use Rattle.cal_engine.specs.Parts.{merged_parts as merged_by_place};
 ghost use Rattle.cal_engine.specs.Rows.{is_below};
-ghost use Rattle.cal_engine.specs.Totals.{AreTotals};
+ghost use Rattle.cal_engine.specs.Totals.{AreTotals, AreWays};
 
+use crate::key::GroupKey;
 use crate::part::Part;
 use crate::upwards::add_upwards;
-use crate::ways::ways_to;
+use crate::ways::{ways_to, ways_to_keys};
 use cal_context::{Context, NodeNumber};
 use cal_value::{OutOfMemory, Rec, Seq, TryCopy};
 use std::alloc::Global;
@@ -26,8 +29,45 @@ pub(crate) fn parts_below(
 {
     let mut context = Context::new(alloc);
     let nodes = ways_to(alloc, &mut context, keys)?;
-    let totals = totals(alloc, &context, &nodes, parts, none)?;
-    let below = picked(alloc, &nodes, &totals)?;
+    let below = gathered_below(alloc, &context, &nodes, parts, none)?;
+    Ok(below)
+}
+
+/// The same of groups whose keys lie in a tree.
+pub(crate) fn parts_below_keys(
+    alloc: Global,
+    tree: &Context,
+    keys: &[GroupKey],
+    parts: &[Seq<Part>],
+    none: &Seq<Part>,
+) -> Result<Vec<Seq<Part>>, OutOfMemory>
+    requires { length parts.now ≡ length keys.now }
+    ensures { IfOk result (λ below. below.items ≡ map (λ key. fold merged_by_place none.now
+        (parts_where (is_below key) (map (key_in tree.now) keys.now) parts.now))
+        (map (key_in tree.now) keys.now)) }
+{
+    let mut context = Context::new(alloc);
+    let nodes = ways_to_keys(alloc, &mut context, tree, keys)?;
+    let below = gathered_below(alloc, &context, &nodes, parts, none)?;
+    Ok(below)
+}
+
+/// The parts of the groups below each group, by the nodes to which the ways to them lead.
+fn gathered_below(
+    alloc: Global,
+    context: &Context,
+    nodes: &[NodeNumber],
+    parts: &[Seq<Part>],
+    none: &Seq<Part>,
+) -> Result<Vec<Seq<Part>>, OutOfMemory>
+    requires within { All (λ n. n.0 < length context.now.paths) nodes.now }
+    requires alike { length parts.now ≡ length nodes.now }
+    ensures { IfOk result (λ below. (keys : List ARecord) → AreWays context.now keys nodes.now
+        → below.items ≡ map (λ key. fold merged_by_place none.now
+        (parts_where (is_below key) keys parts.now)) keys) }
+{
+    let totals = totals(alloc, context, nodes, parts, none)?;
+    let below = picked(alloc, nodes, &totals)?;
     Ok(below)
 }
 

@@ -1,8 +1,9 @@
-ghost use Rattle.std.specs.Prelude.{◌≡◌, ◌++◌, map, IfOk, OnOk};
+ghost use Rattle.std.specs.Prelude.{◌≡◌, [], ◌∷◌, ◌++◌, codes, if◌then◌else◌, map};
+ghost use Rattle.std.specs.Prelude.{IfOk, OnOk};
 ghost use Rattle.std.specs.List.{flat_map, list_any};
 ghost use Rattle.cal_rowset.specs.Hierarchy.{hierarchy, is_of_hierarchy as is_nested};
 ghost use Rattle.cal_rowset.specs.Hierarchy.{other_entries};
-ghost use Rattle.cal_engine.specs.Answers.{columns_of as columns_by, path_first, plain_column};
+ghost use Rattle.cal_engine.specs.Answers.{columns_of as columns_by, plain_column};
 ghost use Rattle.cal_engine.specs.Answers.{shown_names};
 ghost use Rattle.cal_engine.specs.Groups.{has_entries};
 ghost use Rattle.cal_engine.specs.Learning.{learned, learned_one, names_beside};
@@ -30,7 +31,7 @@ pub(crate) fn columns_of(
     }
 }
 
-fn item_columns(alloc: Global, items: &[Item]) -> Result<Seq<Column>, OutOfMemory>
+pub(crate) fn item_columns(alloc: Global, items: &[Item]) -> Result<Seq<Column>, OutOfMemory>
     ensures { IfOk result (λ columns. columns
         ≡ map (λ i. record { header = i.header; name = i.name }) items.now) }
 {
@@ -44,7 +45,11 @@ fn item_columns(alloc: Global, items: &[Item]) -> Result<Seq<Column>, OutOfMemor
     Ok(Seq::from_vec(columns))
 }
 
-fn group_columns(alloc: Global, names: &[Text], aggs: &[Agg]) -> Result<Seq<Column>, OutOfMemory>
+pub(crate) fn group_columns(
+    alloc: Global,
+    names: &[Text],
+    aggs: &[Agg],
+) -> Result<Seq<Column>, OutOfMemory>
     ensures { IfOk result (λ columns. columns
         ≡ map plain_column (names.now ++ map (λ agg. agg.name) aggs.now)) }
 {
@@ -56,7 +61,11 @@ fn group_columns(alloc: Global, names: &[Text], aggs: &[Agg]) -> Result<Seq<Colu
     Ok(Seq::from_vec(columns))
 }
 
-fn add_columns(alloc: Global, columns: &mut Vec<Column>, names: &[Text]) -> Result<(), OutOfMemory>
+pub(crate) fn add_columns(
+    alloc: Global,
+    columns: &mut Vec<Column>,
+    names: &[Text],
+) -> Result<(), OutOfMemory>
     ensures { OnOk result (columns.new.items ≡ columns.old.items ++ map plain_column names.now) }
 {
     for name in names {
@@ -89,17 +98,18 @@ fn shown_columns(alloc: Global, rows: &[Rec]) -> Result<Seq<Column>, OutOfMemory
 fn shown(alloc: Global, rows: &[Rec]) -> Result<IndexSet<Text>, OutOfMemory>
     ensures { IfOk result (λ names. names.keys ≡ shown_names rows.now) }
 {
-    let mut names = first_names(alloc, rows)?;
+    let mut names = first_names(alloc, some_hierarchy(rows))?;
     learn_rows(alloc, &mut names, rows)?;
     Ok(names)
 }
 
 /// `path`, where some row has a hierarchy.
-fn first_names(alloc: Global, rows: &[Rec]) -> Result<IndexSet<Text>, OutOfMemory>
-    ensures { IfOk result (λ names. names.keys ≡ path_first rows.now) }
+pub(crate) fn first_names(alloc: Global, nested: bool) -> Result<IndexSet<Text>, OutOfMemory>
+    ensures { IfOk result (λ names. names.keys
+        ≡ (if nested then codes "path" ∷ [] else [])) }
 {
     let mut names = IndexSet::new(alloc);
-    if !some_hierarchy(rows) {
+    if !nested {
         return Ok(names);
     }
     names.insert(Text::from_str(alloc, "path")?)?;
@@ -123,7 +133,11 @@ fn learn_rows(alloc: Global, names: &mut IndexSet<Text>, rows: &[Rec]) -> Result
     Ok(())
 }
 
-fn learn_row(alloc: Global, names: &mut IndexSet<Text>, row: &Rec) -> Result<(), OutOfMemory>
+pub(crate) fn learn_row(
+    alloc: Global,
+    names: &mut IndexSet<Text>,
+    row: &Rec,
+) -> Result<(), OutOfMemory>
     ensures { OnOk result (names.new.keys
         ≡ learned names.old.keys (map (λ e. e.attr.name) (other_entries row.now))) }
 {
@@ -163,7 +177,7 @@ fn learn(alloc: Global, names: &mut IndexSet<Text>, name: &Text) -> Result<(), O
 }
 
 /// Whether a row has entries of the hierarchy.
-fn has_hierarchy(row: &Rec) -> bool
+pub(crate) fn has_hierarchy(row: &Rec) -> bool
     ensures { result ≡ has_entries (hierarchy row.now) }
 {
     some_nested(row.paths.as_slice())

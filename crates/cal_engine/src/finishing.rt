@@ -65,7 +65,7 @@ fn result_at(
 }
 
 /// What a kernel comes to, of the parts at its place.
-fn value_at(
+pub(crate) fn value_at(
     kernel: KernelName,
     own: Option<&Part>,
     all: Option<&Part>,
@@ -143,7 +143,7 @@ pub(crate) fn group_rows(
 }
 
 /// Whether some kernel looks at the groups below a group.
-fn some_inclusive(aggs: &[Agg]) -> bool
+pub(crate) fn some_inclusive(aggs: &[Agg]) -> bool
     ensures { result ≡ list_any (λ agg. is_inclusive agg.kernel) aggs.now }
 {
     aggs.iter()
@@ -174,7 +174,7 @@ fn rows(
 }
 
 /// What is kept of no record.
-fn no_parts(alloc: Global, aggs: &[Agg]) -> Result<Seq<Part>, OutOfMemory>
+pub(crate) fn no_parts(alloc: Global, aggs: &[Agg]) -> Result<Seq<Part>, OutOfMemory>
     ensures { IfOk result (λ parts. parts ≡ parts_over aggs.now []) }
 {
     let mut parts = Vec::with_capacity(alloc, aggs.len())?;

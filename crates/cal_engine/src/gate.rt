@@ -1,4 +1,4 @@
-ghost use Rattle.std.specs.Prelude.{◌≡◌, ◌<◌, ◌++◌, IsTrue, length, IfOk, OnOk};
+ghost use Rattle.std.specs.Prelude.{◌≡◌, ◌+◌, ◌<◌, ◌≤◌, [], ◌∷◌, ◌++◌, IsTrue, length, max, take, IfOk, OnOk};
 ghost use Rattle.std.specs.List.{All};
 ghost use Rattle.cal_context.specs.Snapshots.{IsIn, meaning};
 ghost use Rattle.cal_context.specs.Tree.{Grows};
@@ -13,7 +13,7 @@ use crate::small::is_small;
 use cal_context::{Context, Immediate, NodeNumber, Snapshot};
 use cal_filter::Filter;
 use cal_ql::Query;
-use cal_value::{OutOfMemory, TryCopy};
+use cal_value::{OutOfMemory, TryCopy, Variant};
 use std::alloc::Global;
 
 /// LET and WHERE of a query over records by number, whose numbers are no larger than 2^86.
@@ -126,7 +126,7 @@ fn has_small_entry(context: &Context, node: NodeNumber) -> bool
     }
 }
 
-/// Makes a snapshot the same as another.
+/// Makes a snapshot the same as another. The memory of its texts serves again.
 pub(crate) fn copy_into(
     alloc: Global,
     snapshot: &Snapshot,
@@ -135,25 +135,69 @@ pub(crate) fn copy_into(
     ensures nodes { OnOk result (copy.new.nodes.items ≡ snapshot.now.nodes.items) }
     ensures imms { OnOk result (copy.new.imms.items ≡ snapshot.now.imms.items) }
 {
-    copy.clear();
+    copy.nodes.clear();
     copy.nodes.extend_from_slice(&snapshot.nodes)?;
-    add_copies(alloc, &mut copy.imms, &snapshot.imms)?;
-    Ok(())
+    copy.imms.truncate(snapshot.imms.len());
+    put_copies(alloc, &mut copy.imms, &snapshot.imms)
 }
 
-/// Adds copies of immediates.
-fn add_copies(
+/// Puts copies of immediates in the place of those that are there.
+fn put_copies(
     alloc: Global,
     imms: &mut Vec<Immediate>,
     others: &[Immediate],
 ) -> Result<(), OutOfMemory>
-    ensures { OnOk result (imms.new.items ≡ imms.old.items ++ others.now) }
+    requires { length imms.old.items ≤ length others.now }
+    ensures { OnOk result (imms.new.items ≡ others.now) }
 {
-    for imm in others {
+    for (place, imm) in others.iter().enumerate() {
+        put_copy(alloc, imms, place, imm)?;
+    }
+    Ok(())
+}
+
+/// Puts the copy of an immediate at a place, or behind the last one.
+fn put_copy(
+    alloc: Global,
+    imms: &mut Vec<Immediate>,
+    place: usize,
+    imm: &Immediate,
+) -> Result<(), OutOfMemory>
+    requires { place ≤ length imms.old.items }
+    ensures front { OnOk result
+        (take (place + 1) imms.new.items ≡ take place imms.old.items ++ imm.now ∷ []) }
+    ensures long { OnOk result
+        (length imms.new.items ≡ max (length imms.old.items) (place + 1)) }
+{
+    if place < imms.len() {
+        copy_immediate(alloc, &mut imms[place], imm)?;
+    } else {
         imms.push(Immediate {
             attribute: imm.attribute,
             value: imm.value.copy(alloc)?,
         })?;
     }
+    Ok(())
+}
+
+/// Makes an immediate the same as another.
+fn copy_immediate(alloc: Global, imm: &mut Immediate, other: &Immediate) -> Result<(), OutOfMemory>
+    ensures { OnOk result (imm.new ≡ other.now) }
+{
+    imm.attribute = other.attribute;
+    copy_value(alloc, &mut imm.value, &other.value)
+}
+
+/// Makes a value the same as another.
+fn copy_value(alloc: Global, value: &mut Variant, other: &Variant) -> Result<(), OutOfMemory>
+    ensures { OnOk result (value.new ≡ other.now) }
+{
+    if let Variant::Text(text) = value {
+        if let Variant::Text(other) = other {
+            text.truncate(0);
+            return text.push_str(other.as_str());
+        }
+    }
+    *value = other.copy(alloc)?;
     Ok(())
 }

@@ -5,11 +5,12 @@ ghost use Rattle.cal_engine.specs.Groups.{group_of as group_by};
 ghost use Rattle.cal_engine.specs.Keys.{IsKeyOf, key_in};
 ghost use Rattle.cal_engine.specs.Sieves.{AreReadySieves};
 
+use crate::immediates::immediates_of;
 use crate::sieve::Sieve;
 use crate::sieves::{key_imms, key_paths};
 use crate::stepping::path_of;
 use cal_context::{Context, NodeNumber, Snapshot};
-use cal_value::{Entry, Exact, OutOfMemory, Rec, Seq};
+use cal_value::{Entry, Exact, OutOfMemory, Rec, Seq, TryCopy};
 use std::alloc::Global;
 
 /// The key of a group by numbers: the nodes of its paths, and that of the path which its immediates
@@ -20,6 +21,20 @@ pub(crate) struct GroupKey {
     imms: NodeNumber,
 }
 
+impl GroupKey {
+    /// The node of its immediates.
+    pub(crate) fn imms(&self) -> NodeNumber
+        ensures { result ≡ self.now.imms }
+    {
+        self.imms
+    }
+
+    /// The room that its paths take.
+    pub(crate) fn into_room(self) -> Vec<NodeNumber> {
+        self.paths.into_vec()
+    }
+}
+
 impl Exact for GroupKey {
     ghost use Rattle.std.proofs.Common.{rules};
     ghost use Rattle.std.proofs.lemmas.Grind.{common_steps};
@@ -28,30 +43,46 @@ impl Exact for GroupKey {
     ghost tells = { Prim.search (rules, common_steps, lists_tell) };
 }
 
-/// The key of a record without GROUP BY, in the tree of its context.
+impl TryCopy for GroupKey {
+    fn copy(&self, alloc: Global) -> Result<Self, OutOfMemory> {
+        Ok(GroupKey {
+            paths: Seq::from_vec(Vec::from_slice(alloc, self.paths.as_slice())?),
+            imms: self.imms,
+        })
+    }
+}
+
+/// The key of a record without GROUP BY, in the tree of its context. `room` is what its paths may
+/// take.
 pub(crate) fn key_by_nodes(
-    alloc: Global,
     context: &Context,
     snapshot: &Snapshot,
+    room: Vec<NodeNumber>,
 ) -> Result<GroupKey, OutOfMemory>
     requires { IsIn context.now snapshot.now }
     ensures { IfOk result
         (IsKeyOf context.now (group_by None (meaning context.now snapshot.now))) }
 {
     context.has_each_once();
+    let mut paths = room;
+    paths.clear();
+    paths.extend_from_slice(&snapshot.nodes)?;
     Ok(GroupKey {
-        paths: Seq::from_vec(Vec::from_slice(alloc, &snapshot.nodes)?),
+        paths: Seq::from_vec(paths),
         imms: NodeNumber::ROOT,
     })
 }
 
-/// The key of a record by the names of GROUP BY, in the tree of groups.
+/// The key of a record by the names of GROUP BY, in the tree of groups. The node of its immediates
+/// may be `near`, and `room` is what its paths may take.
 pub(crate) fn key_by_names(
     alloc: Global,
     context: &Context,
     sieves: &[Sieve],
     own: &mut Context,
     snapshot: &Snapshot,
+    near: NodeNumber,
+    room: Vec<NodeNumber>,
 ) -> Result<GroupKey, OutOfMemory>
     requires { IsIn context.now snapshot.now }
     ensures key { IfOk result (λ key. (names : List (List ℕ))
@@ -59,30 +90,31 @@ pub(crate) fn key_by_names(
         → IsKeyOf own.new (group_by (Some names) (meaning context.now snapshot.now)) key) }
     ensures grows { OnOk result (Grows own.old own.new) }
 {
-    let paths = key_paths(alloc, sieves, own, &snapshot.nodes)?;
-    let imms = key_imms(context, sieves, own, &snapshot.imms)?;
+    let paths = key_paths(alloc, sieves, own, &snapshot.nodes, room)?;
+    let imms = key_imms(context, sieves, own, &snapshot.imms, near)?;
     Ok(GroupKey {
         paths: Seq::from_vec(paths),
         imms,
     })
 }
 
-/// The groups that keys mean.
-pub(crate) fn expanded_keys(
+/// The group that a key means as a snapshot, with room for more immediates.
+pub(crate) fn snapshot_of(
     alloc: Global,
     context: &Context,
-    keys: &[GroupKey],
-) -> Result<Vec<Rec>, OutOfMemory>
-    ensures { IfOk result (λ groups. groups.items ≡ map (key_in context.now) keys.now) }
+    key: &GroupKey,
+    more: usize,
+) -> Result<Snapshot, OutOfMemory>
+    ensures { IfOk result (λ s. meaning context.now s ≡ key_in context.now key.now) }
 {
-    let mut groups = Vec::with_capacity(alloc, keys.len())?;
-    for key in keys {
-        groups.push(expanded(alloc, context, key)?)?;
-    }
-    Ok(groups)
+    Ok(Snapshot {
+        nodes: Vec::from_slice(alloc, key.paths.as_slice())?,
+        imms: immediates_of(alloc, context, key.imms, more)?,
+    })
 }
 
-fn expanded(alloc: Global, context: &Context, key: &GroupKey) -> Result<Rec, OutOfMemory>
+/// The group that a key means.
+pub(crate) fn expanded(alloc: Global, context: &Context, key: &GroupKey) -> Result<Rec, OutOfMemory>
     ensures { IfOk result (λ group. group ≡ key_in context.now key.now) }
 {
     Ok(Rec {

@@ -11,7 +11,7 @@ ghost use Rattle.cal_engine.specs.Sieves.{in_paths, part_at};
 ghost use Rattle.cal_engine.specs.Totals.{Leads};
 
 use crate::grouping::takes;
-use crate::stepping::{joined, step};
+use crate::stepping::{joined, step, step_near};
 use cal_context::{Context, Immediate, NodeNumber};
 use cal_filter::NodeMemo;
 use cal_value::{Attribute, OutOfMemory, Seq, Text};
@@ -123,13 +123,14 @@ impl Sieve {
         Ok(part)
     }
 
-    /// The node of what it takes of immediates, behind a path.
+    /// The node of what it takes of immediates, behind a path. It may be `near`.
     pub(crate) fn add(
         &self,
         context: &Context,
         own: &mut Context,
         from: NodeNumber,
         imms: &[Immediate],
+        near: NodeNumber,
     ) -> Result<NodeNumber, OutOfMemory>
         requires { All (λ i. i.attribute.0 < length context.now.attributes) imms.now }
         ensures leads { IfOk result (λ n. (es : List AnEntry) → Leads own.old es from
@@ -139,7 +140,7 @@ impl Sieve {
     {
         let mut node = from;
         for imm in imms {
-            node = self.add_one(context, own, node, imm)?;
+            node = self.add_one(context, own, node, imm, near)?;
         }
         Ok(node)
     }
@@ -150,6 +151,7 @@ impl Sieve {
         own: &mut Context,
         from: NodeNumber,
         imm: &Immediate,
+        near: NodeNumber,
     ) -> Result<NodeNumber, OutOfMemory>
         requires { imm.now.attribute.0 < length context.now.attributes }
         ensures leads { IfOk result (λ n. (es : List AnEntry) → Leads own.old es from
@@ -160,7 +162,7 @@ impl Sieve {
         if !self.chooses(false, attribute) {
             return Ok(from);
         }
-        let node = step(own, from, attribute, &imm.value)?;
+        let node = step_near(own, from, attribute, &imm.value, near)?;
         Ok(node)
     }
 }

@@ -69,19 +69,22 @@ pub(crate) fn know_nodes(
     Ok(())
 }
 
-/// The nodes of what each name takes of the paths of nodes, of those that take something.
+/// The nodes of what each name takes of the paths of nodes, of those that take something. `room` is
+/// what they may take.
 pub(crate) fn key_paths(
     alloc: Global,
     sieves: &[Sieve],
     own: &mut Context,
     nodes: &[NodeNumber],
+    room: Vec<NodeNumber>,
 ) -> Result<Vec<NodeNumber>, OutOfMemory>
     ensures paths { IfOk result (λ paths. (t : Tree) → All (SiftsAll t own.old) sieves.now
         → All (IsBelowRoot t) nodes.now → ArePaths own.new paths.items (filter has_entries
         (map (λ s. in_paths s (joined_paths (map (path_at t) nodes.now))) sieves.now))) }
     ensures grows { OnOk result (Grows own.old own.new) }
 {
-    let mut paths = Vec::new(alloc);
+    let mut paths = room;
+    paths.clear();
     for sieve in sieves {
         let part = sieve.gather(alloc, own, nodes)?;
         own.has_each_once();
@@ -100,12 +103,13 @@ fn add_below_root(nodes: &mut Vec<NodeNumber>, node: NodeNumber) -> Result<(), O
     Ok(())
 }
 
-/// The node of what the names take of immediates.
+/// The node of what the names take of immediates. It may be `near`, which saves look-ups then.
 pub(crate) fn key_imms(
     context: &Context,
     sieves: &[Sieve],
     own: &mut Context,
     imms: &[Immediate],
+    near: NodeNumber,
 ) -> Result<NodeNumber, OutOfMemory>
     requires { All (λ i. i.attribute.0 < length context.now.attributes) imms.now }
     ensures leads { IfOk result (Leads own.new (joined_paths
@@ -115,7 +119,7 @@ pub(crate) fn key_imms(
     own.has_each_once();
     let mut node = NodeNumber::ROOT;
     for sieve in sieves {
-        node = sieve.add(context, own, node, imms)?;
+        node = sieve.add(context, own, node, imms, near)?;
     }
     Ok(node)
 }

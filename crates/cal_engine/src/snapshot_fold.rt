@@ -1,33 +1,40 @@
-ghost use Rattle.std.specs.Prelude.{◌≡◌, [], ◌∷◌, ◌++◌, List, length, IfOk, OnOk};
+ghost use Rattle.std.specs.Prelude.{◌≡◌, ℕ, [], ◌∷◌, ◌++◌, List, Option, is_some, length};
+ghost use Rattle.std.specs.Prelude.{map, IfOk, OnOk};
+ghost use Rattle.std.specs.List.{All};
 ghost use Rattle.cal_context.specs.Snapshots.{IsIn, meaning};
 ghost use Rattle.cal_context.specs.Taking.{TakesMore};
 ghost use Rattle.cal_context.specs.Tree.{Grows};
 ghost use Rattle.cal_ql.specs.Valid.{IsValidQuery};
+ghost use Rattle.cal_rowset.specs.Numbers.{rowset_of};
 ghost use Rattle.cal_value.specs.declared.record.Rec.{Rec as ARecord};
 ghost use Rattle.cal_engine.specs.Answers.{answer_of};
-ghost use Rattle.cal_engine.specs.Rows.{rows_of};
+ghost use Rattle.cal_engine.specs.Keys.{room_of};
 ghost use Rattle.cal_engine.specs.Standing.{HasFolded};
 ghost use Rattle.cal_engine.specs.Tallies.{Holds};
 
-use crate::fold::{finished, is_aggregated};
+use crate::copying::copy_of;
+use crate::fold::is_aggregated;
 use crate::gate::{Gate, copy_into};
-use crate::tally::Tally;
-use cal_context::{Context, Snapshot, Taker, expand};
+use crate::moving::moved;
+use crate::snapshot_columns::snapshot_columns;
+use crate::snapshot_rows::ordered_rows;
+use crate::tally::{TalliedGroups, Tally};
+use cal_context::{Context, Snapshot, Taker};
 use cal_ql::Query;
-use cal_rowset::Rowset;
-use cal_value::{OutOfMemory, Rec, Seq, TryCopy};
+use cal_rowset::SnapshotRowset;
+use cal_value::{OutOfMemory, TryCopy};
 use std::alloc::Global;
 
 /// A query on records that come one by one as snapshots of one context. A record takes time for its
 /// nodes and immediates, however deep their paths are; each new node takes time once. It keeps the
-/// groups of an aggregated query, and the kept records of another one with entries of their own.
+/// groups of an aggregated query, and the kept records of another one by number.
 #[derive(Drop)]
 pub struct SnapshotFold {
     alloc: Global,
     query: Query,
     gate: Gate,
     tally: Tally,
-    rows: Seq<Rec>,
+    rows: Vec<Snapshot>,
     // room for a record with LET's immediates
     full: Snapshot,
 }
@@ -52,7 +59,7 @@ impl SnapshotFold {
             query: query.copy(alloc)?,
             gate,
             tally,
-            rows: Seq::new(alloc),
+            rows: Vec::new(alloc),
             full: Snapshot::new(alloc),
         })
     }
@@ -66,11 +73,13 @@ impl SnapshotFold {
         &self.query
     }
 
-    /// The answer over the records that were taken from a context as it stands. It takes memory and
-    /// time in what the fold holds, and n log n comparisons where rows are ordered.
-    pub fn finish(self, context: &Context) -> Result<Rowset, OutOfMemory>
-        ensures { IfOk result (λ answer. (rs : List ARecord) → HasFolded self context.now rs
-            → answer ≡ answer_of self.query rs) }
+    /// The rows of the answer over the records that were taken, as snapshots of the context that
+    /// they came in, to which the attributes of results and the nodes of groups are added.
+    pub fn rows(self, context: &mut Context) -> Result<Vec<Snapshot>, OutOfMemory>
+        ensures within { IfOk result (λ rows. All (IsIn context.new) rows.items) }
+        ensures rows { IfOk result (λ rows. (rs : List ARecord) → HasFolded self context.old rs
+            → map (meaning context.new) rows.items ≡ (answer_of self.query rs).rows.rows) }
+        ensures grows { Grows context.old context.new }
     {
         let SnapshotFold {
             alloc,
@@ -80,9 +89,36 @@ impl SnapshotFold {
             rows,
             full: _,
         } = self;
-        let rows = made_rows(alloc, &query, context, &tally, rows)?;
-        let answer = finished(alloc, &query, rows)?;
-        Ok(answer)
+        let TalliedGroups { mut own, groups } = tally.into_groups();
+        if query.group.is_some() {
+            let rows = ordered_rows(alloc, &query, &mut own, groups, rows)?;
+            let moved = moved(alloc, &own, rows, context)?;
+            return Ok(moved);
+        }
+        let rows = ordered_rows(alloc, &query, context, groups, rows)?;
+        Ok(rows)
+    }
+
+    /// The answer over the records that were taken from a context as it stands. It takes memory and
+    /// time in what the fold holds, and n log n comparisons where rows are ordered.
+    pub fn finish(self, context: Context) -> Result<SnapshotRowset, OutOfMemory>
+        ensures { IfOk result (λ answer. (rs : List ARecord) → HasFolded self context rs
+            → rowset_of answer ≡ answer_of self.query rs) }
+    {
+        let SnapshotFold {
+            alloc,
+            query,
+            gate: _,
+            tally,
+            rows,
+            full: _,
+        } = self;
+        let TalliedGroups { own, groups } = tally.into_groups();
+        let mut room = room(query.group.is_some(), context, own);
+        let rows = ordered_rows(alloc, &query, &mut room, groups, rows)?;
+        let columns = snapshot_columns(alloc, &query, &room, &rows)?;
+        let all = query.select.is_none();
+        Ok(SnapshotRowset::new(room, rows, columns, all))
     }
 }
 
@@ -161,35 +197,25 @@ fn take_kept(
     context: &Context,
     snapshot: &Snapshot,
     tally: &mut Tally,
-    rows: &mut Seq<Rec>,
+    rows: &mut Vec<Snapshot>,
 ) -> Result<(), OutOfMemory>
     requires { IsIn context.now snapshot.now }
-    ensures { OnOk result ((ks : List ARecord) → Holds context.now query.now ks tally.old rows.old
-        → Holds context.now query.now (ks ++ meaning context.now snapshot.now ∷ [])
-        tally.new rows.new) }
+    ensures { OnOk result ((ks : List ARecord) → Holds context.now query.now ks tally.old
+        rows.old.items → Holds context.now query.now (ks ++ meaning context.now snapshot.now ∷ [])
+        tally.new rows.new.items) }
 {
     if is_aggregated(query) {
         tally.take(alloc, query.group.is_some(), context, snapshot)?;
         return Ok(());
     }
-    rows.push(expand(alloc, context, snapshot)?)?;
+    rows.push(copy_of(alloc, snapshot)?)?;
     Ok(())
 }
 
-/// The rows of an answer before they are ordered.
-fn made_rows(
-    alloc: Global,
-    query: &Query,
-    context: &Context,
-    tally: &Tally,
-    rows: Seq<Rec>,
-) -> Result<Seq<Rec>, OutOfMemory>
-    ensures { IfOk result (λ made. (ks : List ARecord)
-        → Holds context.now query.now ks tally.now rows → made ≡ rows_of query.now ks) }
+/// The tree in which the keys of groups lie. The other one is dropped.
+fn room(by_name: bool, context: Context, own: Context) -> Context
+    ensures { (names : Option (List (List ℕ))) → by_name ≡ is_some names
+        → result ≡ room_of names context own }
 {
-    if is_aggregated(query) {
-        let made = tally.rows(alloc, query, context)?;
-        return Ok(made);
-    }
-    Ok(rows)
+    if by_name { own } else { context }
 }

@@ -2,7 +2,7 @@ ghost use Rattle.std.specs.Prelude.{◌≡◌, None, map, IfOk};
 ghost use Rattle.std.specs.List.{last_or};
 ghost use Rattle.std.specs.Option.{option_cmp, option_copied};
 ghost use Rattle.cal_value.specs.Order.{value_cmp};
-ghost use Rattle.cal_engine.specs.Ranks.{rank, ranked_cmp, value_in, values_of};
+ghost use Rattle.cal_engine.specs.Ranks.{rank, value_in, values_cmp, values_of};
 ghost use Rattle.cal_engine.specs.Sorting.{directed as directed_by, sorted_rows as sorted_by};
 ghost use Rattle.cal_engine.specs.Sorting.{value_named};
 
@@ -32,7 +32,7 @@ pub(crate) fn sorted_rows(
     }
     let order = order.as_slice();
     let mut ranked = ranked_rows(alloc, order, rows)?;
-    ranked.sort_by(|one, other| compare(order, one, other))?;
+    ranked.sort_by(|one, other| compare(order, &one.values, &other.values))?;
     rows_of(alloc, ranked)
 }
 
@@ -65,7 +65,8 @@ fn values_by(
     Ok(Seq::from_vec(values))
 }
 
-fn copied(alloc: Global, value: Option<&Variant>) -> Result<Option<Variant>, OutOfMemory>
+/// A copy of a value that is there.
+pub(crate) fn copied(alloc: Global, value: Option<&Variant>) -> Result<Option<Variant>, OutOfMemory>
     ensures { IfOk result (λ copied. copied ≡ option_copied value.entry) }
 {
     match value {
@@ -113,11 +114,16 @@ fn rows_of(alloc: Global, ranked: Vec<Ranked>) -> Result<Seq<Rec>, OutOfMemory>
     Ok(Seq::from_vec(rows))
 }
 
-fn compare(order: &[OrderKey], one: &Ranked, other: &Ranked) -> Ordering
-    ensures { result ≡ ranked_cmp order.now one.now other.now }
+/// The order of two rows by their values.
+pub(crate) fn compare(
+    order: &[OrderKey],
+    one: &Seq<Option<Variant>>,
+    other: &Seq<Option<Variant>>,
+) -> Ordering
+    ensures { result ≡ values_cmp order.now one.now other.now }
 {
     for (place, key) in order.iter().enumerate() {
-        let answer = compare_values(value_at(&one.values, place), value_at(&other.values, place));
+        let answer = compare_values(value_at(one, place), value_at(other, place));
         if answer != Ordering::Equal {
             return directed(key.down, answer);
         }

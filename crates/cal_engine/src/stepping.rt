@@ -1,12 +1,16 @@
-ghost use Rattle.std.specs.Prelude.{◌≡◌, [], ◌++◌, List, IfOk, OnOk};
+ghost use Rattle.std.specs.Prelude.{◌≡◌, [], ◌++◌, List, IfOk, IfSome, IsTrue, OnOk};
 ghost use Rattle.cal_context.specs.Snapshots.{IsBelowRoot};
 ghost use Rattle.cal_context.specs.Tree.{Grows, path_at};
 ghost use Rattle.cal_engine.specs.Totals.{IsStep, Leads};
+ghost use Rattle.cal_filter.specs.Results.{IsNumbered};
 ghost use Rattle.cal_value.specs.declared.attribute.Entry.{Entry as AnEntry};
 
-use cal_context::{Context, NodeNumber, Snapshot, expand};
-use cal_value::{Attribute, Entry, OutOfMemory, Seq, Variant};
+use cal_context::{AttributeNumber, Context, NodeNumber, Snapshot, expand};
+use cal_value::{Attribute, Entry, OutOfMemory, Seq, Variant, same};
 use std::alloc::Global;
+
+// so many attributes are compared before one is looked up
+const FEW: usize = 4;
 
 /// The node of an entry below a node. A parent that isn't there is answered as want of memory is.
 pub(crate) fn step(
@@ -22,9 +26,76 @@ pub(crate) fn step(
     if parent.0 as usize >= context.node_count() {
         return Err(OutOfMemory);
     }
-    let number = context.attribute(attribute)?;
+    let number = number_in(context, attribute)?;
     let node = context.child(parent, number, value)?;
     Ok(node)
+}
+
+/// The same, where the node may be one that is known: that is looked at first, without a look-up.
+pub(crate) fn step_near(
+    context: &mut Context,
+    parent: NodeNumber,
+    attribute: &Attribute,
+    value: &Variant,
+    near: NodeNumber,
+) -> Result<NodeNumber, OutOfMemory>
+    ensures step { IfOk result (IsStep context.old context.new parent
+        (record { attr = attribute.now; value = value.now })) }
+    ensures grows { OnOk result (Grows context.old context.new) }
+{
+    if is_step(context, parent, attribute, value, near) {
+        return Ok(near);
+    }
+    step(context, parent, attribute, value)
+}
+
+/// Whether a node is that of an entry below a node.
+fn is_step(
+    context: &Context,
+    parent: NodeNumber,
+    attribute: &Attribute,
+    value: &Variant,
+    node: NodeNumber,
+) -> bool
+    ensures { IsTrue result → IsStep context.now context.now parent
+        (record { attr = attribute.now; value = value.now }) node }
+{
+    if node.0 as usize >= context.node_count() {
+        return false;
+    }
+    match context.link(node) {
+        Some(link) => {
+            link.parent.0 == parent.0
+                && same(context.value_at(link.value), value)
+                && same(context.attribute_at(link.attribute), attribute)
+        }
+        None => false,
+    }
+}
+
+/// The number of an attribute, which is added where it is new.
+fn number_in(context: &mut Context, attribute: &Attribute) -> Result<AttributeNumber, OutOfMemory>
+    ensures numbered { IfOk result (IsNumbered context.new attribute.now) }
+    ensures grows { OnOk result (Grows context.old context.new) }
+{
+    if let Some(number) = among_first(context, attribute) {
+        return Ok(number);
+    }
+    context.attribute(attribute)
+}
+
+/// The number of an attribute, where it is one of the first few: these are compared, which takes
+/// less time than a look-up.
+fn among_first(context: &Context, attribute: &Attribute) -> Option<AttributeNumber>
+    ensures { IfSome result (IsNumbered context.now attribute.now) }
+{
+    for place in 0..context.attribute_count().min(FEW) {
+        let number = AttributeNumber(place as u32);
+        if *context.attribute_at(number) == *attribute {
+            return Some(number);
+        }
+    }
+    None
 }
 
 /// The node that a path below a node leads to.

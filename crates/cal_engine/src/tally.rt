@@ -1,12 +1,10 @@
-ghost use Rattle.std.specs.Prelude.{◌≡◌, [], ◌∷◌, ◌++◌, List, is_some, map, IfOk, OnOk};
+ghost use Rattle.std.specs.Prelude.{◌≡◌, [], ◌∷◌, ◌++◌, List, is_some, IfOk, OnOk};
 ghost use Rattle.std.specs.List.{All};
 ghost use Rattle.cal_context.specs.Snapshots.{IsIn, meaning};
 ghost use Rattle.cal_context.specs.Tree.{Grows, Tree};
 ghost use Rattle.cal_ql.specs.declared.query.Query.{Query as AQuery};
 ghost use Rattle.cal_value.specs.declared.record.Rec.{Rec as ARecord};
-ghost use Rattle.cal_engine.specs.Groups.{groups_of};
 ghost use Rattle.cal_engine.specs.Keys.{names_in};
-ghost use Rattle.cal_engine.specs.Rows.{row_of as row_by};
 ghost use Rattle.cal_engine.specs.Sieves.{AreSieves};
 ghost use Rattle.cal_engine.specs.Tallies.{FindsKey, IsTally};
 
@@ -18,10 +16,11 @@ use crate::reading::readings_of;
 use crate::sieve::Sieve;
 use crate::sieves::{know_nodes, sieves_for};
 use cal_agg::Num;
-use cal_context::{Context, Snapshot};
+use cal_context::{Context, NodeNumber, Snapshot};
 use cal_ql::Query;
-use cal_value::{OutOfMemory, Rec, Seq};
+use cal_value::OutOfMemory;
 use std::alloc::Global;
+use std::mem;
 
 /// The groups of an aggregated query over records by number, and what is kept beside the numbers.
 #[derive(Drop)]
@@ -32,6 +31,7 @@ pub(crate) struct Tally {
     own: Context,
     groups: NumberedGroups,
     // room to work in
+    nodes: Vec<NodeNumber>,
     numbers: Vec<Num>,
     parts: Vec<Part>,
 }
@@ -49,6 +49,7 @@ impl Tally {
             sieves,
             own: Context::new(alloc),
             groups: NumberedGroups::new(alloc),
+            nodes: Vec::new(alloc),
             numbers: Vec::new(alloc),
             parts: Vec::new(alloc),
         })
@@ -83,33 +84,36 @@ impl Tally {
             snapshot,
             &mut self.sieves,
             &mut self.own,
+            self.groups.near(),
+            mem::replace(&mut self.nodes, Vec::new(alloc)),
         )?;
         self.own.has_each_once();
-        self.groups.gather(alloc, key, &self.parts)?;
+        self.groups.gather(alloc, &key, &self.parts)?;
+        self.nodes = key.into_room();
         Ok(())
     }
 
-    /// The rows of the groups of a query.
-    pub(crate) fn rows(
-        &self,
-        alloc: Global,
-        query: &Query,
-        context: &Context,
-    ) -> Result<Seq<Rec>, OutOfMemory>
-        ensures { IfOk result (λ rows. (rs : List ARecord)
-            → IsTally context.now query.now rs self.now
-            → rows ≡ map (row_by query.now rs) (groups_of query.now.group rs)) }
+    /// The groups, and the tree in which their keys lie with GROUP BY. All else is dropped.
+    pub(crate) fn into_groups(self) -> TalliedGroups
+        ensures own { result.own ≡ self.own }
+        ensures groups { result.groups ≡ self.groups }
     {
-        if query.group.is_some() {
-            let rows = self.groups.rows(alloc, query, &self.own)?;
-            return Ok(rows);
+        TalliedGroups {
+            own: self.own,
+            groups: self.groups,
         }
-        let rows = self.groups.rows(alloc, query, context)?;
-        Ok(rows)
     }
 }
 
-/// The key of a record of a query, which has GROUP BY or not.
+/// The groups of a tally, and the tree in which their keys lie with GROUP BY.
+#[derive(Drop)]
+pub(crate) struct TalliedGroups {
+    pub own: Context,
+    pub groups: NumberedGroups,
+}
+
+/// The key of a record of a query, which has GROUP BY or not. With it, the node of its immediates
+/// may be `near`. `room` is what its paths may take.
 fn key_of(
     alloc: Global,
     by_name: bool,
@@ -117,6 +121,8 @@ fn key_of(
     snapshot: &Snapshot,
     sieves: &mut Vec<Sieve>,
     own: &mut Context,
+    near: NodeNumber,
+    room: Vec<NodeNumber>,
 ) -> Result<GroupKey, OutOfMemory>
     requires { IsIn context.now snapshot.now }
     ensures key { IfOk result (λ key. (q : AQuery) → by_name ≡ is_some q.group
@@ -125,9 +131,9 @@ fn key_of(
     ensures grows { OnOk result (Grows own.old own.new) }
 {
     if !by_name {
-        return key_by_nodes(alloc, context, snapshot);
+        return key_by_nodes(context, snapshot, room);
     }
     know_nodes(sieves.as_mut_slice(), context, own)?;
-    let key = key_by_names(alloc, context, sieves, own, snapshot)?;
+    let key = key_by_names(alloc, context, sieves, own, snapshot, near, room)?;
     Ok(key)
 }

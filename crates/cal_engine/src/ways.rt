@@ -1,10 +1,12 @@
-ghost use Rattle.std.specs.Prelude.{◌≡◌, [], ◌∷◌, ◌++◌, length, filter, IfOk, OnOk};
+ghost use Rattle.std.specs.Prelude.{◌≡◌, [], ◌∷◌, ◌++◌, length, filter, map, IfOk, OnOk};
 ghost use Rattle.cal_context.specs.Tree.{Grows};
 ghost use Rattle.cal_value.specs.Flat.{joined};
+ghost use Rattle.cal_engine.specs.Keys.{key_in};
 ghost use Rattle.cal_engine.specs.Totals.{AreWays, Leads};
 ghost use Rattle.cal_engine.specs.Trails.{is_chosen as is_chosen_so, mark as mark_of};
 ghost use Rattle.cal_engine.specs.Trails.{trail as trail_of};
 
+use crate::key::{GroupKey, expanded};
 use crate::stepping::reach_from;
 use cal_context::{Context, NodeNumber};
 use cal_rowset::is_of_hierarchy;
@@ -22,6 +24,27 @@ pub(crate) fn ways_to(
     let mut nodes = Vec::with_capacity(alloc, keys.len())?;
     for key in keys {
         let trail = trail(alloc, key)?;
+        let node = reach(context, &trail)?;
+        nodes.push(node)?;
+    }
+    Ok(nodes)
+}
+
+/// The nodes to which the ways to groups lead whose keys lie in a tree. One key at a time is
+/// expanded.
+pub(crate) fn ways_to_keys(
+    alloc: Global,
+    context: &mut Context,
+    tree: &Context,
+    keys: &[GroupKey],
+) -> Result<Vec<NodeNumber>, OutOfMemory>
+    ensures { IfOk result (λ nodes.
+        AreWays context.new (map (key_in tree.now) keys.now) nodes.items) }
+{
+    let mut nodes = Vec::with_capacity(alloc, keys.len())?;
+    for key in keys {
+        let key = expanded(alloc, tree, key)?;
+        let trail = trail(alloc, &key)?;
         let node = reach(context, &trail)?;
         nodes.push(node)?;
     }

@@ -86,6 +86,10 @@ number_of name = record { name = name; wanted = wanted.Number }
 abbrev pub whole_of : List ℕ → Sought
 whole_of name = record { name = name; wanted = wanted.Whole }
 
+-- the last value of a name, whatever it is
+abbrev pub any_of : List ℕ → Sought
+any_of name = record { name = name; wanted = wanted.Any }
+
 -- what an operator seeks by a name
 abbrev pub sought_by : ops.Op → List ℕ → Sought
 sought_by o name = record { name = name; wanted = wanted_by o }

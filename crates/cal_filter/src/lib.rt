@@ -29,4 +29,5 @@ pub use memo::NodeMemo;
 pub use number::{number_in, value_of_number};
 pub use operands::catch_up_all;
 pub use record::apply;
+pub use results::result_attribute;
 pub use seeker::Seeker;

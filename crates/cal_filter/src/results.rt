@@ -27,7 +27,9 @@ pub(crate) fn result_attributes(
     Ok(numbers)
 }
 
-fn result_attribute(
+/// The number of the attribute of a result of a kind, which is added to the context where it is
+/// new.
+pub fn result_attribute(
     alloc: Global,
     name: &Text,
     kind: Kind,

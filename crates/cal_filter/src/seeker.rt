@@ -2,7 +2,7 @@ ghost use Rattle.std.specs.Prelude.{◌≡◌, ◌<◌, length, OnOk};
 ghost use Rattle.cal_context.specs.Tree.{Tree, attribute_at};
 ghost use Rattle.cal_filter.specs.Known.{IsNearest, Knows, KnowsAll, KnowsAttributes, named_at};
 ghost use Rattle.cal_filter.specs.Known.{nearest_at, sought};
-ghost use Rattle.cal_filter.specs.Sought.{number_of, seeks as is_sought, whole_of};
+ghost use Rattle.cal_filter.specs.Sought.{any_of, number_of, seeks as is_sought, whole_of};
 
 use crate::NodeMemo;
 use crate::wanted::Wanted;
@@ -37,6 +37,14 @@ impl Seeker {
         ensures knows { (t : Tree) → Knows t result }
     {
         Seeker::new(alloc, name, Wanted::Whole)
+    }
+
+    /// The same of the last value, whatever it is.
+    pub fn of_any(alloc: Global, name: Text) -> Seeker
+        ensures sought { sought result ≡ any_of name }
+        ensures knows { (t : Tree) → Knows t result }
+    {
+        Seeker::new(alloc, name, Wanted::Any)
     }
 
     /// A seeker that knows nothing yet. It takes no memory.

@@ -2,6 +2,7 @@ ghost use Rattle.std.specs.Prelude.{◌≡◌, None, IfOk, IfErr};
 ghost use Rattle.cal_base.specs.Change.{change_of};
 ghost use Rattle.cal_engine.specs.Answers.{answer_of};
 ghost use Rattle.cal_ql.specs.Valid.{IsValidQuery};
+ghost use Rattle.cal_rowset.specs.Numbers.{rowset_of};
 ghost use Rattle.cal_tabfmt.specs.Expand.{expand_lines};
 ghost use Rattle.cal_query.specs.Layout.{LaysOut, StopsRows};
 ghost use Rattle.cal_query.specs.Plain.{is_expand, is_nil, is_none, is_plain};
@@ -14,7 +15,7 @@ use crate::seeing::{Seen, see_rows};
 use cal_base::Source;
 use cal_context::Context;
 use cal_ql::{Format, Query};
-use cal_rowset::Rowset;
+use cal_rowset::SnapshotRowset;
 use cal_tabfmt::ExpandWriter;
 use cal_value::Text;
 use std::alloc::Global;
@@ -85,15 +86,16 @@ fn find_answer<S: Source>(
     limit: u64,
     join: bool,
     query: &Query,
-) -> Result<Rowset, RowsEnd>
+) -> Result<SnapshotRowset, RowsEnd>
     requires { IsValidQuery query.now }
     ensures answer { IfOk result (λ answer.
         SeesRows join limit (change_of S.left S.faults input.old input.new)
-        (λ rows. answer ≡ answer_of query.now rows)) }
+        (λ rows. rowset_of answer ≡ answer_of query.now rows)) }
     ensures refused { IfErr result (λ end.
         StopsRows end limit (change_of S.left S.faults input.old input.new)) }
 {
     let Seen { context, taker } = new_fold(alloc, query)?;
     let seen = see_rows(alloc, input, limit, join, context, taker)?;
-    Ok(answer_over(seen.taker, &seen.context, query)?)
+    let Seen { context, taker } = seen;
+    Ok(answer_over(taker, context, query)?)
 }

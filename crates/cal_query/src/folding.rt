@@ -2,13 +2,14 @@ ghost use Rattle.std.specs.Prelude.{◌≡◌, List, [], IfOk, IsTrue};
 ghost use Rattle.cal_engine.specs.Answers.{answer_of};
 ghost use Rattle.cal_engine.specs.Standing.{HasFolded};
 ghost use Rattle.cal_ql.specs.Valid.{IsValidQuery};
+ghost use Rattle.cal_rowset.specs.Numbers.{rowset_of};
 ghost use Rattle.cal_value.specs.declared.record.Rec.{Rec};
 
 use crate::seeing::Seen;
 use cal_context::Context;
 use cal_engine::SnapshotFold;
 use cal_ql::Query;
-use cal_rowset::Rowset;
+use cal_rowset::SnapshotRowset;
 use cal_value::OutOfMemory;
 use std::alloc::Global;
 
@@ -27,11 +28,11 @@ pub(crate) fn new_fold(alloc: Global, query: &Query) -> Result<Seen<SnapshotFold
 /// want of memory is.
 pub(crate) fn answer_over(
     fold: SnapshotFold,
-    context: &Context,
+    context: Context,
     query: &Query,
-) -> Result<Rowset, OutOfMemory>
+) -> Result<SnapshotRowset, OutOfMemory>
     ensures { IfOk result (λ answer. (rows : List Rec)
-        → HasFolded fold context.now rows → answer ≡ answer_of query.now rows) }
+        → HasFolded fold context rows → rowset_of answer ≡ answer_of query.now rows) }
 {
     if !is_same(fold.query(), query) {
         return Err(OutOfMemory);

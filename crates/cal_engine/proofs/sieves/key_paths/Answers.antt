@@ -16,7 +16,7 @@ use Rattle.cal_engine.proofs.sieves.key_paths.Goals as goal
 pub loop-sieve-init : goal.loop-sieve-init
 loop-sieve-init c = record {
   grows = Grows-refl c.args.own.now;
-  paths = λ t sifts below. no_paths c.args.own.now c.new-paths.result.items c.new-paths.ensures.items;
+  paths = λ t sifts below. no_paths c.args.own.now c.clear.new.self.items c.clear.ensures.items;
 }
 
 pub loop-sieve-preserved : goal.loop-sieve-preserved

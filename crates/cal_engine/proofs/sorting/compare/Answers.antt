@@ -12,8 +12,8 @@ pub returns-then-ne : goal.returns-then-ne
 returns-then-ne c =
     let n = c.loop-place.place in
     let keys = c.args.order.now in
-    let vs = c.args.one.now.values in
-    let ws = c.args.other.now.values in
+    let vs = c.args.one.now in
+    let ws = c.args.other.now in
     let key = c.index-order-place.result in
     let answer = c.compare_values-answer.ensures ∙ (λ i. option_cmp value_cmp (c.value_at.ensures i) (c.value_at-in-loop-place.ensures i)) in
     let next = values_next keys vs ws n key (omega arith) c.index-order-place.is in
@@ -28,8 +28,8 @@ pub loop-place-preserved : goal.loop-place-preserved
 loop-place-preserved c =
     let n = c.loop-place.place in
     let keys = c.args.order.now in
-    let vs = c.args.one.now.values in
-    let ws = c.args.other.now.values in
+    let vs = c.args.one.now in
+    let ws = c.args.other.now in
     let key = c.index-order-place.result in
     let answer = c.compare_values-answer.ensures ∙ (λ i. option_cmp value_cmp (c.value_at.ensures i) (c.value_at-in-loop-place.ensures i)) in
     let next = values_next keys vs ws n key (omega arith) c.index-order-place.is in

@@ -12,6 +12,6 @@ returns-then-not-chooses-clause-leads c = λ es h.
 pub returns-clause-leads : goal.returns-clause-leads
 returns-clause-leads c = λ es h.
     let is = sym (c.chooses.ensures ∙ ap (chooses_attribute false (choice_of c.args.self.now)) c.attribute_at-attribute.ensures) ∙ c.if-not-chooses.false in
-    added_one c.args.context.now c.args.own.now c.step.new.context c.args.self.now c.args.imm.now
+    added_one c.args.context.now c.args.own.now c.step_near.new.context c.args.self.now c.args.imm.now
     (record { attr = c.attribute_at-attribute.result.now; value = c.args.imm.now.value }) es c.args.from c.in_ok-node.node is
     (λ i. record { attr = c.attribute_at-attribute.ensures i; value = c.args.imm.now.value }) c.in_ok-node.ensures.step h

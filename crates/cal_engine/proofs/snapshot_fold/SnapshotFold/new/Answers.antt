@@ -2,6 +2,7 @@ use Rattle.std.proofs.Common.{[], subst, sym}
 use Rattle.cal_ql.specs.Valid.{IsValidQuery}
 use Rattle.cal_engine.specs.Gates.{IsGate}
 use Rattle.cal_engine.specs.Tallies.{IsTally}
+use Rattle.cal_engine.proofs.Tallying.{no_rows}
 use Rattle.cal_engine.proofs.snapshot_fold.SnapshotFold.new.Goals as goal
 
 pub returns-clause-none : goal.returns-clause-none
@@ -13,6 +14,6 @@ returns-clause-none c =
       gate = subst (λ q. IsGate t q c.in_ok-gate.gate) same c.in_ok-gate.ensures.ready;
       holds = record {
         groups = λ is. subst (λ q. IsTally t q [] c.in_ok-tally.tally) same (c.in_ok-tally.ensures t);
-        rows = λ isnt. c.new-3.ensures;
+        rows = λ isnt. no_rows t c.new-3.result.items c.new-3.ensures.items;
       };
     }

@@ -15,7 +15,7 @@ returns c = λ q rs by_name h.
     let t = c.args.context.now in
     let old = c.args.self.now in
     let counters = with_items old.counters c.know_all.new.counters in
-    let new : Tally = record { counters = counters; sieves = c.key_of.new.sieves; own = c.key_of.new.own; groups = c.gather.new.self; numbers = c.fill_parts.new.numbers; parts = c.fill_parts.new.parts } in
+    let new : Tally = record { counters = counters; sieves = c.key_of.new.sieves; own = c.key_of.new.own; groups = c.gather.new.self; nodes = c.into_room.result; numbers = c.fill_parts.new.numbers; parts = c.fill_parts.new.parts } in
     let zip = written (CounterCatchesUp t) old.counters c.deref_mut.result.now c.know_all.new.counters c.deref_mut.ensures.value
     c.deref_mut.ensures.len c.in_ok-know_all.ensures in
     let ready = counters_catch_up t (map reading_of q.aggs) old.counters.items counters.items h.counters zip in

@@ -1,0 +1,11 @@
+use Rattle.std.proofs.Common.{◌≡◌, map, take}
+use Rattle.std.specs.List.{flat_map}
+use Rattle.cal_context.specs.Snapshots.{meaning}
+use Rattle.cal_rowset.specs.Hierarchy.{other_entries}
+use Rattle.cal_engine.specs.Learning.{learned}
+use Rattle.cal_engine.proofs.snapshot_columns.learn_rows.Given as goal
+
+abbrev pub invariant-loop-row : goal.invariant-loop-row
+invariant-loop-row l =
+    l.names.keys ≡ learned l.initial.names.keys
+    (flat_map (λ row. map (λ e. e.attr.name) (other_entries row)) (map (meaning l.context) (take l.row-index l.rows)))

@@ -1,0 +1,121 @@
+ghost use Rattle.std.specs.Prelude.{◌≡◌, ◌++◌, List, option_map, IfOk, OnOk, Some};
+ghost use Rattle.std.specs.List.{AllZip};
+ghost use Rattle.std.specs.Option.{option_copied};
+ghost use Rattle.cal_context.specs.Snapshots.{entry_of};
+ghost use Rattle.cal_context.specs.Tree.{Grows, Tree};
+ghost use Rattle.cal_filter.specs.Kept.{result_entry as result_entry_of};
+ghost use Rattle.cal_filter.specs.Numbers.{value_of_number as value_of};
+ghost use Rattle.cal_ql.specs.declared.query.Agg.{Agg as AnAgg};
+ghost use Rattle.cal_engine.specs.Finishing.{AreKept, Lists, entries_of_results};
+ghost use Rattle.cal_engine.specs.Finishing.{entry_of_result};
+ghost use Rattle.cal_engine.specs.Kernels.{contributed};
+ghost use Rattle.cal_engine.specs.Parts.{part_over};
+ghost use Rattle.cal_engine.specs.Results.{AddsResults, IsResultOf};
+
+use crate::finishing::value_at;
+use crate::part::Part;
+use crate::reading::push_some;
+use cal_agg::Num;
+use cal_context::{AttributeNumber, Context, Immediate};
+use cal_filter::{result_attribute, value_of_number};
+use cal_ql::{Agg, KernelName};
+use cal_value::{Kind, OutOfMemory, Seq};
+use std::alloc::Global;
+
+/// A kernel, and the attributes that its results have in a context: of kind int, or double where
+/// they are Fixed.
+#[derive(Drop)]
+pub(crate) struct ResultAttributes {
+    kernel: KernelName,
+    whole: AttributeNumber,
+    fixed: AttributeNumber,
+}
+
+/// The attributes of kernels' results, which are added to the context.
+pub(crate) fn result_attributes(
+    alloc: Global,
+    context: &mut Context,
+    aggs: &[Agg],
+) -> Result<Vec<ResultAttributes>, OutOfMemory>
+    ensures results { IfOk result (λ results.
+        AllZip (IsResultOf context.new) aggs.now results.items) }
+    ensures grows { Grows context.old context.new }
+{
+    let mut results = Vec::new(alloc);
+    for agg in aggs {
+        let attributes = attributes_of(alloc, context, agg)?;
+        results.push(attributes)?;
+    }
+    Ok(results)
+}
+
+fn attributes_of(
+    alloc: Global,
+    context: &mut Context,
+    agg: &Agg,
+) -> Result<ResultAttributes, OutOfMemory>
+    ensures attributes { IfOk result (IsResultOf context.new agg.now) }
+    ensures grows { Grows context.old context.new }
+{
+    let whole = result_attribute(alloc, &agg.name, Kind::Int, context)?;
+    let fixed = result_attribute(alloc, &agg.name, Kind::Double, context)?;
+    Ok(ResultAttributes {
+        kernel: agg.kernel,
+        whole,
+        fixed,
+    })
+}
+
+/// Adds a group's results, those that are there.
+pub(crate) fn add_result_immediates(
+    imms: &mut Vec<Immediate>,
+    results: &[ResultAttributes],
+    own: &Seq<Part>,
+    all: &Seq<Part>,
+    below: &Seq<Part>,
+) -> Result<(), OutOfMemory>
+    ensures { OnOk result ((t : Tree) (aggs : List AnAgg) (lists : Lists)
+        → AllZip (IsResultOf t) aggs results.now → AreKept aggs lists own.now all.now below.now
+        → AddsResults t (entries_of_results aggs lists) imms.old.items imms.new.items) }
+{
+    for (place, attributes) in results.iter().enumerate() {
+        let found = result_at(attributes, own.get(place), all.get(place), below.get(place));
+        push_some(imms, found)?;
+    }
+    Ok(())
+}
+
+/// A kernel's result, if that is there.
+fn result_at(
+    attributes: &ResultAttributes,
+    own: Option<&Part>,
+    all: Option<&Part>,
+    below: Option<&Part>,
+) -> Option<Immediate>
+    ensures { (t : Tree) (agg : AnAgg) (lists : Lists) → IsResultOf t agg attributes.now
+        → option_copied own.entry ≡ Some (part_over agg.kernel (contributed agg lists.own))
+        → option_copied all.entry ≡ Some (part_over agg.kernel (contributed agg lists.all))
+        → option_copied below.entry ≡ Some (part_over agg.kernel (contributed agg lists.below))
+        → option_map (entry_of t) result ≡ entry_of_result lists agg }
+{
+    match value_at(attributes.kernel, own, all, below) {
+        Some(number) => Some(immediate(attributes, number)),
+        None => None,
+    }
+}
+
+fn immediate(attributes: &ResultAttributes, number: Num) -> Immediate
+    ensures { (t : Tree) (agg : AnAgg) → IsResultOf t agg attributes.now
+        → entry_of t result ≡ result_entry_of agg.name (value_of number) }
+{
+    match number {
+        Num::Whole(_) => Immediate {
+            attribute: attributes.whole,
+            value: value_of_number(number),
+        },
+        Num::Fixed(_) => Immediate {
+            attribute: attributes.fixed,
+            value: value_of_number(number),
+        },
+    }
+}

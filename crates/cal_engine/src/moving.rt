@@ -1,0 +1,307 @@
+ghost use Rattle.std.specs.Prelude.{◌≡◌, ◌<◌, length, map, slice_get, slice_set, None};
+ghost use Rattle.std.specs.Prelude.{replicate, Some, IfOk, OnOk};
+ghost use Rattle.std.specs.List.{All};
+ghost use Rattle.cal_context.specs.Snapshots.{IsIn, entry_of, meaning};
+ghost use Rattle.cal_context.specs.Tree.{Grows, Tree, path_at};
+ghost use Rattle.cal_context.specs.declared.numbers.AttributeNumber as numbers;
+ghost use Rattle.cal_context.specs.declared.numbers.NodeNumber.{NodeNumber as ANode};
+ghost use Rattle.cal_filter.specs.Results.{IsNumbered};
+ghost use Rattle.cal_engine.specs.Moves.{AreMovedAttributes, AreMovedNodes};
+ghost use Rattle.cal_engine.specs.Totals.{Leads};
+
+use crate::within::are_in;
+use cal_context::{AttributeNumber, Context, Immediate, NodeNumber, Snapshot};
+use cal_value::{Attribute, OutOfMemory};
+use std::alloc::Global;
+
+/// Snapshots of one context as snapshots of another, to which the attributes and nodes are added
+/// that they need. Each node is put there once.
+pub(crate) fn moved(
+    alloc: Global,
+    from: &Context,
+    rows: Vec<Snapshot>,
+    to: &mut Context,
+) -> Result<Vec<Snapshot>, OutOfMemory>
+    requires { All (IsIn from.now) rows.items }
+    ensures within { IfOk result (λ moved. All (IsIn to.new) moved.items) }
+    ensures mean { IfOk result (λ moved.
+        map (meaning to.new) moved.items ≡ map (meaning from.now) rows.items) }
+    ensures grows { Grows to.old to.new }
+{
+    let attributes = moved_attributes(alloc, from, to)?;
+    let nodes = moved_nodes(alloc, from, to, &rows)?;
+    let moved = renumbered_rows(alloc, &attributes, &nodes, rows)?;
+    if !are_in(to, &moved) {
+        return Err(OutOfMemory);
+    }
+    Ok(moved)
+}
+
+/// The numbers of a context's attributes in another.
+fn moved_attributes(
+    alloc: Global,
+    from: &Context,
+    to: &mut Context,
+) -> Result<Vec<AttributeNumber>, OutOfMemory>
+    ensures moved { IfOk result (λ moved. AreMovedAttributes from.now to.new moved.items) }
+    ensures grows { Grows to.old to.new }
+{
+    let mut moved = Vec::new(alloc);
+    for place in 0..from.attribute_count() {
+        let Ok(number) = u32::try_from(place) else {
+            return Err(OutOfMemory);
+        };
+        let attribute = from.attribute_at(AttributeNumber(number));
+        let number = put_attribute(to, attribute)?;
+        moved.push(number)?;
+    }
+    Ok(moved)
+}
+
+/// The numbers in another context of the nodes that snapshots have, and of those above them.
+fn moved_nodes(
+    alloc: Global,
+    from: &Context,
+    to: &mut Context,
+    rows: &[Snapshot],
+) -> Result<Vec<Option<NodeNumber>>, OutOfMemory>
+    requires { All (IsIn from.now) rows.now }
+    ensures moved { IfOk result (λ moved. AreMovedNodes from.now to.new moved.items) }
+    ensures grows { Grows to.old to.new }
+{
+    let mut moved = nothing_moved(alloc, from.node_count())?;
+    let mut way = Vec::new(alloc);
+    for row in rows {
+        move_nodes(from, to, &row.nodes, &mut moved, &mut way)?;
+    }
+    Ok(moved)
+}
+
+fn nothing_moved(alloc: Global, count: usize) -> Result<Vec<Option<NodeNumber>>, OutOfMemory>
+    ensures { IfOk result (λ moved. moved.items ≡ replicate count None) }
+{
+    let mut moved = Vec::with_capacity(alloc, count)?;
+    for place in 0..count {
+        let _ = place;
+        moved.push(None)?;
+    }
+    Ok(moved)
+}
+
+fn move_nodes(
+    from: &Context,
+    to: &mut Context,
+    nodes: &[NodeNumber],
+    moved: &mut Vec<Option<NodeNumber>>,
+    way: &mut Vec<NodeNumber>,
+) -> Result<(), OutOfMemory>
+    requires { All (λ n. n.0 < length from.now.paths) nodes.now }
+    ensures moved { OnOk result (AreMovedNodes from.now to.old moved.old.items
+        → AreMovedNodes from.now to.new moved.new.items) }
+    ensures grows { Grows to.old to.new }
+{
+    for node in nodes {
+        find_way(from, *node, moved, way)?;
+        move_way(from, to, way, moved)?;
+    }
+    Ok(())
+}
+
+/// The nodes from this one up that aren't moved yet, in place of those that are there.
+fn find_way(
+    from: &Context,
+    node: NodeNumber,
+    moved: &[Option<NodeNumber>],
+    way: &mut Vec<NodeNumber>,
+) -> Result<(), OutOfMemory>
+    requires { node.0 < length from.now.paths }
+    ensures { OnOk result (All (λ n. n.0 < length from.now.paths) way.new.items) }
+{
+    way.clear();
+    let mut node = node;
+    while let Some(link) = from.link(node) {
+        if number_in(moved, node).is_some() {
+            return Ok(());
+        }
+        way.push(node)?;
+        node = link.parent;
+    }
+    way.push(node)?;
+    Ok(())
+}
+
+/// Moves nodes, the last one first.
+fn move_way(
+    from: &Context,
+    to: &mut Context,
+    way: &[NodeNumber],
+    moved: &mut Vec<Option<NodeNumber>>,
+) -> Result<(), OutOfMemory>
+    requires { All (λ n. n.0 < length from.now.paths) way.now }
+    ensures moved { OnOk result (AreMovedNodes from.now to.old moved.old.items
+        → AreMovedNodes from.now to.new moved.new.items) }
+    ensures grows { Grows to.old to.new }
+{
+    let mut left = way.len();
+    while left > 0 {
+        left -= 1;
+        move_node(from, to, way[left], moved)?;
+    }
+    Ok(())
+}
+
+fn move_node(
+    from: &Context,
+    to: &mut Context,
+    node: NodeNumber,
+    moved: &mut Vec<Option<NodeNumber>>,
+) -> Result<(), OutOfMemory>
+    requires { node.0 < length from.now.paths }
+    ensures moved { OnOk result (AreMovedNodes from.now to.old moved.old.items
+        → AreMovedNodes from.now to.new moved.new.items) }
+    ensures grows { Grows to.old to.new }
+{
+    let number = put_node(from, to, node, moved)?;
+    keep(moved, node, number)?;
+    Ok(())
+}
+
+/// Puts a node into a context, below its parent's node there. Where that is missing it is answered
+/// as want of memory is.
+fn put_node(
+    from: &Context,
+    to: &mut Context,
+    node: NodeNumber,
+    moved: &[Option<NodeNumber>],
+) -> Result<NodeNumber, OutOfMemory>
+    requires { node.0 < length from.now.paths }
+    ensures leads { IfOk result (λ number. AreMovedNodes from.now to.old moved.now
+        → Leads to.new (path_at from.now node) number) }
+    ensures grows { Grows to.old to.new }
+{
+    to.has_each_once();
+    let Some(link) = from.link(node) else {
+        return Ok(NodeNumber::ROOT);
+    };
+    let Some(parent) = number_in(moved, link.parent) else {
+        return Err(OutOfMemory);
+    };
+    if parent.0 as usize >= to.node_count() {
+        return Err(OutOfMemory);
+    }
+    let attribute = put_attribute(to, from.attribute_at(link.attribute))?;
+    let number = to.child(parent, attribute, from.value_at(link.value))?;
+    Ok(number)
+}
+
+/// The number of an attribute in a context, to which it is added where it is new.
+fn put_attribute(to: &mut Context, attribute: &Attribute) -> Result<AttributeNumber, OutOfMemory>
+    ensures numbered { IfOk result (IsNumbered to.new attribute.now) }
+    ensures grows { Grows to.old to.new }
+{
+    to.attribute(attribute)
+}
+
+fn keep(
+    moved: &mut Vec<Option<NodeNumber>>,
+    node: NodeNumber,
+    number: NodeNumber,
+) -> Result<(), OutOfMemory>
+    ensures { OnOk result (moved.new.items ≡ slice_set moved.old.items node.0 (Some number)) }
+{
+    if node.0 as usize >= moved.len() {
+        return Err(OutOfMemory);
+    }
+    moved[node.0 as usize] = Some(number);
+    Ok(())
+}
+
+/// The number of a node in another context, if it was put there.
+fn number_in(moved: &[Option<NodeNumber>], node: NodeNumber) -> Option<NodeNumber>
+    ensures { (k : ANode) → result ≡ Some k → slice_get moved.now node.0 ≡ Some (Some k) }
+{
+    *moved.get(node.0 as usize)?
+}
+
+fn renumbered_rows(
+    alloc: Global,
+    attributes: &[AttributeNumber],
+    nodes: &[Option<NodeNumber>],
+    rows: Vec<Snapshot>,
+) -> Result<Vec<Snapshot>, OutOfMemory>
+    ensures { IfOk result (λ moved. (t u : Tree) → AreMovedAttributes t u attributes.now
+        → AreMovedNodes t u nodes.now → map (meaning u) moved.items ≡ map (meaning t) rows.items) }
+{
+    let mut moved = Vec::with_capacity(alloc, rows.len())?;
+    for row in rows {
+        moved.push(renumbered(alloc, attributes, nodes, row)?)?;
+    }
+    Ok(moved)
+}
+
+/// A snapshot by the numbers of another context.
+fn renumbered(
+    alloc: Global,
+    attributes: &[AttributeNumber],
+    nodes: &[Option<NodeNumber>],
+    row: Snapshot,
+) -> Result<Snapshot, OutOfMemory>
+    ensures { IfOk result (λ moved. (t u : Tree) → AreMovedAttributes t u attributes.now
+        → AreMovedNodes t u nodes.now → meaning u moved ≡ meaning t row) }
+{
+    let Snapshot { nodes: own, imms } = row;
+    Ok(Snapshot {
+        nodes: renumbered_nodes(alloc, nodes, &own)?,
+        imms: renumbered_imms(alloc, attributes, imms)?,
+    })
+}
+
+fn renumbered_nodes(
+    alloc: Global,
+    moved: &[Option<NodeNumber>],
+    nodes: &[NodeNumber],
+) -> Result<Vec<NodeNumber>, OutOfMemory>
+    ensures { IfOk result (λ numbers. (t u : Tree) → AreMovedNodes t u moved.now
+        → map (path_at u) numbers.items ≡ map (path_at t) nodes.now) }
+{
+    let mut numbers = Vec::with_capacity(alloc, nodes.len())?;
+    for node in nodes {
+        let Some(number) = number_in(moved, *node) else {
+            return Err(OutOfMemory);
+        };
+        numbers.push(number)?;
+    }
+    Ok(numbers)
+}
+
+fn renumbered_imms(
+    alloc: Global,
+    attributes: &[AttributeNumber],
+    imms: Vec<Immediate>,
+) -> Result<Vec<Immediate>, OutOfMemory>
+    ensures { IfOk result (λ moved. (t u : Tree) → AreMovedAttributes t u attributes.now
+        → map (entry_of u) moved.items ≡ map (entry_of t) imms.items) }
+{
+    let mut moved = Vec::with_capacity(alloc, imms.len())?;
+    for imm in imms {
+        let Some(attribute) = attribute_in(attributes, imm.attribute) else {
+            return Err(OutOfMemory);
+        };
+        moved.push(Immediate {
+            attribute,
+            value: imm.value,
+        })?;
+    }
+    Ok(moved)
+}
+
+/// The number of an attribute in another context, if it was put there.
+fn attribute_in(
+    attributes: &[AttributeNumber],
+    attribute: AttributeNumber,
+) -> Option<AttributeNumber>
+    ensures { (k : numbers.AttributeNumber) → result ≡ Some k
+        → slice_get attributes.now attribute.0 ≡ Some k }
+{
+    attributes.get(attribute.0 as usize).copied()
+}

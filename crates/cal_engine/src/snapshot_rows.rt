@@ -1,0 +1,63 @@
+ghost use Rattle.std.specs.Prelude.{◌≡◌, List, map, IfOk};
+ghost use Rattle.std.specs.List.{All};
+ghost use Rattle.cal_context.specs.Snapshots.{IsIn, meaning};
+ghost use Rattle.cal_context.specs.Tree.{Grows};
+ghost use Rattle.cal_value.specs.declared.record.Rec.{Rec as ARecord};
+ghost use Rattle.cal_engine.specs.Rows.{rows_of};
+ghost use Rattle.cal_engine.specs.Sorting.{sorted_rows};
+ghost use Rattle.cal_engine.specs.Tallies.{HoldsIn};
+
+use crate::fold::is_aggregated;
+use crate::numbered::NumberedGroups;
+use crate::snapshot_order::sorted_snapshots;
+use crate::within::are_in;
+use cal_context::{Context, Snapshot};
+use cal_ql::Query;
+use cal_value::OutOfMemory;
+use std::alloc::Global;
+
+/// The rows of an answer in their order, as snapshots of the context in which the keys of groups
+/// lie, or the kept records. The attributes of results are added to it. Rows that aren't about the
+/// context are answered as want of memory is.
+pub(crate) fn ordered_rows(
+    alloc: Global,
+    query: &Query,
+    context: &mut Context,
+    groups: NumberedGroups,
+    kept: Vec<Snapshot>,
+) -> Result<Vec<Snapshot>, OutOfMemory>
+    ensures within { IfOk result (λ rows. All (IsIn context.new) rows.items) }
+    ensures rows { IfOk result (λ rows. (ks : List ARecord)
+        → HoldsIn context.old query.now ks groups kept.items
+        → map (meaning context.new) rows.items
+        ≡ sorted_rows query.now.order (rows_of query.now ks)) }
+    ensures grows { Grows context.old context.new }
+{
+    let rows = made_rows(alloc, query, context, groups, kept)?;
+    if !are_in(context, &rows) {
+        return Err(OutOfMemory);
+    }
+    let sorted = sorted_snapshots(alloc, &query.order, context, rows)?;
+    Ok(sorted)
+}
+
+/// The rows of an answer before they are ordered.
+fn made_rows(
+    alloc: Global,
+    query: &Query,
+    context: &mut Context,
+    groups: NumberedGroups,
+    kept: Vec<Snapshot>,
+) -> Result<Vec<Snapshot>, OutOfMemory>
+    ensures rows { IfOk result (λ rows. (ks : List ARecord)
+        → HoldsIn context.old query.now ks groups kept.items
+        → map (meaning context.new) rows.items ≡ rows_of query.now ks) }
+    ensures grows { Grows context.old context.new }
+{
+    if is_aggregated(query) {
+        let made = groups.rows(alloc, query, context)?;
+        return Ok(made);
+    }
+    context.has_each_once();
+    Ok(kept)
+}
