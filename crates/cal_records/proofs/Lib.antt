@@ -1,4 +1,5 @@
-pub mod InterningLemmas
+pub mod ListOrder
+pub mod ForkLemmas
 pub mod Ranking
 pub mod GlobalLemmas
 pub mod TakingLemmas

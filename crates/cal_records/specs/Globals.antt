@@ -1,13 +1,11 @@
--- How globals are put into a context (private).
-use Rattle.std.specs.Prelude.{List, ◌++◌}
+-- What a snapshot of globals means.
+use Rattle.std.specs.Prelude.{◌≡◌}
+use Rattle.cal_context.specs.Snapshots.{IsIn, meaning}
 use Rattle.cal_context.specs.Tree.{Tree}
 use Rattle.cal_context.specs.declared.snapshot.Snapshot.{Snapshot}
-use Rattle.cal_records.specs.Interning.{Means}
-use Rattle.cal_records.specs.Records.{globals_of}
-use Rattle.cal_value.specs.declared.attribute.Entry.{Entry}
+use Rattle.cal_value.specs.declared.record.Rec.{Rec}
 
--- whatever globals a snapshot meant, it means these behind them
-abbrev pub AddsGlobals : Tree → Tree → List Entry → Snapshot → Snapshot → Type 0
-AddsGlobals old new entries before now =
-    (done : List Entry) → Means old before (globals_of done)
-    → Means new now (globals_of (done ++ entries))
+-- a snapshot of the context means a record
+pub record Means (t : Tree) (s : Snapshot) (r : Rec) : Type 0 where
+  pub within : IsIn t s
+  pub means : meaning t s ≡ r

@@ -1,6 +1,6 @@
 pub mod Groups
 pub mod Records
 pub mod Kept
-pub mod Interning
+pub mod Forks
 pub mod Ranks
 pub mod Globals

@@ -1,12 +1,12 @@
-ghost use Rattle.std.specs.Prelude.{◌≡◌, [], ◌∷◌, IfOk, OnOk};
+ghost use Rattle.std.specs.Prelude.{◌≡◌, [], ◌∷◌, filter, map, IfOk};
 ghost use Rattle.cal_context.specs.Tree.{Grows};
-ghost use Rattle.cal_records.specs.Interning.{Means};
-ghost use Rattle.cal_records.specs.Globals.{AddsGlobals};
+ghost use Rattle.cal_records.specs.Globals.{Means};
 ghost use Rattle.cal_records.specs.Records.{globals_of};
+ghost use Rattle.cal_value.specs.Props.{is_as_value, is_reference};
 
-use crate::interning::{intern_entry, intern_immediate};
 use cal_context::{Context, Snapshot};
-use cal_value::{Entry, OutOfMemory};
+use cal_value::{Entry, OutOfMemory, Rec, Seq, TryCopy};
+use cal_write::intern_record;
 use std::alloc::Global;
 
 /// The globals of a script, put into a context, as a stream's writer takes them at its end.
@@ -18,28 +18,48 @@ pub fn put_globals(
     ensures means { IfOk result (λ snapshot. Means context.new snapshot (globals_of entries.now)) }
     ensures grows { Grows context.old context.new }
 {
+    let globals = Rec {
+        paths: referred(alloc, entries)?,
+        imms: valued(alloc, entries)?,
+    };
     let mut snapshot = Snapshot::new(alloc);
-    for entry in entries {
-        put_global(alloc, entry, context, &mut snapshot)?;
-    }
+    intern_record(alloc, context, &globals, &mut snapshot)?;
     Ok(snapshot)
 }
 
-/// Puts one more global behind those in a snapshot.
-fn put_global(
-    alloc: Global,
-    entry: &Entry,
-    context: &mut Context,
-    snapshot: &mut Snapshot,
-) -> Result<(), OutOfMemory>
-    ensures adds { OnOk result
-        (AddsGlobals context.old context.new (entry.now ∷ []) snapshot.old snapshot.new) }
-    ensures grows { Grows context.old context.new }
+/// A path for each entry of a reference attribute.
+fn referred(alloc: Global, entries: &[Entry]) -> Result<Seq<Seq<Entry>>, OutOfMemory>
+    ensures { IfOk result (λ paths. paths
+        ≡ map (λ e. e ∷ []) (filter (λ e. is_reference e.attr.props) entries.now)) }
 {
-    if entry.attr.props.is_as_value() {
-        intern_immediate(alloc, context, entry, &mut snapshot.imms)?;
-    } else {
-        intern_entry(context, entry, &mut snapshot.nodes)?;
+    let mut paths = Vec::new(alloc);
+    for entry in entries {
+        if entry.attr.props.is_reference() {
+            paths.push(path_of(alloc, entry)?)?;
+        }
     }
-    Ok(())
+    Ok(Seq::from_vec(paths))
+}
+
+/// The path of one entry.
+fn path_of(alloc: Global, entry: &Entry) -> Result<Seq<Entry>, OutOfMemory>
+    ensures { IfOk result (λ path. path ≡ entry.now ∷ []) }
+{
+    let mut path = Seq::new(alloc);
+    path.push(entry.copy(alloc)?)?;
+    Ok(path)
+}
+
+/// The entries of as-value attributes.
+fn valued(alloc: Global, entries: &[Entry]) -> Result<Seq<Entry>, OutOfMemory>
+    ensures { IfOk result
+        (λ imms. imms ≡ filter (λ e. is_as_value e.attr.props) entries.now) }
+{
+    let mut imms = Vec::new(alloc);
+    for entry in entries {
+        if entry.attr.props.is_as_value() {
+            imms.push(entry.copy(alloc)?)?;
+        }
+    }
+    Ok(Seq::from_vec(imms))
 }

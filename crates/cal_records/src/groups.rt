@@ -1,24 +1,25 @@
-ghost use Rattle.std.specs.Prelude.{◌≡◌, [], ◌∷◌, IfOk, OnOk};
+ghost use Rattle.std.specs.Prelude.{◌≡◌, map, IfOk, OnOk};
+ghost use Rattle.std.specs.List.{All};
+ghost use Rattle.cal_context.specs.Snapshots.{IsIn, meaning};
 ghost use Rattle.cal_context.specs.Taking.{TakesMore};
 ghost use Rattle.cal_context.specs.Tree.{Grows};
+ghost use Rattle.cal_engine.specs.Answers.{answer_of};
 ghost use Rattle.cal_ql.specs.Valid.{IsValidQuery};
-ghost use Rattle.cal_records.specs.Groups.{group_records};
 ghost use Rattle.cal_records.specs.Records.{grouped};
 ghost use Rattle.cal_run.specs.Numbers.{AreNumbered};
 ghost use Rattle.cal_run.specs.Runs.{snapshots};
 ghost use Rattle.cal_run.specs.Seeing.{CanBeRead};
 ghost use Rattle.cal_valid.specs.Valid.{IsRunnable};
 
-use crate::interning::intern_record;
 use crate::query::channel_query;
 use crate::same::same_query;
-use crate::sorting::sorted_by_group;
+use crate::sorting::{Ranked, sorted_by_group};
 use cal_context::{Context, Snapshot, Taker};
 use cal_engine::SnapshotFold;
 use cal_ql::Query;
 use cal_run::{Numbers, take_channel};
 use cal_script::{Channel, Journal, Script};
-use cal_value::{OutOfMemory, Rec, Seq};
+use cal_value::OutOfMemory;
 use std::alloc::Global;
 
 /// Hands the records of the groups of a channel with aggregate to a taker, in the order of groups.
@@ -46,11 +47,12 @@ pub(crate) fn take_groups<T: Taker>(
     }
     let query = channel_query(alloc, &channel.query)?;
     let rows = group_rows(alloc, script, journal, channel, &query, numbers, context)?;
-    take_rows(alloc, rows.as_slice(), context, taker)?;
+    let ranked = sorted_by_group(alloc, context, query.aggs.as_slice(), rows.as_slice())?;
+    take_rows(ranked.as_slice(), context, taker)?;
     Ok(())
 }
 
-/// The records of a channel's groups, with entries of their own.
+/// The records of a channel's groups, in the order in which they came up.
 fn group_rows(
     alloc: Global,
     script: &Script,
@@ -59,13 +61,14 @@ fn group_rows(
     query: &Query,
     numbers: &Numbers,
     context: &mut Context,
-) -> Result<Seq<Rec>, OutOfMemory>
+) -> Result<Vec<Snapshot>, OutOfMemory>
     requires runnable { IsRunnable script.now }
     requires read { CanBeRead script.now journal.now }
     requires numbered { AreNumbered context.old script.now numbers.now }
     requires valid { IsValidQuery query.now }
-    ensures rows { IfOk result (λ rows. rows
-        ≡ group_records query.now (snapshots script.now journal.now channel.now)) }
+    ensures within { IfOk result (λ rows. All (IsIn context.new) rows.items) }
+    ensures rows { IfOk result (λ rows. map (meaning context.new) rows.items
+        ≡ (answer_of query.now (snapshots script.now journal.now channel.now)).rows.rows) }
     ensures grows { Grows context.old context.new }
 {
     let mut fold = SnapshotFold::new(alloc, query, context)?;
@@ -74,47 +77,20 @@ fn group_rows(
     if !same_query(fold.query(), query) {
         return Err(OutOfMemory);
     }
-    let answer = fold.finish(context)?;
-    let records = answer.rows;
-    let rows = sorted_by_group(alloc, query.aggs.as_slice(), records.rows)?;
+    let rows = fold.rows(context)?;
     Ok(rows)
 }
 
-/// Hands records to a taker.
-fn take_rows<T: Taker>(
-    alloc: Global,
-    rows: &[Rec],
-    context: &mut Context,
-    taker: &mut T,
-) -> Result<(), OutOfMemory>
-    ensures taken { OnOk result (TakesMore
-        (T.has_taken taker.old context.old)
-        (T.has_taken taker.new context.new)
-        rows.now) }
-    ensures grows { Grows context.old context.new }
+/// Hands rows to a taker.
+fn take_rows<T: Taker>(rows: &[Ranked], context: &Context, taker: &mut T) -> Result<(), OutOfMemory>
+    requires { All (λ r. IsIn context.now r.row.now) rows.now }
+    ensures { OnOk result (TakesMore
+        (T.has_taken taker.old context.now)
+        (T.has_taken taker.new context.now)
+        (map (λ r. meaning context.now r.row.now) rows.now)) }
 {
-    let mut snapshot = Snapshot::new(alloc);
     for row in rows {
-        take_row(alloc, row, context, &mut snapshot, taker)?;
+        taker.take(context, row.row)?;
     }
-    Ok(())
-}
-
-/// Hands a record to a taker.
-fn take_row<T: Taker>(
-    alloc: Global,
-    row: &Rec,
-    context: &mut Context,
-    snapshot: &mut Snapshot,
-    taker: &mut T,
-) -> Result<(), OutOfMemory>
-    ensures taken { OnOk result (TakesMore
-        (T.has_taken taker.old context.old)
-        (T.has_taken taker.new context.new)
-        (row.now ∷ [])) }
-    ensures grows { Grows context.old context.new }
-{
-    intern_record(alloc, context, row, snapshot)?;
-    taker.take(context, snapshot)?;
     Ok(())
 }

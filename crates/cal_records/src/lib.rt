@@ -6,9 +6,9 @@
 //! out of memory.
 #![tactic(auto)]
 
+mod comparing;
 mod globals;
 mod groups;
-mod interning;
 mod query;
 mod run;
 mod same;

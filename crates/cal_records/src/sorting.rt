@@ -1,84 +1,132 @@
-ghost use Rattle.std.specs.Prelude.{◌≡◌, not, filter, map, IfOk};
+ghost use Rattle.std.specs.Prelude.{◌≡◌, ◌<◌, not, filter, length, map, IfOk};
+ghost use Rattle.std.specs.List.{All};
+ghost use Rattle.cal_context.specs.Snapshots.{IsIn, entry_of, meaning};
 ghost use Rattle.cal_engine.specs.Sorting.{sorted};
 ghost use Rattle.cal_records.specs.Groups.{is_result as is_result_of, rows_cmp};
-ghost use Rattle.cal_records.specs.Ranks.{rank, ranked_cmp};
+ghost use Rattle.cal_records.specs.Ranks.{AreRanked, key_entry, ranked_cmp};
+ghost use Rattle.cal_value.specs.Order.{entry_cmp, path_cmp};
 
+use crate::comparing::compare_paths;
+use cal_context::{Context, Immediate, Snapshot};
 use cal_ql::Agg;
-use cal_value::{Entry, OutOfMemory, Rec, Seq, TryCopy};
+use cal_value::{Attribute, OutOfMemory, Variant};
 use std::alloc::Global;
 use std::cmp::Ordering;
 
+/// An entry that is lent.
+#[derive(Clone, Copy)]
+pub(crate) struct Key<'a> {
+    attr: &'a Attribute,
+    value: &'a Variant,
+}
+
 /// A row beside the immediates of its group.
 #[derive(Drop)]
-pub(crate) struct Ranked {
-    imms: Seq<Entry>,
-    row: Rec,
+pub(crate) struct Ranked<'a> {
+    pub(crate) row: &'a Snapshot,
+    keys: Vec<Key<'a>>,
 }
 
-/// Rows in the order of their groups. It takes memory for the groups' immediates, and n log n
-/// comparisons of groups.
-pub(crate) fn sorted_by_group(
+/// Rows of a context in the order of their groups. It takes memory for a reference to each row and
+/// to each immediate of its group, and n log n comparisons of groups.
+pub(crate) fn sorted_by_group<'a>(
     alloc: Global,
+    context: &'a Context,
     aggs: &[Agg],
-    rows: Seq<Rec>,
-) -> Result<Seq<Rec>, OutOfMemory>
-    ensures { IfOk result (λ in_order. in_order ≡ sorted (rows_cmp aggs.now) rows) }
+    rows: &'a [Snapshot],
+) -> Result<Vec<Ranked<'a>>, OutOfMemory>
+    requires { All (IsIn context.now) rows.now }
+    ensures within { IfOk result
+        (λ ranked. All (λ r. IsIn context.now r.row.now) ranked.items) }
+    ensures sorted { IfOk result (λ ranked. map (λ r. meaning context.now r.row.now) ranked.items
+        ≡ sorted (rows_cmp aggs.now) (map (meaning context.now) rows.now)) }
 {
-    let mut ranked = ranked_rows(alloc, aggs, rows)?;
-    ranked.sort_by(|one, other| compare(one, other))?;
-    rows_of(alloc, ranked)
+    let mut ranked = ranked_rows(alloc, context, aggs, rows)?;
+    ranked.sort_by(|one, other| compare(context, one, other))?;
+    Ok(ranked)
 }
 
-fn ranked_rows(alloc: Global, aggs: &[Agg], rows: Seq<Rec>) -> Result<Vec<Ranked>, OutOfMemory>
-    ensures { IfOk result (λ ranked. ranked.items ≡ map (rank aggs.now) rows) }
+fn ranked_rows<'a>(
+    alloc: Global,
+    context: &'a Context,
+    aggs: &[Agg],
+    rows: &'a [Snapshot],
+) -> Result<Vec<Ranked<'a>>, OutOfMemory>
+    requires { All (IsIn context.now) rows.now }
+    ensures { IfOk result (λ ranked. AreRanked context.now aggs.now rows.now ranked.items) }
 {
     let mut ranked = Vec::with_capacity(alloc, rows.len())?;
-    for row in rows.into_vec() {
-        let imms = without_results(alloc, aggs, row.imms.as_slice())?;
-        ranked.push(Ranked { imms, row })?;
+    for row in rows {
+        let keys = keys_of(alloc, context, aggs, row.imms.as_slice())?;
+        ranked.push(Ranked { row, keys })?;
     }
     Ok(ranked)
 }
 
-fn without_results(
+/// The immediates without the results.
+fn keys_of<'a>(
     alloc: Global,
+    context: &'a Context,
     aggs: &[Agg],
-    entries: &[Entry],
-) -> Result<Seq<Entry>, OutOfMemory>
-    ensures { IfOk result
-        (λ kept. kept ≡ filter (λ e. not (is_result_of aggs.now e)) entries.now) }
+    imms: &'a [Immediate],
+) -> Result<Vec<Key<'a>>, OutOfMemory>
+    requires { All (λ i. i.attribute.0 < length context.now.attributes) imms.now }
+    ensures { IfOk result (λ keys. map key_entry keys.items
+        ≡ filter (λ e. not (is_result_of aggs.now e)) (map (entry_of context.now) imms.now)) }
 {
-    let mut kept = Vec::new(alloc);
-    for entry in entries {
-        if !is_result(aggs, entry) {
-            kept.push(entry.copy(alloc)?)?;
+    let mut keys = Vec::new(alloc);
+    for imm in imms {
+        let key = Key {
+            attr: context.attribute_at(imm.attribute),
+            value: &imm.value,
+        };
+        if !is_result(aggs, &key) {
+            keys.push(key)?;
         }
     }
-    Ok(Seq::from_vec(kept))
+    Ok(keys)
 }
 
-fn is_result(aggs: &[Agg], entry: &Entry) -> bool
-    ensures { result ≡ is_result_of aggs.now entry.now }
+fn is_result(aggs: &[Agg], key: &Key) -> bool
+    ensures { result ≡ is_result_of aggs.now (key_entry key.now) }
 {
     aggs.iter()
-        .any(|agg| agg.name.as_str() == entry.attr.name.as_str())
+        .any(|agg| agg.name.as_str() == key.attr.name.as_str())
 }
 
-fn rows_of(alloc: Global, ranked: Vec<Ranked>) -> Result<Seq<Rec>, OutOfMemory>
-    ensures { IfOk result (λ rows. rows ≡ map (λ r. r.row) ranked.items) }
+fn compare(context: &Context, one: &Ranked, other: &Ranked) -> Ordering
+    ensures { result ≡ ranked_cmp context.now one.now other.now }
 {
-    let mut rows = Vec::with_capacity(alloc, ranked.len())?;
-    for Ranked { imms: _, row } in ranked {
-        rows.push(row)?;
+    match compare_paths(context, &one.row.nodes, &other.row.nodes) {
+        Ordering::Equal => compare_keys(&one.keys, &other.keys),
+        order => order,
     }
-    Ok(Seq::from_vec(rows))
 }
 
-fn compare(one: &Ranked, other: &Ranked) -> Ordering
-    ensures { result ≡ ranked_cmp one.now other.now }
+fn compare_keys(one: &[Key], other: &[Key]) -> Ordering
+    ensures { result ≡ path_cmp (map key_entry one.now) (map key_entry other.now) }
 {
-    one.row
-        .paths
-        .cmp(&other.row.paths)
-        .then_with(|| one.imms.cmp(&other.imms))
+    for place in 0..one.len() {
+        if other.len() <= place {
+            return Ordering::Greater;
+        }
+        let order = compare_entries(&one[place], &other[place]);
+        if order != Ordering::Equal {
+            return order;
+        }
+    }
+    if one.len() < other.len() {
+        Ordering::Less
+    } else {
+        Ordering::Equal
+    }
+}
+
+fn compare_entries(one: &Key, other: &Key) -> Ordering
+    ensures { result ≡ entry_cmp (key_entry one.now) (key_entry other.now) }
+{
+    match one.attr.cmp(other.attr) {
+        Ordering::Equal => one.value.cmp(other.value),
+        order => order,
+    }
 }

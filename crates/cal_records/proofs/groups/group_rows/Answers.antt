@@ -1,10 +1,8 @@
 use Rattle.std.proofs.Common.{◌≡◌, [], sym, ap, ◌∙◌}
 use Rattle.cal_context.proofs.CallerLemmas.{Grows-trans}
 use Rattle.cal_engine.specs.Answers.{answer_of}
-use Rattle.cal_engine.specs.Sorting.{sorted}
 use Rattle.cal_engine.specs.Standing.{HasFolded}
 use Rattle.cal_ql.specs.declared.query.Query.{Query}
-use Rattle.cal_records.specs.Groups.{rows_cmp}
 use Rattle.cal_run.proofs.NumberLemmas.{AreNumbered-Grows}
 use Rattle.cal_run.specs.Runs.{snapshots}
 use Rattle.cal_records.proofs.groups.group_rows.Goals as goal
@@ -22,17 +20,15 @@ pub returns-then-not-same_query-clause-grows : goal.returns-then-not-same_query-
 returns-then-not-same_query-clause-grows c =
     Grows-trans _ _ _ c.in_ok-fold.ensures.grows c.take_channel.ensures.grows
 
-pub returns-in_err-answer-clause-grows : goal.returns-in_err-answer-clause-grows
-returns-in_err-answer-clause-grows c =
-    Grows-trans _ _ _ c.in_ok-fold.ensures.grows c.take_channel.ensures.grows
-
 pub returns-in_err-rows-clause-grows : goal.returns-in_err-rows-clause-grows
 returns-in_err-rows-clause-grows c =
-    Grows-trans _ _ _ c.in_ok-fold.ensures.grows c.take_channel.ensures.grows
+    Grows-trans _ _ _ (Grows-trans _ _ _ c.in_ok-fold.ensures.grows c.take_channel.ensures.grows)
+    c.rows.ensures.grows
 
 pub returns-clause-grows : goal.returns-clause-grows
 returns-clause-grows c =
-    Grows-trans _ _ _ c.in_ok-fold.ensures.grows c.take_channel.ensures.grows
+    Grows-trans _ _ _ (Grows-trans _ _ _ c.in_ok-fold.ensures.grows c.take_channel.ensures.grows)
+    c.in_ok-rows.ensures.grows
 
 pub returns-clause-rows : goal.returns-clause-rows
 returns-clause-rows c =
@@ -42,7 +38,5 @@ returns-clause-rows c =
     sym c.query.ensures ∙ c.same_query.ensures c.if-not-same_query.false in
     let folded : HasFolded fold c.take_channel.new.context taken =
     c.in_ok-take_channel.ensures.taken [] c.in_ok-fold.ensures.none in
-    let answer = c.in_ok-answer.ensures taken folded
-    ∙ ap (λ (q : Query). answer_of q taken) same in
-    c.in_ok-rows.ensures
-    ∙ (λ i. sorted (rows_cmp (c.as_slice.ensures i)) (answer i).rows.rows)
+    c.in_ok-rows.ensures.rows taken folded
+    ∙ ap (λ (q : Query). (answer_of q taken).rows.rows) same
