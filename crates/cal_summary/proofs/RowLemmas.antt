@@ -1,0 +1,73 @@
+-- The rows of a run are those of the traces and the records of groups, and sums go on item by item.
+use Rattle.std.proofs.Common.{◌≡◌, ℕ, ◌+◌, ◌<◌, Bool, true, false, List, [], ◌∷◌, length, get_or}
+use Rattle.std.proofs.Common.{take, refl, ap, arith}
+use Rattle.std.specs.Prelude.{flat_map, if◌then◌else◌, sum_by}
+use Rattle.std.proofs.lemmas.List.{length-append}
+use Rattle.std.proofs.lemmas.List.Sums.{sum_by-cons, sum_by_more}
+use Rattle.cal_records.specs.Records.{channel_rows, grouped, run_rows, traced}
+use Rattle.cal_run.specs.Runs.{snapshots}
+use Rattle.cal_script.specs.declared.journal.Journal.{Journal}
+use Rattle.cal_script.specs.declared.script.Channel.{Channel}
+use Rattle.cal_script.specs.declared.script.Script.{Script}
+use Rattle.cal_summary.specs.Summaries.{group_count, traced_count}
+use Rattle.cal_summary.specs.declared.summarizing.Summary.{Summary}
+use Rattle.cal_value.specs.declared.record.Rec.{Rec}
+use Rattle.cal_write.specs.CanonicalText.{canonical_text}
+use Rattle.cal_write.specs.declared.measurer.Measure.{Measure}
+
+module _ (script : Script) (journal : Journal) where
+  rows-of : (channels : List Channel)
+      → length (flat_map (channel_rows script journal) channels)
+      ≡ sum_by (λ (c : Channel). length (traced script journal c)) channels
+      + sum_by (λ (c : Channel). length (grouped script journal c)) channels
+  rows-of [] = refl
+  rows-of (c ∷ cs) =
+      let rest = rows-of cs in
+      let both = length-append (channel_rows script journal c)
+      (flat_map (channel_rows script journal) cs) in
+      let here = length-append (traced script journal c) (grouped script journal c) in
+      let traces = sum_by-cons (λ (c : Channel). length (traced script journal c)) c cs in
+      let groups = sum_by-cons (λ (c : Channel). length (grouped script journal c)) c cs in
+      omega (arith, rest, both, here, traces, groups)
+
+  pub rows-split : length (run_rows script journal)
+      ≡ traced_count script journal + group_count script journal
+  rows-split = rows-of script.channels
+
+  -- the snapshots of a channel that stand in its trace
+  pub traced-is : (channel : Channel) (count : ℕ)
+      → count ≡ length (snapshots script journal channel)
+      → (if channel.trace then count else 0) ≡ length (traced script journal channel)
+  traced-is channel count is = by channel.trace
+    where
+      by : (b : Bool) → (if b then count else 0)
+          ≡ length (if b then snapshots script journal channel else [])
+      by true = is
+      by false = refl
+
+-- a sum over the items so far, and one more
+pub sum-next : {A : Type 0} (f : A → ℕ) (xs : List A) (i : ℕ) (x : A) → x ≡ get_or xs i x
+    → i < length xs → (sum more now : ℕ) → sum ≡ sum_by f (take i xs) → more ≡ f x
+    → now ≡ sum + more → now ≡ sum_by f (take (i + 1) xs)
+sum-next f xs i x is below sum more now so_far one adds =
+    let next = sum_by_more f xs i x below in
+    let at = ap f is in
+    omega (arith, next, at, so_far, one, adds)
+
+-- how much rows are with globals
+abbrev pub measure_of : List Rec → Rec → Measure
+measure_of rows globals = record {
+  rows = length rows;
+  bytes = length (canonical_text (record { rows = rows; globals = globals }));
+}
+
+pub summary_one : (s t : Summary) → s.threads ≡ t.threads → s.lines ≡ t.lines → s.nodes ≡ t.nodes
+    → s.snapshots ≡ t.snapshots → s.groups ≡ t.groups → s.bytes ≡ t.bytes → s ≡ t
+summary_one s t threads lines nodes snapshots groups bytes = λ j. record {
+  threads = threads j;
+  lines = lines j;
+  nodes = nodes j;
+  snapshots = snapshots j;
+  groups = groups j;
+  bytes = bytes j;
+}
