@@ -27,7 +27,8 @@ use Rattle.caliper.proofs.RunFaults.{IsOneRule, fault_and_run, one_run, one_run_
 -- bytes with a text have no first fault
 fault_and_text : IsOneRule → (task : Task) (bytes text : List ℕ) (journal : Journal) (line : ℕ)
     (kind : InputKind) → IsFaultOf task bytes line kind → Makes task bytes text journal → ⊥
-fault_and_text law (GenTask seed threads lines) bytes text journal line kind faulty is = faulty
+fault_and_text law (GenTask seed threads lines print) bytes text journal line kind faulty is =
+    faulty
 fault_and_text law SerialTask bytes text journal line kind faulty is =
     fault_and_run law bytes is.0 journal line kind faulty is.1
 fault_and_text law (QueryTask query join) bytes text journal line kind faulty is =
@@ -40,7 +41,8 @@ fault_and_text law (QueryTask query join) bytes text journal line kind faulty is
 one_fault : IsOneRule → (task : Task) (bytes : List ℕ) (line other : ℕ) (kind others : InputKind)
     → IsFaultOf task bytes line kind → IsFaultOf task bytes other others → (line ≡ other)
     × (kind ≡ others)
-one_fault law (GenTask seed threads lines) bytes line other kind others faulty also = absurd faulty
+one_fault law (GenTask seed threads lines print) bytes line other kind others faulty also =
+    absurd faulty
 one_fault law SerialTask bytes line other kind others faulty also =
     one_run_fault law bytes line other kind others faulty also
 one_fault law (QueryTask query join) bytes line other kind others faulty also =
@@ -52,7 +54,7 @@ one_fault law (QueryTask query join) bytes line other kind others faulty also =
 -- bytes with a text have one journal
 one_journal : (task : Task) (bytes text texts : List ℕ) (journal other : Journal)
     → Makes task bytes text journal → Makes task bytes texts other → journal ≡ other
-one_journal (GenTask seed threads lines) bytes text texts journal other is also =
+one_journal (GenTask seed threads lines print) bytes text texts journal other is also =
     is.1 ∙ sym also.1
 one_journal SerialTask bytes text texts journal other is also =
     (one_run bytes is.0 also.0 journal other is.1 also.1).1
@@ -162,20 +164,20 @@ of_the_left input P Q reads then =
 of_the_bytes : (task : Task) (input : Change) (P Q : List ℕ → Type 0) → WorksOn task input P
     → ((bytes : List ℕ) → length bytes ≤ input_limit → P bytes → Q bytes)
     → IfSome (bytes_for task input) Q
-of_the_bytes (GenTask seed threads lines) input P Q works then = then [] (lit≤ tt) works
+of_the_bytes (GenTask seed threads lines print) input P Q works then = then [] (lit≤ tt) works
 of_the_bytes SerialTask input P Q works then = of_the_left input P Q works then
 of_the_bytes (QueryTask query join) input P Q works then = of_the_left input P Q works then
 
 -- a task whose input is too long works on more bytes than the limit
 over_the_limit : (task : Task) (input : Change) → Stops task end.TooLong input
     → IfSome (bytes_for task input) (λ bytes. input_limit < length bytes)
-over_the_limit (GenTask seed threads lines) input long = absurd cc
+over_the_limit (GenTask seed threads lines print) input long = absurd cc
 over_the_limit SerialTask input long = left_over input_limit input.old input.new long
 over_the_limit (QueryTask query join) input long = left_over input_limit input.old input.new long
 
 -- a task whose reading failed has an input that failed
 failed_input : (task : Task) (input : Change) → Stops task end.ReadFault input → HasFailed input
-failed_input (GenTask seed threads lines) input fails = absurd cc
+failed_input (GenTask seed threads lines print) input fails = absurd cc
 failed_input SerialTask input fails = fails.0
 failed_input (QueryTask query join) input fails = fails.0
 

@@ -24,12 +24,12 @@ ReadsInput input P = (bytes : List ℕ) × ReadsAll input_limit input bytes × P
 
 -- This holds of the bytes that a task works on: those of its input. `gen` reads none.
 abbrev pub WorksOn : Task → Change → (List ℕ → Type 0) → Type 0
-WorksOn (GenTask seed threads lines) input P = P []
+WorksOn (GenTask seed threads lines print) input P = P []
 WorksOn _ input P = ReadsInput input P
 
 -- why the input of a task wasn't read to its end: for `gen` memory alone may be missing
 abbrev pub Stops : Task → ends.ReadEnd → Change → Type 0
-Stops (GenTask seed threads lines) how input = how ≡ end.OutOfMemory
+Stops (GenTask seed threads lines print) how input = how ≡ end.OutOfMemory
 Stops _ how input = StopsAt how input_limit input
 
 -- the text of the task's bytes, with this journal, was put behind what the output has
@@ -93,7 +93,7 @@ pub record IsDue (task : Task) (bytes : List ℕ) (output : Change)
 
 -- the bytes that a task works on, where its input tells them
 abbrev pub bytes_for : Task → Change → Option (List ℕ)
-bytes_for (GenTask seed threads lines) input = Some []
+bytes_for (GenTask seed threads lines print) input = Some []
 bytes_for _ input = input.old
 
 -- Where memory doesn't run out, a text that is refused decides the answer; and where a task is

@@ -1,5 +1,6 @@
--- The words behind `gen`: --seed=N --threads=N --lines=N [--print=script] (Giltmoth's rule).
-use Rattle.std.specs.Prelude.{ℕ, ◌+◌, ◌*◌, Bool, true, false, List, [], ◌∷◌, length, codes, drop}
+-- The words behind `gen`: --seed=N --threads=N --lines=N [--print=script|summary] (Giltmoth's
+-- rule).
+use Rattle.std.specs.Prelude.{ℕ, ◌+◌, ◌*◌, List, [], ◌∷◌, length, codes, drop}
 use Rattle.std.specs.Prelude.{Option, None, Some, Result, Ok, Err, is_some, unwrap_or}
 use Rattle.std.specs.Prelude.{nat_eq, nat_le, ◌&&◌, if◌then◌else◌}
 use Rattle.std.specs.List.{starts_with}
@@ -9,9 +10,11 @@ use Rattle.cal_value.specs.Reading.{uint_of}
 use Rattle.caliper.specs.declared.gen_words.GenOptions.{GenOptions}
 use Rattle.caliper.specs.declared.words.Command.{Command}
 use Rattle.caliper.specs.declared.words.Command.TheVariants.{Gen}
+use Rattle.caliper.specs.declared.words.Print as prints
+use Rattle.caliper.specs.declared.words.Print.TheVariants as print
 
 abbrev pub no_gen_options : GenOptions
-no_gen_options = record { seed = None; threads = None; lines = None; print = false }
+no_gen_options = record { seed = None; threads = None; lines = None; print = None }
 
 -- the value of a word that begins so, as with `--seed=`
 abbrev pub value_behind : List ℕ → List ℕ → Option (List ℕ)
@@ -50,15 +53,18 @@ with_lines options text =
     option_map (λ lines. record options { lines = lines })
     (number_once options.lines (number_in 0 1048576 text))
 
--- what is printed is the script, which is said once
-abbrev pub with_print : GenOptions → Option GenOptions
-with_print options = if options.print then None else Some (record options { print = true })
+-- what is printed, which is said once
+abbrev pub with_print : GenOptions → prints.Print → Option GenOptions
+with_print options printed =
+    if is_some options.print then None else Some (record options { print = Some printed })
 
 -- the options with that of a word that says neither a seed nor threads
 abbrev pub with_other_word : GenOptions → List ℕ → Option GenOptions
 with_other_word options word =
     option_map_or (with_lines options) (value_behind (codes "--lines=") word)
-    (if bytes_eq word (codes "--print=script") then with_print options else None)
+    (if bytes_eq word (codes "--print=script") then with_print options print.Script
+    else (if bytes_eq word (codes "--print=summary") then with_print options print.Summary
+    else None))
 
 -- the options with that of a word
 abbrev pub with_gen_word : GenOptions → List ℕ → Option GenOptions
@@ -81,14 +87,20 @@ abbrev pub with_next_word : GenOptions → List ℕ → Option GenOptions
 with_next_word options word = not_too_many (with_gen_word options word)
 
 -- the command of three numbers, or the number of words where one is missing
-abbrev pub gen_from : ℕ → Option ℕ → Option ℕ → Option ℕ → Result Command ℕ
-gen_from place (Some seed) (Some threads) (Some lines) = Ok (Gen seed threads lines)
-gen_from place seed threads lines = Err place
+abbrev pub gen_of_numbers : ℕ → Option ℕ → Option ℕ → Option ℕ → prints.Print → Result Command ℕ
+gen_of_numbers place (Some seed) (Some threads) (Some lines) printed =
+    Ok (Gen seed threads lines printed)
+gen_of_numbers place seed threads lines printed = Err place
+
+-- the command of these options, by default one that prints the script
+abbrev pub gen_from : ℕ → GenOptions → Result Command ℕ
+gen_from place options = gen_of_numbers place options.seed options.threads options.lines
+    (unwrap_or options.print print.Script)
 
 -- The command of these options, and of the words from this place on. Where the lines are too many
 -- in all, the later of the two words breaks the rule.
 abbrev pub gen_of : ℕ → GenOptions → List (List ℕ) → Result Command ℕ
-gen_of place options [] = gen_from place options.seed options.threads options.lines
+gen_of place options [] = gen_from place options
 gen_of place options (word ∷ words) =
     option_map_or (λ next. gen_of (place + 1) next words)
     (with_next_word options word) (Err place)
@@ -97,4 +109,4 @@ gen_of place options (word ∷ words) =
 abbrev pub count_given : GenOptions → ℕ
 count_given options =
     (if is_some options.seed then 1 else 0) + (if is_some options.threads then 1 else 0)
-    + (if is_some options.lines then 1 else 0) + (if options.print then 1 else 0)
+    + (if is_some options.lines then 1 else 0) + (if is_some options.print then 1 else 0)

@@ -9,11 +9,13 @@ use Rattle.caliper.specs.declared.fault.Fault as faults
 use Rattle.caliper.specs.declared.fault.Fault.TheVariants as fault
 use Rattle.caliper.specs.declared.words.Command as commands
 use Rattle.caliper.specs.declared.words.Command.TheVariants as command
+use Rattle.caliper.specs.declared.words.Print.{Print}
 
 -- what a command does: `gen` makes the script of a seed, with so many threads of so many lines, and
--- `query` answers a query, with the globals joined to each row or not
+-- prints it or how large its run is; `query` answers a query, with the globals joined to each row or
+-- not
 pub data Task : Type 0 where
-  GenTask : ℕ → ℕ → ℕ → Task
+  GenTask : ℕ → ℕ → ℕ → Print → Task
   SerialTask : Task
   QueryTask : Query → Bool → Task
 
@@ -28,7 +30,7 @@ query_task join (Err found) = Err (by_text (fault.BadQuery found.place found.kin
 query_task join (Ok query) = Ok (QueryTask query join)
 
 abbrev pub task_of : List (String Global) → commands.Command → Result Task Refusal
-task_of words (command.Gen seed threads lines) = Ok (GenTask seed threads lines)
+task_of words (command.Gen seed threads lines print) = Ok (GenTask seed threads lines print)
 task_of words command.Serial = Ok SerialTask
 task_of words (command.Query q join) = query_task join (reading (text_at words q))
 
@@ -43,5 +45,5 @@ tasked words = task_asked words (asked words)
 -- no input is read: the words are refused, or ask for a script that needs none
 abbrev pub LeavesInput : Result Task Refusal → Type 0
 LeavesInput (Err refusal) = Unit {0}
-LeavesInput (Ok (GenTask seed threads lines)) = Unit {0}
+LeavesInput (Ok (GenTask seed threads lines print)) = Unit {0}
 LeavesInput (Ok _) = ⊥

@@ -13,9 +13,10 @@ usage: caliper COMMAND < INPUT > OUTPUT
     query [--q=TEXT] [--globals=off|join]
                 reads a .cali stream, and writes the answer of the query TEXT over its rows, a line
                 for each; with join the globals stand at the end of each row that the query sees
-    gen --seed=N --threads=N --lines=N [--print=script]
+    gen --seed=N --threads=N --lines=N [--print=script|summary]
                 writes the script of a seed, with so many threads of so many lines, to try a program
-                on; it reads no input. At most 64 threads and 1048576 lines in all
+                on, or with summary how large its run is; it reads no input. At most 64 threads and
+                1048576 lines in all
     --help      this text
     --version   the version, and what it is proved with
 

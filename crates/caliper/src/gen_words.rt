@@ -5,7 +5,7 @@ ghost use Rattle.caliper.specs.GenWords.{number_in, number_once, with_gen_word, 
 ghost use Rattle.caliper.specs.GenWords.{with_next_word, with_other_word, with_print};
 ghost use Rattle.caliper.specs.GenWords.{with_seed, with_threads};
 
-use crate::Command;
+use crate::{Command, Print};
 use cal_value::{Kind, Variant, parse_value};
 use std::alloc::Global;
 
@@ -22,7 +22,7 @@ pub struct GenOptions {
     seed: Option<u32>,
     threads: Option<u32>,
     lines: Option<u32>,
-    print: bool,
+    print: Option<Print>,
 }
 
 impl GenOptions {
@@ -33,7 +33,7 @@ impl GenOptions {
             seed: None,
             threads: None,
             lines: None,
-            print: false,
+            print: None,
         }
     }
 
@@ -70,7 +70,10 @@ impl GenOptions {
             return self.with_lines(alloc, text);
         }
         if word == "--print=script" {
-            return self.with_print();
+            return self.with_print(Print::Script);
+        }
+        if word == "--print=summary" {
+            return self.with_print(Print::Summary);
         }
         None
     }
@@ -105,15 +108,15 @@ impl GenOptions {
         }
     }
 
-    fn with_print(self) -> Option<GenOptions>
-        ensures next { result ≡ with_print self }
+    fn with_print(self, print: Print) -> Option<GenOptions>
+        ensures next { result ≡ with_print self print }
         ensures more { IfSome result (λ next. count_given next ≡ count_given self + 1) }
     {
-        if self.print {
+        if self.print.is_some() {
             return None;
         }
         Some(GenOptions {
-            print: true,
+            print: Some(print),
             ..self
         })
     }
@@ -127,13 +130,14 @@ impl GenOptions {
 
     /// The command of these options behind so many words.
     fn command(self, place: u32) -> Result<Command, u32>
-        ensures { result ≡ gen_from place self.seed self.threads self.lines }
+        ensures { result ≡ gen_from place self }
     {
         match (self.seed, self.threads, self.lines) {
             (Some(seed), Some(threads), Some(lines)) => Ok(Command::Gen {
                 seed,
                 threads,
                 lines,
+                print: self.print.unwrap_or(Print::Script),
             }),
             _ => Err(place),
         }

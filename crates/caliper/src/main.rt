@@ -21,6 +21,7 @@ mod run;
 mod running;
 mod serial;
 mod serve;
+mod summarizing;
 #[cfg(test)]
 mod tests;
 mod words;
@@ -36,7 +37,7 @@ pub use serve::serve;
 use std::io;
 use std::process::ExitCode;
 use std::rt::Env;
-pub use words::{Command, read_words};
+pub use words::{Command, Print, read_words};
 
 /// Lends the standard streams.
 fn main(rt: HostRuntime) -> ExitCode {

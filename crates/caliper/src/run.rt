@@ -76,8 +76,9 @@ fn carry_out<S: Source, W: Sink>(
                 seed,
                 threads,
                 lines,
+                print,
             },
-        ) => write_generated(alloc, seed, threads, lines, input, output).err(),
+        ) => write_generated(alloc, seed, threads, lines, print, input, output).err(),
         Err(word) => Some(Fault::Usage { word }),
     };
     Ended::without_journal(alloc, fault)

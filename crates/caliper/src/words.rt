@@ -13,9 +13,27 @@ pub enum Command {
     Serial,
     /// Reads a stream and lays out the answer of a query, with the globals joined to each row where
     /// that is asked. The text of the query stands in the word at the place `q`, if it is there.
-    Query { q: Option<u32>, join: bool },
-    /// Generates the script of a seed, with so many threads of so many lines.
-    Gen { seed: u32, threads: u32, lines: u32 },
+    Query {
+        q: Option<u32>,
+        join: bool,
+    },
+    /// Generates the script of a seed, with so many threads of so many lines, and prints it or how
+    /// large its run is.
+    Gen {
+        seed: u32,
+        threads: u32,
+        lines: u32,
+        print: Print,
+    },
+}
+
+/// What `gen` prints.
+#[derive(Clone, Copy, Debug, PartialEq, Eq)]
+pub enum Print {
+    /// The script.
+    Script,
+    /// How large the run of its plain journal is.
+    Summary,
 }
 
 /// What the options of `query` say so far.
