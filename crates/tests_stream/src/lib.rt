@@ -1,4 +1,4 @@
-//! Tests of the layers below the program: of values, contexts and streams.
+//! Tests of the layers below the program: of values and streams.
 //!
 //! Each file is one layer's table of worked rows and hand-written answers. It promises nothing
 //! that a contract says; it shows what no clause can say, that calls succeed with ample memory.
@@ -6,8 +6,6 @@
 
 #[cfg(test)]
 mod bytes;
-#[cfg(test)]
-mod context;
 #[cfg(test)]
 mod line;
 #[cfg(test)]

@@ -22,6 +22,10 @@ const NODES: [(&[&str], u32); 8] = [
     (&["solve", "main"], 5),
 ];
 
+fn nodes() -> &'static [(&'static [&'static str], u32)] {
+    &NODES
+}
+
 // Each node below the root, its parent and its function.
 const LINKS: [(u32, u32, &str); 5] = [
     (1, 0, "main"),
@@ -30,6 +34,10 @@ const LINKS: [(u32, u32, &str); 5] = [
     (4, 2, "solve"),
     (5, 3, "main"),
 ];
+
+fn links() -> &'static [(u32, u32, &'static str)] {
+    &LINKS
+}
 
 fn attribute(alloc: Global, name: &str, kind: Kind) -> Result<Attribute, OutOfMemory> {
     Ok(Attribute {
@@ -59,7 +67,7 @@ fn node(alloc: Global, context: &mut Context, path: &[&str]) -> Result<NodeNumbe
 /// A context with the nodes of the table.
 fn filled(alloc: Global) -> Result<Context, OutOfMemory> {
     let mut context = Context::new(alloc);
-    for (path, _) in NODES {
+    for (path, _) in nodes() {
         let _ = node(alloc, &mut context, path)?;
     }
     Ok(context)
@@ -68,9 +76,9 @@ fn filled(alloc: Global) -> Result<Context, OutOfMemory> {
 #[test]
 fn equal_paths_are_one_node(rt: HostRuntime) -> Result<(), Fail> {
     let mut context = Context::new(rt.alloc());
-    for (path, number) in NODES {
+    for (path, number) in nodes() {
         let node = node(rt.alloc(), &mut context, path)?;
-        assert_eq!(rt; node, NodeNumber(number), "{path:?}");
+        assert_eq!(rt; node, NodeNumber(*number), "{path:?}");
     }
     assert_eq!(rt; context.node_count(), 6);
     assert_eq!(rt; context.attribute_count(), 1);
@@ -81,11 +89,11 @@ fn equal_paths_are_one_node(rt: HostRuntime) -> Result<(), Fail> {
 #[test]
 fn nodes_hang_by_links(rt: HostRuntime) -> Result<(), Fail> {
     let context = filled(rt.alloc())?;
-    for (node, parent, name) in LINKS {
-        let Some(link) = link(&context, NodeNumber(node)) else {
+    for (node, parent, name) in links() {
+        let Some(link) = link(&context, NodeNumber(*node)) else {
             return Err("no link".into());
         };
-        assert_eq!(rt; link.parent, NodeNumber(parent), "of node {node}");
+        assert_eq!(rt; link.parent, NodeNumber(*parent), "of node {node}");
         assert_eq!(rt;
             value(&context, link.value),
             Some(&text(rt.alloc(), name)?),
@@ -99,8 +107,8 @@ fn nodes_hang_by_links(rt: HostRuntime) -> Result<(), Fail> {
 #[test]
 fn a_link_finds_its_node(rt: HostRuntime) -> Result<(), Fail> {
     let mut context = filled(rt.alloc())?;
-    for (node, _, _) in LINKS {
-        let node = NodeNumber(node);
+    for (node, _, _) in links() {
+        let node = NodeNumber(*node);
         assert_eq!(rt; found(&mut context, node)?, Some(node));
     }
     assert_eq!(rt; context.node_count(), 6);
@@ -142,13 +150,17 @@ const RECORDS: [(&[u32], i128, &[&[&str]]); 3] = [
     (&[], 0, &[]),
 ];
 
+fn records() -> &'static [(&'static [u32], i128, &'static [&'static [&'static str]])] {
+    &RECORDS
+}
+
 #[test]
 fn a_snapshot_means_its_record(rt: HostRuntime) -> Result<(), Fail> {
     let mut context = filled(rt.alloc())?;
     let mut snapshot = Snapshot::new(rt.alloc());
-    for (nodes, number, paths) in RECORDS {
-        fill(rt.alloc(), &mut context, &mut snapshot, nodes, number)?;
-        let expected = record(rt.alloc(), paths, number)?;
+    for (nodes, number, paths) in records() {
+        fill(rt.alloc(), &mut context, &mut snapshot, nodes, *number)?;
+        let expected = record(rt.alloc(), paths, *number)?;
         assert_eq!(rt; expand(rt.alloc(), &context, &snapshot)?, expected);
     }
     Ok(())
@@ -160,10 +172,10 @@ fn plain_records_take_each_snapshot(rt: HostRuntime) -> Result<(), Fail> {
     let mut snapshot = Snapshot::new(rt.alloc());
     let mut taken = Taken::new(rt.alloc());
     let mut expected = Seq::new(rt.alloc());
-    for (nodes, number, paths) in RECORDS {
-        fill(rt.alloc(), &mut context, &mut snapshot, nodes, number)?;
+    for (nodes, number, paths) in records() {
+        fill(rt.alloc(), &mut context, &mut snapshot, nodes, *number)?;
         pass(&context, &snapshot, &mut taken)?;
-        expected.push(record(rt.alloc(), paths, number)?)?;
+        expected.push(record(rt.alloc(), paths, *number)?)?;
     }
     assert_eq!(rt; taken.into_rows(), expected);
     Ok(())

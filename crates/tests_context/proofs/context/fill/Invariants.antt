@@ -1,7 +1,7 @@
 use Rattle.std.proofs.Common.{◌≡◌, ◌<◌, [], length}
 use Rattle.std.specs.List.{All}
 use Rattle.cal_context.specs.Snapshots.{IsBelowRoot}
-use Rattle.tests_stream.proofs.context.fill.Given as goal
+use Rattle.tests_context.proofs.context.fill.Given as goal
 
 abbrev pub invariant-loop-node : goal.invariant-loop-node
 invariant-loop-node l = record {
