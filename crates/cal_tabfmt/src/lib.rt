@@ -19,7 +19,6 @@ mod snapshot_cells;
 mod snapshot_lines;
 mod table;
 mod table_lines;
-mod trail;
 mod walk;
 mod writer;
 mod written;
