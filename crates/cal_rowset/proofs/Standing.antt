@@ -1,5 +1,5 @@
 -- Cells of a row that stand in a context, from one snapshot to the next.
-use Rattle.std.proofs.Common.{◌≡◌, ℕ, ◌<◌, true, false, List, [], ◌∷◌, ◌++◌, length, map, take, refl, sym, ap, ◌∙◌, subst, append_assoc, append-nil, arith}
+use Rattle.std.proofs.Common.{◌≡◌, ℕ, ◌<◌, true, false, List, [], ◌++◌, length, map, take, sym, ap, ◌∙◌, subst, append_assoc, append-nil, arith}
 use Rattle.std.specs.Prelude.{slice_index_or}
 use Rattle.std.proofs.Math.Seq.{take-append_seam}
 use Rattle.std.proofs.lemmas.List.{map-append}
@@ -7,7 +7,6 @@ use Rattle.std.proofs.lemmas.List.Elements.{filter-append}
 use Rattle.cal_value.specs.Flat.{flat}
 use Rattle.cal_value.specs.declared.attribute.Entry.{Entry}
 use Rattle.cal_value.specs.declared.record.Rec.{Rec}
-use Rattle.cal_value.specs.declared.variant.Variant.{Variant}
 use Rattle.cal_context.specs.Tree.{Tree, IsContext, path_at}
 use Rattle.cal_context.specs.declared.numbers.Link.{Link}
 use Rattle.cal_context.specs.declared.numbers.NodeNumber.{NodeNumber}
@@ -21,7 +20,6 @@ use Rattle.cal_rowset.specs.Rooms.{AddsEntries, AddsPath, GoesTo, IsAlike, Knows
 use Rattle.cal_rowset.specs.Showing.{IsFor, ShowsRow}
 use Rattle.cal_rowset.specs.Standing.{IsFilled, IsFilledWith, StandsAt, StandsIn, taken}
 use Rattle.cal_rowset.specs.Trails.{IsTrail}
-use Rattle.cal_rowset.specs.declared.cells.Cells.{Cells}
 use Rattle.cal_rowset.specs.declared.rowset.Column.{Column}
 use Rattle.cal_rowset.specs.declared.shown_row.ShownRow.{ShownRow}
 use Rattle.cal_rowset.proofs.Placing.{row_shows}

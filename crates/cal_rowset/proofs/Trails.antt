@@ -11,7 +11,7 @@ use Rattle.cal_value.specs.declared.attribute.Entry.{Entry}
 use Rattle.cal_value.specs.declared.variant.Variant.{Variant}
 use Rattle.cal_context.specs.Tree.{no_attribute, no_value}
 use Rattle.cal_rowset.specs.Cells.{joined_texts, values_with}
-use Rattle.cal_rowset.specs.Filling.{HoldsIn, Shows, is_nothing, nth_cell, nth_name, no_cell, with_use}
+use Rattle.cal_rowset.specs.Filling.{HoldsIn, Shows, is_nothing, nth_cell, no_cell, with_use}
 use Rattle.cal_rowset.specs.declared.cell.Cell.{Cell}
 use Rattle.cal_rowset.specs.declared.cells.Cells.{Cells}
 use Rattle.cal_rowset.proofs.Filling.{Holds-added}

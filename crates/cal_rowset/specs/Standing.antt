@@ -1,5 +1,5 @@
 -- The cells of a row, between the snapshots of a context that are shown in them.
-use Rattle.std.specs.Prelude.{◌≡◌, ℕ, ◌<◌, List, [], ◌++◌, length, true}
+use Rattle.std.specs.Prelude.{◌≡◌, ◌<◌, List, [], ◌++◌, length, true}
 use Rattle.cal_value.specs.declared.attribute.Entry.{Entry}
 use Rattle.cal_context.specs.Tree.{Tree, path_at}
 use Rattle.cal_rowset.specs.Cells.{values}
@@ -12,6 +12,10 @@ use Rattle.cal_rowset.specs.declared.shown_row.ShownRow.{ShownRow}
 -- those entries of a row that its cells take
 abbrev pub taken : ShownRow → List Entry → List Entry
 taken s entries = known_entries (names s.cells) entries
+
+-- They hold no entry, and stand at the root.
+abbrev pub HoldsNothing : ShownRow → Type 0
+HoldsNothing s = IsTrail s.cells [] × (s.node.0 ≡ 0) × (s.depth ≡ 0)
 
 -- They know the attributes of the context, and hold the path of a node and then some entries.
 pub record StandsIn (t : Tree) (s : ShownRow) : Type 0 where

@@ -8,6 +8,7 @@ ghost use Rattle.cal_rowset.specs.Cells.{is_path, shown_values, values};
 ghost use Rattle.cal_rowset.specs.Filling.{Holds, Shows, names};
 ghost use Rattle.cal_rowset.specs.Hierarchy.{hierarchy as hierarchy_of};
 ghost use Rattle.cal_rowset.specs.Showing.{IsFor, IsPlaceOf, ShowsRow, nth_column};
+ghost use Rattle.cal_rowset.specs.Standing.{HoldsNothing};
 ghost use Rattle.cal_rowset.specs.Trails.{IsTrail};
 ghost use Rattle.cal_rowset.specs.declared.rowset.Column.{Column};
 
@@ -39,8 +40,7 @@ impl ShownRow {
     /// The cells of these columns, without a row.
     pub fn new(alloc: Global, columns: &[Column]) -> Result<Self, OutOfMemory>
         ensures for_columns { IfOk result (λ shown. IsFor shown columns.now) }
-        ensures empty { IfOk result (λ shown. IsTrail shown.cells [] × (shown.node.0 ≡ 0)
-            × (shown.depth ≡ 0)) }
+        ensures empty { IfOk result HoldsNothing }
     {
         let mut cells = Cells::new(alloc);
         let mut places = Vec::new(alloc);

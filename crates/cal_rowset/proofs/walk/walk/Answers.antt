@@ -1,4 +1,4 @@
-use Rattle.std.proofs.Common.{◌∙◌, arith}
+use Rattle.std.proofs.Common.{arith}
 use Rattle.cal_rowset.proofs.Walking.{noted-down, met-down}
 use Rattle.cal_rowset.proofs.walk.walk.Goals as goal
 

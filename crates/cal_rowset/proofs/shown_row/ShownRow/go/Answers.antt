@@ -1,4 +1,4 @@
-use Rattle.std.proofs.Common.{refl, ◌∙◌}
+use Rattle.std.proofs.Common.{refl}
 use Rattle.cal_rowset.specs.declared.shown_row.ShownRow.{ShownRow}
 use Rattle.cal_rowset.proofs.Standing.{filled-go}
 use Rattle.cal_rowset.proofs.shown_row.ShownRow.go.Goals as goal

@@ -1,4 +1,3 @@
-use Rattle.std.proofs.Common.{sym, subst}
 use Rattle.cal_context.specs.Tree.{path_at}
 use Rattle.cal_rowset.specs.Trails.{IsTrail}
 use Rattle.cal_tabfmt.proofs.snapshot_cells.SnapshotCells.go.Goals as goal
