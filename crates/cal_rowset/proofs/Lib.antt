@@ -2,5 +2,8 @@ pub mod Knowing
 pub mod Seen
 pub mod Showing
 pub mod Filling
+pub mod Trails
+pub mod Walking
 pub mod Placing
 pub mod Rooms
+pub mod Standing

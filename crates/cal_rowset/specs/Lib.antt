@@ -8,4 +8,6 @@ pub mod Showing
 pub mod Links
 pub mod Answers
 pub mod Numbers
+pub mod Trails
 pub mod Rooms
+pub mod Standing

@@ -3,7 +3,7 @@ use Rattle.std.specs.Prelude.{Bool, List, [], map}
 use Rattle.cal_context.specs.Snapshots.{meaning}
 use Rattle.cal_context.specs.Tree.{Tree}
 use Rattle.cal_context.specs.declared.snapshot.Snapshot.{Snapshot}
-use Rattle.cal_rowset.specs.Rooms.{KnowsAttributes}
+use Rattle.cal_rowset.specs.Standing.{StandsIn}
 use Rattle.cal_rowset.specs.declared.rowset.Column.{Column}
 use Rattle.cal_rowset.specs.declared.rowset.Rowset.{Rowset}
 use Rattle.cal_rowset.specs.declared.shown_row.ShownRow.{ShownRow}
@@ -24,6 +24,6 @@ answer_over t snapshots columns all = record {
 abbrev pub rowset_of : SnapshotRowset → Rowset
 rowset_of s = answer_over s.context s.rows.items s.columns s.all
 
--- the cells of a row know the attributes of an answer's context
-abbrev pub KnowsItsAttributes : SnapshotRowset → ShownRow → Type 0
-KnowsItsAttributes s shown = KnowsAttributes s.context shown
+-- the cells of a row stand in an answer's context
+abbrev pub IsReadyFor : SnapshotRowset → ShownRow → Type 0
+IsReadyFor s shown = StandsIn s.context shown

@@ -1,17 +1,20 @@
-ghost use Rattle.std.specs.Prelude.{◌≡◌, ℕ, ◌<◌, List, [], ◌∷◌, ◌++◌};
-ghost use Rattle.std.specs.Prelude.{length, slice_get, IfNone, IfOk, IfSome, OnOk, Some};
+ghost use Rattle.std.specs.Prelude.{◌≡◌, ℕ, ◌<◌, ◌≤◌, List, [], ◌∷◌, ◌++◌};
+ghost use Rattle.std.specs.Prelude.{length, slice_get, take, IfNone, IfOk, IfSome, OnOk, Some};
 ghost use Rattle.std.specs.List.{Contains};
 ghost use Rattle.cal_value.specs.declared.attribute.Entry.{Entry};
 ghost use Rattle.cal_context.specs.Lists.{Interns};
 ghost use Rattle.cal_rowset.specs.Filling.{AreCleared, Holds, cells, is_nothing, names};
 ghost use Rattle.cal_rowset.specs.Filling.{nth_cell, used, with_use};
+ghost use Rattle.cal_rowset.specs.Trails.{IsTrail, steps};
 
+use crate::step::{Step, step_at, undo_at, undo_use};
 use crate::{Cell, Names};
 use cal_value::{OutOfMemory, Text, Variant};
 use std::alloc::Global;
 
 /// The cells of one row, by the places of their names. Cleared and filled again, one serves for any
-/// number of rows, and each takes time in its entries alone. After an `Err` nothing is promised.
+/// number of rows, and each takes time in its entries alone. The last entries can be given up again,
+/// which takes time in their number. After an `Err` nothing is promised.
 #[derive(Drop)]
 pub struct Cells {
     alloc: Global,
@@ -19,6 +22,8 @@ pub struct Cells {
     cells: Vec<Cell>,
     // the places of the cells that aren't empty
     used: Vec<usize>,
+    // of each entry where its value went, and how that cell was before
+    steps: Vec<Step>,
 }
 
 impl Cells {
@@ -26,12 +31,14 @@ impl Cells {
     pub fn new(alloc: Global) -> Self
         ensures no_name { names result ≡ [] }
         ensures no_entry { Holds result [] }
+        ensures trail { IsTrail result [] }
     {
         Cells {
             alloc,
             names: Names::new(alloc),
             cells: Vec::new(alloc),
             used: Vec::new(alloc),
+            steps: Vec::new(alloc),
         }
     }
 
@@ -40,6 +47,7 @@ impl Cells {
         ensures learned { IfOk result (Interns (names self.old) name.now (names self.new)) }
         ensures holds { OnOk result ((entries : List Entry)
             → Holds self.old entries → Holds self.new entries) }
+        ensures trail { OnOk result (IsTrail self.old [] → IsTrail self.new []) }
     {
         let place = self.names.learn(name)?;
         if place == self.cells.len() {
@@ -54,11 +62,16 @@ impl Cells {
         ensures added { OnOk result ((entries : List Entry) (e : Entry) → Holds self.old entries
             → slice_get (names self.old) place ≡ Some e.attr.name → e.value ≡ value.now
             → Holds self.new (entries ++ e ∷ [])) }
+        ensures trail { OnOk result ((entries : List Entry) (e : Entry) → IsTrail self.old entries
+            → slice_get (names self.old) place ≡ Some e.attr.name → e.value ≡ value.now
+            → IsTrail self.new (entries ++ e ∷ [])) }
     {
         if place >= self.cells.len() {
             return Ok(());
         }
+        let step = step_at(place, &self.cells[place]);
         self.note_use(place)?;
+        self.steps.push(step)?;
         self.cells[place].push(value)
     }
 
@@ -67,6 +80,7 @@ impl Cells {
         requires { place < length self.old.cells.items }
         ensures cells { self.new.cells.items ≡ self.old.cells.items }
         ensures names { self.new.names ≡ self.old.names }
+        ensures steps { self.new.steps ≡ self.old.steps }
         ensures used { OnOk result (used self.new
             ≡ with_use (is_nothing (nth_cell (cells self.old) place).content)
             (used self.old) place) }
@@ -113,6 +127,41 @@ impl Cells {
     {
         clear_used(&mut self.cells, &self.used);
         self.used.clear();
+        self.steps.clear();
+    }
+
+    /// How many entries it holds.
+    pub fn count(&self) -> usize
+        ensures { (entries : List Entry) → IsTrail self.now entries → result ≡ length entries }
+    {
+        self.steps.len()
+    }
+
+    /// Gives up the last entries but for the first `count`.
+    pub fn keep(&mut self, count: usize)
+        ensures names { names self.new ≡ names self.old }
+        ensures kept { (entries : List Entry) → IsTrail self.old entries
+            → IsTrail self.new (take count entries) }
+    {
+        while self.steps.len() > count {
+            self.back();
+        }
+    }
+
+    /// Gives up the last entry.
+    pub fn back(&mut self)
+        ensures names { names self.new ≡ names self.old }
+        ensures fewer { length (steps self.new) ≤ length (steps self.old) }
+        ensures less { 0 < length (steps self.old)
+            → length (steps self.new) < length (steps self.old) }
+        ensures given { (entries : List Entry) (e : Entry) → IsTrail self.old (entries ++ e ∷ [])
+            → IsTrail self.new entries }
+    {
+        let Some(step) = self.steps.pop() else {
+            return;
+        };
+        undo_at(&mut self.cells, &step);
+        undo_use(&mut self.used, &step);
     }
 }
 

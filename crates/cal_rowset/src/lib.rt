@@ -18,6 +18,8 @@ mod rowset;
 mod shown_row;
 mod snapshot_row;
 mod snapshot_rowset;
+mod step;
+mod walk;
 
 pub use answer::Answer;
 pub use cell::{Cell, Content};

@@ -1,4 +1,4 @@
-ghost use Rattle.std.specs.Prelude.{◌≡◌, ◌<◌, List, length, slice_get, true, false};
+ghost use Rattle.std.specs.Prelude.{◌≡◌, ◌<◌, List, [], length, slice_get, true, false};
 ghost use Rattle.std.specs.Prelude.{is_none, IfOk, IsSomeAnd, MatchOption, OnOk, Some};
 ghost use Rattle.std.specs.List.{list_any};
 ghost use Rattle.cal_value.specs.declared.attribute.Entry.{Entry};
@@ -8,10 +8,12 @@ ghost use Rattle.cal_rowset.specs.Cells.{is_path, shown_values, values};
 ghost use Rattle.cal_rowset.specs.Filling.{Holds, Shows, names};
 ghost use Rattle.cal_rowset.specs.Hierarchy.{hierarchy as hierarchy_of};
 ghost use Rattle.cal_rowset.specs.Showing.{IsFor, IsPlaceOf, ShowsRow, nth_column};
+ghost use Rattle.cal_rowset.specs.Standing.{HoldsNothing};
+ghost use Rattle.cal_rowset.specs.Trails.{IsTrail};
 ghost use Rattle.cal_rowset.specs.declared.rowset.Column.{Column};
 
 use crate::{Cell, Cells, Column, is_path};
-use cal_context::Link;
+use cal_context::{Link, NodeNumber};
 use cal_value::{OutOfMemory, Rec, Text};
 use std::alloc::Global;
 
@@ -27,6 +29,9 @@ pub struct ShownRow {
     pub(crate) shows_path: bool,
     // of each attribute of a context the place of its name, where it has one
     pub(crate) attributes: Vec<Option<usize>>,
+    // the node of a context whose path the cells hold first, and how many entries that adds
+    pub(crate) node: NodeNumber,
+    pub(crate) depth: usize,
     // the links of one path
     pub(crate) links: Vec<Link>,
 }
@@ -34,7 +39,8 @@ pub struct ShownRow {
 impl ShownRow {
     /// The cells of these columns, without a row.
     pub fn new(alloc: Global, columns: &[Column]) -> Result<Self, OutOfMemory>
-        ensures { IfOk result (λ shown. IsFor shown columns.now) }
+        ensures for_columns { IfOk result (λ shown. IsFor shown columns.now) }
+        ensures empty { IfOk result HoldsNothing }
     {
         let mut cells = Cells::new(alloc);
         let mut places = Vec::new(alloc);
@@ -48,6 +54,8 @@ impl ShownRow {
             places,
             shows_path,
             attributes: Vec::new(alloc),
+            node: NodeNumber::ROOT,
+            depth: 0,
             links: Vec::new(alloc),
         })
     }
@@ -99,6 +107,7 @@ fn place_of(cells: &mut Cells, name: &Text) -> Result<Option<usize>, OutOfMemory
     ensures front { OnOk result (IsFront (names cells.old) (names cells.new)) }
     ensures holds { OnOk result ((entries : List Entry)
         → Holds cells.old entries → Holds cells.new entries) }
+    ensures trail { OnOk result (IsTrail cells.old [] → IsTrail cells.new []) }
 {
     if is_path(name) {
         return Ok(None);

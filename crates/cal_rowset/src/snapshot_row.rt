@@ -1,17 +1,21 @@
 ghost use Rattle.std.specs.Prelude.{◌≡◌, ◌<◌, List, [], ◌∷◌, ◌++◌, length, map, IfOk, OnOk};
 ghost use Rattle.std.specs.List.{All};
 ghost use Rattle.cal_value.specs.Flat.{joined};
+ghost use Rattle.cal_value.specs.declared.attribute.Entry.{Entry};
 ghost use Rattle.cal_value.specs.declared.variant.Variant as variants;
 ghost use Rattle.cal_context.specs.Snapshots.{IsIn, entry_of, meaning};
 ghost use Rattle.cal_context.specs.Tree.{attribute_at, path_at};
 ghost use Rattle.cal_rowset.specs.Cells.{values};
 ghost use Rattle.cal_rowset.specs.Filling.{Shows, names};
 ghost use Rattle.cal_rowset.specs.Links.{IsEntryOf, link_entry};
-ghost use Rattle.cal_rowset.specs.Rooms.{AddsEntries, AddsPath, KnowsAttributes, KnowsEach};
-ghost use Rattle.cal_rowset.specs.Rooms.{StandsAt, nested};
+ghost use Rattle.cal_rowset.specs.Rooms.{AddsEntries, AddsPath, IsAlike, KnowsAttributes};
+ghost use Rattle.cal_rowset.specs.Rooms.{IsNamedAt, KnowsEach, nested};
 ghost use Rattle.cal_rowset.specs.Showing.{IsFor, ShowsRow};
+ghost use Rattle.cal_rowset.specs.Standing.{IsFilledWith, StandsAt, StandsIn};
+ghost use Rattle.cal_rowset.specs.Trails.{IsTrail};
 ghost use Rattle.cal_rowset.specs.declared.rowset.Column as columns;
 
+use crate::walk::walk;
 use crate::{Cell, Cells, Column, ShownRow, find_links, is_of_hierarchy};
 use cal_context::{AttributeNumber, Context, Immediate, Link, NodeNumber, Snapshot};
 use cal_value::{Attribute, OutOfMemory, Variant};
@@ -26,32 +30,103 @@ impl ShownRow {
         context: &Context,
     ) -> Result<Self, OutOfMemory>
         ensures for_columns { IfOk result (λ shown. IsFor shown columns.now) }
-        ensures knows { IfOk result (λ shown. KnowsAttributes context.now shown) }
+        ensures stands { IfOk result (λ shown. StandsIn context.now shown) }
     {
+        context.has_each_once();
         let mut shown = ShownRow::new(alloc, columns)?;
         shown.attributes = attribute_places(alloc, context, &shown.cells)?;
         Ok(shown)
     }
 
-    /// Shows the record that a snapshot means, in place of the row before.
+    /// Shows the record that a snapshot means, in place of the row before, and keeps what the paths
+    /// of their first nodes have in common.
     pub(crate) fn fill_snapshot(
         &mut self,
         context: &Context,
         snapshot: &Snapshot,
     ) -> Result<(), OutOfMemory>
         requires within { IsIn context.now snapshot.now }
-        requires knows { KnowsAttributes context.now self.old }
-        ensures knows { OnOk result (KnowsAttributes context.now self.new) }
+        requires stands { StandsIn context.now self.old }
+        ensures stands { OnOk result (StandsIn context.now self.new) }
         ensures shows { OnOk result ((columns : List columns.Column) → IsFor self.old columns
             → ShowsRow self.new columns (meaning context.now snapshot.now)) }
     {
-        self.cells.clear();
-        self.hierarchy.clear();
-        self.add_nodes(context, &snapshot.nodes)?;
+        self.begin(context);
+        self.add_paths(context, &snapshot.nodes)?;
         self.add_immediates(context, &snapshot.imms)
     }
 
+    // gives up all but the path of the first node, and that too if the hierarchy is shown
+    fn begin(&mut self, context: &Context)
+        requires { StandsIn context.now self.old }
+        ensures alike { IsAlike self.old self.new }
+        ensures stands { StandsAt context.now self.new }
+    {
+        context.has_each_once();
+        self.hierarchy.clear();
+        if self.shows_path {
+            self.leave();
+        } else {
+            self.cells.keep(self.depth);
+        }
+    }
+
+    // gives up all
+    fn leave(&mut self)
+        ensures alike { IsAlike self.old self.new }
+        ensures hierarchy { self.new.hierarchy ≡ self.old.hierarchy }
+        ensures node { self.new.node.0 ≡ 0 }
+        ensures depth { self.new.depth ≡ 0 }
+        ensures trail { (entries : List Entry) → IsTrail self.old.cells entries
+            → IsTrail self.new.cells [] }
+    {
+        self.cells.keep(0);
+        self.node = NodeNumber::ROOT;
+        self.depth = 0;
+    }
+
     // adds the paths of nodes
+    fn add_paths(&mut self, context: &Context, nodes: &[NodeNumber]) -> Result<(), OutOfMemory>
+        requires nodes { All (λ n. n.0 < length context.now.paths) nodes.now }
+        requires stands { StandsAt context.now self.old }
+        ensures alike { OnOk result (IsAlike self.old self.new) }
+        ensures filled { OnOk result (IsFilledWith context.now self.new
+            (joined (map (path_at context.now) nodes.now))) }
+    {
+        context.has_each_once();
+        match nodes.split_first() {
+            Some((first, others)) => {
+                self.go(context, *first)?;
+                self.add_nodes(context, others)
+            }
+            None => self.go(context, NodeNumber::ROOT),
+        }
+    }
+
+    // adds the path of a node, and keeps what it has in common with the one before
+    fn go(&mut self, context: &Context, node: NodeNumber) -> Result<(), OutOfMemory>
+        requires node { node.0 < length context.now.paths }
+        requires stands { StandsAt context.now self.old }
+        ensures alike { OnOk result (IsAlike self.old self.new) }
+        ensures filled { OnOk result (IsFilledWith context.now self.new
+            (path_at context.now node)) }
+    {
+        context.has_each_once();
+        walk(
+            context,
+            &mut self.cells,
+            &self.attributes,
+            self.node,
+            node,
+            &mut self.links,
+        )?;
+        self.add_links(context)?;
+        self.node = node;
+        self.depth = self.cells.count();
+        Ok(())
+    }
+
+    // adds the paths of further nodes
     fn add_nodes(&mut self, context: &Context, nodes: &[NodeNumber]) -> Result<(), OutOfMemory>
         requires { All (λ n. n.0 < length context.now.paths) nodes.now }
         ensures { OnOk result (AddsPath context.now self.old self.new
@@ -128,7 +203,7 @@ impl ShownRow {
     fn place_of(&self, context: &Context, attribute: AttributeNumber) -> Option<usize>
         requires { attribute.0 < length context.now.attributes }
         ensures { KnowsAttributes context.now self.now
-            → StandsAt (names self.now.cells) (attribute_at context.now attribute).name result }
+            → IsNamedAt (names self.now.cells) (attribute_at context.now attribute).name result }
     {
         *self.attributes.as_slice().get(attribute.0 as usize)?
     }
@@ -168,7 +243,7 @@ fn attribute_place(
     cells: &Cells,
 ) -> Result<Option<usize>, OutOfMemory>
     requires { number < length context.now.attributes }
-    ensures { IfOk result (λ place. StandsAt (names cells.now)
+    ensures { IfOk result (λ place. IsNamedAt (names cells.now)
         (attribute_at context.now (record { 0 = number })).name place) }
 {
     let Ok(number) = u32::try_from(number) else {

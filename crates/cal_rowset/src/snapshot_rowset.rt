@@ -36,11 +36,11 @@ impl SnapshotRowset {
 }
 
 impl Answer for SnapshotRowset {
-    ghost use Rattle.cal_rowset.specs.Numbers.{KnowsItsAttributes, rowset_of};
+    ghost use Rattle.cal_rowset.specs.Numbers.{IsReadyFor, rowset_of};
 
     ghost answer = { rowset_of };
 
-    ghost is_ready = { KnowsItsAttributes };
+    ghost is_ready = { IsReadyFor };
 
     fn columns(&self) -> &[Column] {
         self.columns.as_slice()

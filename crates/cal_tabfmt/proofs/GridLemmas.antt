@@ -1,11 +1,10 @@
--- One line more, one text more, one column more.
-use Rattle.std.proofs.Common.{◌≡◌, ℕ, zero, suc, ◌+◌, ◌<◌, ◌≤◌, Bool, List, [], ◌∷◌, ◌++◌, length, get_or, take, map, max, refl, sym, ap, ap₂, ◌∙◌, append-nil, add-one, arith}
-use Rattle.std.specs.List.{flat_map, join_with_byte}
-use Rattle.std.proofs.lemmas.Grind.{flat_map-append}
+-- One text more, one column more.
+use Rattle.std.proofs.Common.{◌≡◌, ℕ, zero, suc, ◌+◌, ◌<◌, ◌≤◌, Bool, List, [], ◌∷◌, ◌++◌, length, get_or, take, map, max, refl, sym, ap, ap₂, ◌∙◌, add-one, arith}
+use Rattle.std.specs.List.{join_with_byte}
 use Rattle.std.proofs.lemmas.List.{length-take-le, map-append, take_more}
 use Rattle.cal_rowset.proofs.Showing.{join-push}
 use Rattle.cal_tabfmt.specs.Ends.{front_of_line, gap}
-use Rattle.cal_tabfmt.specs.Grid.{grid_line, nth_text, placed, placed_texts, shape, shapes, widest, width}
+use Rattle.cal_tabfmt.specs.Grid.{nth_text, placed, placed_texts, shape, shapes, widest, width}
 use Rattle.cal_tabfmt.specs.declared.shape.Shape.{Shape}
 
 -- one text more
@@ -44,15 +43,6 @@ shapes-next lines rights i made wide right d within so_far is same =
     ap₂ (λ (front : List Shape) (last : Shape). front ++ last ∷ []) so_far
     (ap₂ (λ (w : ℕ) (r : Bool). record { width = w; right = r }) is same)
     ∙ sym (shapes-more lines rights i within d)
-
--- one line more
-pub lines-more : (columns : List Shape) (lines : List (List (List ℕ))) (i : ℕ) (line : List (List ℕ)) → i < length lines → line ≡ get_or lines i line
-    → flat_map (grid_line columns) (take i lines) ++ grid_line columns line ≡ flat_map (grid_line columns) (take (i + 1) lines)
-lines-more columns lines i line within is =
-    ap (λ (t : List ℕ). flat_map (grid_line columns) (take i lines) ++ t) (sym (append-nil (grid_line columns line)))
-    ∙ sym (flat_map-append (grid_line columns) (take i lines) (line ∷ []))
-    ∙ ap (λ (l : List (List ℕ)). flat_map (grid_line columns) (take i lines ++ l ∷ [])) is
-    ∙ ap (flat_map (grid_line columns)) (sym (take_more lines i line within))
 
 -- one text more of a line
 placed-push : (columns : List Shape) (texts : List (List ℕ)) (k : ℕ) (s : Shape) (t : List ℕ) → k < length columns → k < length texts → s ≡ get_or columns k s → t ≡ get_or texts k t

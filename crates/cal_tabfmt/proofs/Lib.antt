@@ -5,7 +5,5 @@ pub mod LinesMore
 pub mod EndLemmas
 pub mod GridLemmas
 pub mod TableLemmas
-pub mod TrailLemmas
 pub mod StandLemmas
-pub mod WalkLemmas
 pub mod NewlineSteps

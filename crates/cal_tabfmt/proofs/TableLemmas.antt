@@ -102,16 +102,6 @@ headers-more columns k column before line text within is so_far same =
     ∙ ap (λ (c : Column). map shown (take k columns ++ c ∷ [])) is
     ∙ ap (map shown) (sym (take_more columns k column within)))
 
--- a line with one cell more
-pub cells-more : (row : Rec) (columns : List Column) (k : ℕ) (before line : List (List ℕ)) (text : List ℕ) → k < length columns
-    → line ≡ before ++ row_line (take k columns) row → text ≡ cell_text row (nth_column columns k) → line ++ text ∷ [] ≡ before ++ row_line (take (k + 1) columns) row
-cells-more row columns k before line text within so_far same =
-    ap₂ (λ (l : List (List ℕ)) (t : List ℕ). l ++ t ∷ []) so_far same
-    ∙ append_assoc before (row_line (take k columns) row) (cell_text row (nth_column columns k) ∷ [])
-    ∙ ap (λ (rest : List (List ℕ)). before ++ rest)
-    (sym (map-append (cell_text row) (take k columns) (nth_column columns k ∷ []))
-    ∙ ap (map (cell_text row)) (sym (take_more columns k (record { header = []; name = [] }) within)))
-
 -- the text of a row in a column
 pub row_line-at : (row : Rec) (columns : List Column) (k : ℕ) (text : List ℕ) → k < length columns → text ≡ cell_text row (nth_column columns k) → text ≡ get_or (row_line columns row) k text
 row_line-at row columns k text within is = is ∙ sym (get_or-map (cell_text row) columns k (record { header = []; name = [] }) text within)

@@ -5,6 +5,5 @@ pub mod Parts
 pub mod Snapshots
 pub mod Table
 pub mod Tables
-pub mod Trails
 pub mod Writer
 pub mod WriterGrows

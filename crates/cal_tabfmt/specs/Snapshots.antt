@@ -5,7 +5,8 @@ use Rattle.cal_value.specs.declared.attribute.Entry.{Entry}
 use Rattle.cal_context.specs.Tree.{Tree, attribute_at, path_at}
 use Rattle.cal_context.specs.declared.numbers.AttributeNumber.{AttributeNumber}
 use Rattle.cal_context.specs.declared.numbers.NodeNumber.{NodeNumber}
-use Rattle.cal_tabfmt.specs.Trails.{IsTrail}
+use Rattle.cal_rowset.specs.Filling.{names}
+use Rattle.cal_rowset.specs.Trails.{IsTrail}
 use Rattle.cal_tabfmt.specs.declared.snapshot_cells.SnapshotCells.{SnapshotCells}
 
 -- of the first attributes it is known at which place their names stand
@@ -31,12 +32,12 @@ path_to t n = path_numbered t n.0
 pub record StandAt (t : Tree) (s : SnapshotCells) : Type 0 where
   pub trail : IsTrail s.trail (path_at t s.node)
   pub depth : s.depth ≡ length (path_at t s.node)
-  pub places : KnowsPlaces t s.trail.names s.places.items
+  pub places : KnowsPlaces t (names s.trail) s.places.items
 
 -- the same, and they know all
 pub record StandKnowing (t : Tree) (s : SnapshotCells) : Type 0 where
   pub stand : StandAt t s
-  pub places : KnowsAll t s.trail.names s.places.items
+  pub places : KnowsAll t (names s.trail) s.places.items
 
 -- Cells that hold the path of a node and then some entries, and know some attributes.
 pub record AreReady (t : Tree) (s : SnapshotCells) : Type 0 where
@@ -44,7 +45,7 @@ pub record AreReady (t : Tree) (s : SnapshotCells) : Type 0 where
   pub more : List Entry
   pub trail : IsTrail s.trail (path_to t s.node ++ more)
   pub depth : s.depth ≡ length (path_to t s.node)
-  pub places : KnowsPlaces t s.trail.names s.places.items
+  pub places : KnowsPlaces t (names s.trail) s.places.items
 
 -- Cells that hold these entries of a snapshot, the path of a node first, and know all attributes.
 pub record AreFilled (t : Tree) (s : SnapshotCells) (entries : List Entry) : Type 0 where
@@ -53,4 +54,4 @@ pub record AreFilled (t : Tree) (s : SnapshotCells) (entries : List Entry) : Typ
   pub front : entries ≡ path_to t s.node ++ more
   pub trail : IsTrail s.trail entries
   pub depth : s.depth ≡ length (path_to t s.node)
-  pub places : KnowsAll t s.trail.names s.places.items
+  pub places : KnowsAll t (names s.trail) s.places.items

@@ -7,7 +7,7 @@ use Rattle.cal_value.specs.declared.attribute.Attribute.{Attribute}
 use Rattle.cal_value.specs.declared.record.Rec.{Rec}
 use Rattle.cal_value.specs.declared.attribute.Entry.{Entry}
 use Rattle.cal_tabfmt.specs.Snapshots.{AreReady, KnowsPlaces, path_numbered}
-use Rattle.cal_tabfmt.specs.Trails.{IsTrail}
+use Rattle.cal_rowset.specs.Trails.{IsTrail}
 use Rattle.cal_tabfmt.specs.Writer.{HasTaken}
 use Rattle.cal_tabfmt.specs.declared.snapshot_cells.SnapshotCells.{SnapshotCells}
 use Rattle.cal_tabfmt.specs.declared.writer.ExpandWriter.{ExpandWriter}

@@ -26,7 +26,19 @@ pub(crate) fn added(pending: usize, more: usize) -> Result<usize, OutOfMemory>
     pending.checked_add(more).ok_or(OutOfMemory)
 }
 
+// Most lines have many spaces, so that sixteen are written at once.
 fn append_spaces(out: &mut Text, count: usize) -> Result<(), OutOfMemory>
+    ensures { OnOk result (out.new ≡ out.old ++ spaces count) }
+{
+    let mut left = count;
+    while left >= 16 {
+        out.push_str("                ")?;
+        left -= 16;
+    }
+    append_last_spaces(out, left)
+}
+
+fn append_last_spaces(out: &mut Text, count: usize) -> Result<(), OutOfMemory>
     ensures { OnOk result (out.new ≡ out.old ++ spaces count) }
 {
     for _ in 0..count {

@@ -1,27 +1,13 @@
 ghost use Rattle.std.specs.Prelude.{◌≡◌, ◌+◌, ◌<◌, ◌++◌, List, ℕ, length, slice_index_or};
 ghost use Rattle.std.specs.Prelude.{IfOk, OnOk};
 ghost use Rattle.cal_tabfmt.specs.Ends.{HasLine, front_of_line, gap};
-ghost use Rattle.cal_tabfmt.specs.Grid.{grid, grid_line, placed};
+ghost use Rattle.cal_tabfmt.specs.Grid.{grid_line, placed};
 
 use crate::ends::{added, append_text};
-use crate::shape::{Shape, shapes, width};
-use cal_value::{OutOfMemory, Seq, Text};
-use std::alloc::Global;
+use crate::shape::{Shape, width};
+use cal_value::{OutOfMemory, Text};
 
-/// Lines of texts in columns, of which each is right-aligned or left-aligned and as wide as its
-/// widest text. The texts hold no newline. It takes time in the texts and in what is written.
-pub fn grid_text(alloc: Global, rights: &[bool], lines: &[Seq<Text>]) -> Result<Text, OutOfMemory>
-    ensures { IfOk result (λ text. text ≡ grid rights.now lines.now) }
-{
-    let shapes = shapes(alloc, rights, lines)?;
-    let mut out = Text::new(alloc);
-    for line in lines {
-        append_line(&mut out, &shapes, line.as_slice())?;
-    }
-    Ok(out)
-}
-
-/// Appends a line.
+/// Appends a line of texts in columns, of which none holds a newline.
 pub fn append_line(out: &mut Text, shapes: &[Shape], texts: &[Text]) -> Result<(), OutOfMemory>
     ensures { OnOk result (out.new ≡ out.old ++ grid_line shapes.now texts.now) }
 {

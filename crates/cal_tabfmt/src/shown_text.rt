@@ -6,7 +6,7 @@ use cal_value::{OutOfMemory, Text};
 use std::alloc::Global;
 
 /// A text as a line shows it: a newline is a backslash and `n`.
-pub fn on_line(alloc: Global, text: &str) -> Result<Text, OutOfMemory>
+pub(crate) fn on_line(alloc: Global, text: &str) -> Result<Text, OutOfMemory>
     ensures { IfOk result (λ shown. shown ≡ on_line text.now) }
 {
     let bytes = text.as_bytes();

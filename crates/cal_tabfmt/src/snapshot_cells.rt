@@ -4,15 +4,15 @@ ghost use Rattle.cal_value.specs.Flat.{flat, joined};
 ghost use Rattle.cal_value.specs.declared.attribute.Entry.{Entry};
 ghost use Rattle.cal_context.specs.Snapshots.{IsIn, entry_of, meaning};
 ghost use Rattle.cal_context.specs.Tree.{Tree, path_at};
+ghost use Rattle.cal_rowset.specs.Filling.{names};
 ghost use Rattle.cal_rowset.specs.Links.{IsEntryOf, link_entry};
+ghost use Rattle.cal_rowset.specs.Trails.{IsTrail};
 ghost use Rattle.cal_tabfmt.specs.Snapshots.{AreFilled, AreReady, KnowsAll, KnowsPlaces};
 ghost use Rattle.cal_tabfmt.specs.Snapshots.{StandAt, StandKnowing};
-ghost use Rattle.cal_tabfmt.specs.Trails.{IsTrail};
 
-use crate::trail::Trail;
 use crate::walk::walk;
 use cal_context::{AttributeNumber, Context, Immediate, Link, NodeNumber, Snapshot};
-use cal_rowset::find_links;
+use cal_rowset::{Cells, find_links};
 use cal_value::{OutOfMemory, Variant};
 use std::alloc::Global;
 
@@ -20,7 +20,7 @@ use std::alloc::Global;
 /// first node first, and of this the next record keeps what it has in common.
 #[derive(Drop)]
 pub(crate) struct SnapshotCells {
-    pub(crate) trail: Trail,
+    pub(crate) trail: Cells,
     // of each attribute the place of its name
     places: Vec<usize>,
     // the node whose path the trail holds first, and how long that is
@@ -35,7 +35,7 @@ impl SnapshotCells {
         ensures { (t : Tree) → AreReady t result }
     {
         SnapshotCells {
-            trail: Trail::new(alloc),
+            trail: Cells::new(alloc),
             places: Vec::new(alloc),
             node: NodeNumber::ROOT,
             depth: 0,
@@ -73,7 +73,7 @@ impl SnapshotCells {
         ensures node { self.new.node.0 ≡ 0 }
         ensures depth { self.new.depth ≡ 0 }
         ensures places { self.new.places ≡ self.old.places }
-        ensures names { self.new.trail.names ≡ self.old.trail.names }
+        ensures names { names self.new.trail ≡ names self.old.trail }
         ensures trail { (entries : List Entry) → IsTrail self.old.trail entries
             → IsTrail self.new.trail [] }
     {
@@ -135,7 +135,7 @@ impl SnapshotCells {
         walk(context, &mut self.trail, self.node, node, &mut self.links)?;
         add_links(&mut self.trail, &self.places, context, &self.links)?;
         self.node = node;
-        self.depth = self.trail.len();
+        self.depth = self.trail.count();
         Ok(())
     }
 }
@@ -143,12 +143,12 @@ impl SnapshotCells {
 // learns the names of the attributes behind those whose places are known
 fn learn_attributes(
     context: &Context,
-    trail: &mut Trail,
+    trail: &mut Cells,
     places: &mut Vec<usize>,
 ) -> Result<(), OutOfMemory>
     ensures holds { OnOk result (IsTrail trail.old [] → IsTrail trail.new []) }
-    ensures knows { OnOk result (KnowsPlaces context.now trail.old.names places.old.items
-        → KnowsAll context.now trail.new.names places.new.items) }
+    ensures knows { OnOk result (KnowsPlaces context.now (names trail.old) places.old.items
+        → KnowsAll context.now (names trail.new) places.new.items) }
 {
     for number in places.len()..context.attribute_count() {
         learn_attribute(context, number, trail, places)?;
@@ -160,15 +160,15 @@ fn learn_attributes(
 fn learn_attribute(
     context: &Context,
     number: usize,
-    trail: &mut Trail,
+    trail: &mut Cells,
     places: &mut Vec<usize>,
 ) -> Result<(), OutOfMemory>
     requires { number < length context.now.attributes }
     ensures counted { OnOk result (length places.new.items ≡ length places.old.items + 1) }
     ensures holds { OnOk result (IsTrail trail.old [] → IsTrail trail.new []) }
     ensures knows { OnOk result (length places.old.items ≡ number
-        → KnowsPlaces context.now trail.old.names places.old.items
-        → KnowsPlaces context.now trail.new.names places.new.items) }
+        → KnowsPlaces context.now (names trail.old) places.old.items
+        → KnowsPlaces context.now (names trail.new) places.new.items) }
 {
     let Ok(number) = u32::try_from(number) else {
         return Err(OutOfMemory);
@@ -180,16 +180,16 @@ fn learn_attribute(
 }
 
 fn add_nodes(
-    trail: &mut Trail,
+    trail: &mut Cells,
     places: &[usize],
     context: &Context,
     nodes: &[NodeNumber],
     links: &mut Vec<Link>,
 ) -> Result<(), OutOfMemory>
     requires { All (λ n. n.0 < length context.now.paths) nodes.now }
-    ensures names { trail.new.names ≡ trail.old.names }
+    ensures names { names trail.new ≡ names trail.old }
     ensures added { OnOk result ((entries : List Entry)
-        → KnowsAll context.now trail.old.names places.now → IsTrail trail.old entries
+        → KnowsAll context.now (names trail.old) places.now → IsTrail trail.old entries
         → IsTrail trail.new (entries ++ joined (map (path_at context.now) nodes.now))) }
 {
     for node in nodes {
@@ -200,15 +200,15 @@ fn add_nodes(
 }
 
 fn add_links(
-    trail: &mut Trail,
+    trail: &mut Cells,
     places: &[usize],
     context: &Context,
     links: &[Link],
 ) -> Result<(), OutOfMemory>
     requires { All (IsEntryOf context.now) links.now }
-    ensures names { trail.new.names ≡ trail.old.names }
+    ensures names { names trail.new ≡ names trail.old }
     ensures added { OnOk result ((entries : List Entry)
-        → KnowsAll context.now trail.old.names places.now → IsTrail trail.old entries
+        → KnowsAll context.now (names trail.old) places.now → IsTrail trail.old entries
         → IsTrail trail.new (entries ++ map (link_entry context.now) links.now)) }
 {
     for link in links {
@@ -219,15 +219,15 @@ fn add_links(
 }
 
 fn add_immediates(
-    trail: &mut Trail,
+    trail: &mut Cells,
     places: &[usize],
     context: &Context,
     imms: &[Immediate],
 ) -> Result<(), OutOfMemory>
     requires { All (λ i. i.attribute.0 < length context.now.attributes) imms.now }
-    ensures names { trail.new.names ≡ trail.old.names }
+    ensures names { names trail.new ≡ names trail.old }
     ensures added { OnOk result ((entries : List Entry)
-        → KnowsAll context.now trail.old.names places.now → IsTrail trail.old entries
+        → KnowsAll context.now (names trail.old) places.now → IsTrail trail.old entries
         → IsTrail trail.new (entries ++ map (entry_of context.now) imms.now)) }
 {
     for imm in imms {
@@ -237,16 +237,16 @@ fn add_immediates(
 }
 
 fn add_entry(
-    trail: &mut Trail,
+    trail: &mut Cells,
     places: &[usize],
     context: &Context,
     attribute: AttributeNumber,
     value: &Variant,
 ) -> Result<(), OutOfMemory>
     requires { attribute.0 < length context.now.attributes }
-    ensures names { trail.new.names ≡ trail.old.names }
+    ensures names { names trail.new ≡ names trail.old }
     ensures added { OnOk result ((entries : List Entry)
-        → KnowsAll context.now trail.old.names places.now → IsTrail trail.old entries → IsTrail trail.new
+        → KnowsAll context.now (names trail.old) places.now → IsTrail trail.old entries → IsTrail trail.new
         (entries ++ entry_of context.now
         (record { attribute = attribute; value = value.now }) ∷ [])) }
 {

@@ -1,11 +1,11 @@
 ghost use Rattle.std.specs.Prelude.{◌≡◌, ℕ, ◌+◌, ◌<◌, ◌++◌, List, length, slice_index_or};
 ghost use Rattle.std.specs.Prelude.{IfOk, OnOk};
 ghost use Rattle.cal_value.specs.declared.record.Rec.{Rec};
-ghost use Rattle.cal_rowset.specs.Showing.{ShowsRow, nth_column};
+ghost use Rattle.cal_rowset.specs.Showing.{ShowsRow};
 ghost use Rattle.cal_rowset.specs.declared.rowset.Column as columns;
 ghost use Rattle.cal_tabfmt.specs.Ends.{HasLine, front_of_line};
 ghost use Rattle.cal_tabfmt.specs.Grid.{grid_line, on_line as on_line_of};
-ghost use Rattle.cal_tabfmt.specs.Table.{cell_text, header_line, row_line};
+ghost use Rattle.cal_tabfmt.specs.Table.{header_line, row_line};
 
 use crate::grid::append_column;
 use crate::shape::Shape;
@@ -26,36 +26,6 @@ pub fn push_headers(
         line.push(on_line(alloc, column.header.as_str())?)?;
     }
     Ok(())
-}
-
-/// Adds to a line the texts of the cells of a row, which is shown in so many columns. An `Err` may
-/// leave a part of them.
-pub fn push_cells(
-    alloc: Global,
-    line: &mut Seq<Text>,
-    count: usize,
-    shown: &ShownRow,
-) -> Result<(), OutOfMemory>
-    ensures { OnOk result ((columns : List columns.Column) (row : Rec)
-        → ShowsRow shown.now columns row → count ≡ length columns
-        → line.new ≡ line.old ++ row_line columns row) }
-{
-    for place in 0..count {
-        line.push(cell_text(alloc, place, shown)?)?;
-    }
-    Ok(())
-}
-
-/// The text of the cell in a column.
-fn cell_text(alloc: Global, place: usize, shown: &ShownRow) -> Result<Text, OutOfMemory>
-    ensures { IfOk result (λ text. (columns : List columns.Column) (row : Rec)
-        → ShowsRow shown.now columns row → place < length columns
-        → text ≡ cell_text row (nth_column columns place)) }
-{
-    match shown.cell(place) {
-        Some(cell) => on_line(alloc, cell.text.as_str()),
-        None => Ok(Text::new(alloc)),
-    }
 }
 
 /// Appends the line of a row, which is shown in so many columns.

@@ -2,25 +2,26 @@ ghost use Rattle.std.specs.Prelude.{◌≡◌, ◌<◌, [], ◌∷◌, ◌++◌,
 ghost use Rattle.std.specs.List.{All};
 ghost use Rattle.cal_context.specs.Tree.{path_at};
 ghost use Rattle.cal_context.specs.declared.numbers.Link.{Link};
+ghost use Rattle.cal_rowset.specs.Filling.{names};
 ghost use Rattle.cal_rowset.specs.Links.{IsEntryOf, link_entry};
-ghost use Rattle.cal_tabfmt.specs.Trails.{IsTrail};
+ghost use Rattle.cal_rowset.specs.Trails.{IsTrail};
 
-use crate::trail::Trail;
 use cal_context::{Context, Link, NodeNumber};
+use cal_rowset::Cells;
 use cal_value::OutOfMemory;
 
 /// Leads a trail that holds the path of a node up to a node above another one, and answers where it
 /// ends. `links` has then the links from there down, in place of what it had.
 pub(crate) fn walk(
     context: &Context,
-    trail: &mut Trail,
+    trail: &mut Cells,
     from: NodeNumber,
     to: NodeNumber,
     links: &mut Vec<Link>,
 ) -> Result<NodeNumber, OutOfMemory>
     requires from { from.0 < length context.now.paths }
     requires to { to.0 < length context.now.paths }
-    ensures names { trail.new.names ≡ trail.old.names }
+    ensures names { names trail.new ≡ names trail.old }
     ensures within { IfOk result (λ node. node.0 < length context.now.paths) }
     ensures up { IfOk result (λ node. IsTrail trail.old (path_at context.now from)
         → IsTrail trail.new (path_at context.now node)) }
@@ -43,10 +44,10 @@ pub(crate) fn walk(
 }
 
 // leads a trail from the path of a node to that of its parent
-fn up(context: &Context, trail: &mut Trail, node: NodeNumber) -> NodeNumber
+fn up(context: &Context, trail: &mut Cells, node: NodeNumber) -> NodeNumber
     requires below { 0 < node.0 }
     requires within { node.0 < length context.now.paths }
-    ensures names { trail.new.names ≡ trail.old.names }
+    ensures names { names trail.new ≡ names trail.old }
     ensures less { result.0 < node.0 }
     ensures up { IsTrail trail.old (path_at context.now node)
         → IsTrail trail.new (path_at context.now result) }

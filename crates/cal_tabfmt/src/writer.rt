@@ -5,17 +5,15 @@ ghost use Rattle.cal_value.specs.declared.record.Rec.{Rec};
 ghost use Rattle.cal_context.specs.Snapshots.{IsIn, meaning};
 ghost use Rattle.cal_context.specs.Taking.{TakesMore};
 ghost use Rattle.cal_context.specs.Tree.{Tree};
-ghost use Rattle.cal_rowset.specs.Filling.{nth_name};
+ghost use Rattle.cal_rowset.specs.Filling.{Holds, names, nth_name};
 ghost use Rattle.cal_tabfmt.specs.Expand.{expand_line, expand_lines, own_column, part_of};
 ghost use Rattle.cal_tabfmt.specs.Parts.{HasParts};
-ghost use Rattle.cal_tabfmt.specs.Trails.{HoldsRow};
 
 use crate::hierarchy_cell::HierarchyCell;
 use crate::part::append_part;
 use crate::snapshot_cells::SnapshotCells;
-use crate::trail::Trail;
 use cal_context::{Context, Snapshot, Taker};
-use cal_rowset::is_path;
+use cal_rowset::{Cells, is_path};
 use cal_value::{OutOfMemory, Text};
 use std::alloc::Global;
 
@@ -81,17 +79,17 @@ impl Taker for ExpandWriter {
 /// Appends the line of a snapshot's record, whose entries a trail holds.
 fn append_line(
     out: &mut Text,
-    trail: &Trail,
+    trail: &Cells,
     hierarchy: &mut HierarchyCell,
     context: &Context,
     snapshot: &Snapshot,
 ) -> Result<(), OutOfMemory>
     requires { IsIn context.now snapshot.now }
-    ensures { OnOk result (HoldsRow trail.now (flat (meaning context.now snapshot.now))
+    ensures { OnOk result (Holds trail.now (flat (meaning context.now snapshot.now))
         → out.new ≡ out.old ++ (expand_line None (meaning context.now snapshot.now) ++ 10 ∷ [])) }
 {
     let mut is_first = true;
-    for place in trail.used.as_slice() {
+    for place in trail.used() {
         is_first = append_place(out, is_first, trail, *place, hierarchy, context, snapshot)?;
     }
     out.push_str("\n")
@@ -101,7 +99,7 @@ fn append_line(
 fn append_place(
     out: &mut Text,
     is_first: bool,
-    trail: &Trail,
+    trail: &Cells,
     place: usize,
     hierarchy: &mut HierarchyCell,
     context: &Context,
@@ -109,20 +107,20 @@ fn append_place(
 ) -> Result<bool, OutOfMemory>
     requires { IsIn context.now snapshot.now }
     ensures { IfOk result (λ first. (before : List ℕ) (parts : List (List ℕ))
-        → HoldsRow trail.now (flat (meaning context.now snapshot.now))
-        → place < length trail.now.names
+        → Holds trail.now (flat (meaning context.now snapshot.now))
+        → place < length (names trail.now)
         → HasParts before out.old is_first parts → HasParts before out.new first
         (parts ++ option_to_list (part_of (meaning context.now snapshot.now)
-        (own_column (nth_name trail.now.names place))))) }
+        (own_column (nth_name (names trail.now) place))))) }
 {
-    let Some(name) = trail.names.as_slice().get(place) else {
+    let Some(name) = trail.names().get(place) else {
         return Ok(is_first);
     };
     if is_path(name) {
         hierarchy.show(context, snapshot)?;
         return append_part(out, is_first, name, &hierarchy.cell);
     }
-    match trail.cells.as_slice().get(place) {
+    match trail.cells().get(place) {
         Some(cell) => append_part(out, is_first, name, cell),
         None => Ok(is_first),
     }

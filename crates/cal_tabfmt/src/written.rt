@@ -30,5 +30,5 @@ fn is_plain(text: &str) -> bool
 fn is_special(byte: u8) -> bool
     ensures { result ≡ false → escaped_byte byte ≡ byte ∷ [] }
 {
-    byte == b'\n' || byte == b'\\' || byte == b',' || byte == b'='
+    (byte == b'\n') | (byte == b'\\') | (byte == b',') | (byte == b'=')
 }

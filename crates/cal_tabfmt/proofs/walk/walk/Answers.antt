@@ -1,5 +1,5 @@
-use Rattle.std.proofs.Common.{◌∙◌, arith}
-use Rattle.cal_tabfmt.proofs.WalkLemmas.{noted-down, met-down}
+use Rattle.std.proofs.Common.{arith}
+use Rattle.cal_rowset.proofs.Walking.{noted-down, met-down}
 use Rattle.cal_tabfmt.proofs.walk.walk.Goals as goal
 
 pub loop-node-preserved : goal.loop-node-preserved

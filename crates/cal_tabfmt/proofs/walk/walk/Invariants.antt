@@ -1,13 +1,14 @@
 use Rattle.std.proofs.Common.{◌≡◌, ◌+◌, ◌<◌, ◌++◌, length, reverse, map, All}
 use Rattle.cal_context.specs.Tree.{path_at}
+use Rattle.cal_rowset.specs.Filling.{names}
 use Rattle.cal_rowset.specs.Links.{IsEntryOf, link_entry}
-use Rattle.cal_tabfmt.specs.Trails.{IsTrail}
+use Rattle.cal_rowset.specs.Trails.{IsTrail}
 use Rattle.cal_tabfmt.proofs.walk.walk.Given as goal
 
 -- the node that the trail has come up to, and the links noted so far, from the goal up
 abbrev pub invariant-loop-node : goal.invariant-loop-node
 invariant-loop-node l = record {
-  same : l.trail.names ≡ l.fn.trail.names;
+  same : names l.trail ≡ names l.fn.trail;
   node_within : l.node.0 < length l.context.paths;
   below_within : l.below.0 < length l.context.paths;
   up : IsTrail l.fn.trail (path_at l.context l.fn.from) → IsTrail l.trail (path_at l.context l.node);

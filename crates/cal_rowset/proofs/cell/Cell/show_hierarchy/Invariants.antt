@@ -1,4 +1,4 @@
-use Rattle.std.proofs.Common.{List, filter, take}
+use Rattle.std.proofs.Common.{filter, take}
 use Rattle.cal_value.specs.Flat.{joined}
 use Rattle.cal_value.specs.declared.attribute.Entry.{Entry}
 use Rattle.cal_rowset.specs.Cells.{values}

@@ -1,4 +1,4 @@
-use Rattle.std.proofs.Common.{refl, []}
+use Rattle.std.proofs.Common.{refl}
 use Rattle.std.proofs.lemmas.List.{append-nil}
 use Rattle.std.proofs.lemmas.Result.{on_ok_weaker}
 use Rattle.cal_rowset.specs.Filling.{names}

@@ -22,8 +22,8 @@ loop-node-preserved c =
     let node : NodeNumber = get_or nodes index (record { 0 = 0 }) in
     let found : AreLinksOf t node c.find_links.new.links.items = c.in_ok-find_links.ensures in
     let old = c.loop-node.self in
-    let found_in : ShownRow = record { cells = old.cells; hierarchy = old.hierarchy; places = old.places; shows_path = old.shows_path; attributes = old.attributes; links = c.find_links.new.links } in
-    let adds = AddsEntries-room t old found_in c.add_links.new.self _ _ refl refl refl refl refl c.in_ok-add_links.ensures in
+    let found_in : ShownRow = record { cells = old.cells; hierarchy = old.hierarchy; places = old.places; shows_path = old.shows_path; attributes = old.attributes; node = old.node; depth = old.depth; links = c.find_links.new.links } in
+    let adds = AddsEntries-room t old found_in c.add_links.new.self _ _ refl refl refl refl refl refl refl c.in_ok-add_links.ensures in
     let more =
     ap (λ (path : List Entry). before ++ path) (sym found.path ∙ sym (append-nil (path_at t node)))
     ∙ sym (flat_map-append (λ (path : List Entry). path) (map (path_at t) (take index nodes)) (path_at t node ∷ []))

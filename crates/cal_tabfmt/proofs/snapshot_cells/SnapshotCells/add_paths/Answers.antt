@@ -1,4 +1,4 @@
-use Rattle.std.proofs.Common.{◌≡◌, ◌<◌, ◌∷◌, List, length, subst, All}
+use Rattle.std.proofs.Common.{◌≡◌, ◌<◌, ◌∷◌, length, subst, All}
 use Rattle.std.proofs.lemmas.List.Elements.{All-head}
 use Rattle.std.proofs.lemmas.Result.{on_ok_weaker}
 use Rattle.cal_context.specs.declared.numbers.NodeNumber.{NodeNumber}

@@ -1,11 +1,11 @@
--- Cells that hold the entries of a row, and can give up the last ones.
+-- Cells that hold entries of a row, and can give up the last ones.
 use Rattle.std.specs.Prelude.{◌≡◌, ℕ, ◌<◌, List, [], ◌∷◌, ◌++◌, length, reverse, slice_set, take}
 use Rattle.std.specs.Str.{IsUtf8}
 use Rattle.cal_value.specs.declared.attribute.Entry.{Entry}
 use Rattle.cal_rowset.specs.Filling.{HoldsIn, is_nothing, nth_cell, with_use}
 use Rattle.cal_rowset.specs.declared.cell.Cell.{Cell}
-use Rattle.cal_tabfmt.specs.declared.trail.Step.{Step}
-use Rattle.cal_tabfmt.specs.declared.trail.Trail.{Trail}
+use Rattle.cal_rowset.specs.declared.cells.Cells.{Cells}
+use Rattle.cal_rowset.specs.declared.step.Step.{Step}
 
 -- a cell as it was before a step
 abbrev pub undone : Step → Cell → Cell
@@ -38,11 +38,11 @@ GoesBack names [] f = HoldsIn names f.cells f.used f.entries × (f.entries ≡ [
 GoesBack names (step ∷ steps) f = HoldsIn names f.cells f.used f.entries
     × (old : Filling) × Leads step old f × GoesBack names steps old
 
--- a trail holds these entries of a row
-abbrev pub IsTrail : Trail → List Entry → Type 0
-IsTrail t entries = GoesBack t.names (reverse t.steps)
-    (record { cells = t.cells.items; used = t.used; entries = entries })
+-- how the cells came to hold what they do, the last entry last
+abbrev pub steps : Cells → List Step
+steps c = c.steps.items
 
--- its cells hold these entries of a row, as far as a line shows them
-abbrev pub HoldsRow : Trail → List Entry → Type 0
-HoldsRow t entries = HoldsIn t.names t.cells.items t.used entries
+-- the cells hold these entries of a row, and can give up the last ones
+abbrev pub IsTrail : Cells → List Entry → Type 0
+IsTrail c entries = GoesBack c.names (reverse c.steps.items)
+    (record { cells = c.cells.items; used = c.used.items; entries = entries })

@@ -1,6 +1,6 @@
 use Rattle.std.proofs.Common.{refl, inl, inr, arith, length, ◌∙◌}
-use Rattle.cal_tabfmt.proofs.TrailLemmas.{kept-start, kept-fewer, kept-end, trail-length}
-use Rattle.cal_tabfmt.proofs.trail.Trail.keep.Goals as goal
+use Rattle.cal_rowset.proofs.Trails.{kept-start, kept-fewer, kept-end, trail-length}
+use Rattle.cal_rowset.proofs.cells.Cells.keep.Goals as goal
 
 pub loop-self-init : goal.loop-self-init
 loop-self-init c = record {
@@ -27,4 +27,4 @@ loop-self-preserved c =
 pub returns-clause-kept : goal.returns-clause-kept
 returns-clause-kept c =
     let kept = c.loop-self.invariant in
-    λ entries trail. kept-end c.loop-self.self entries (length c.loop-self.self.steps) c.args.count (omega arith) (kept.enough entries trail) (kept.kept entries trail)
+    λ entries trail. kept-end c.loop-self.self entries (length c.loop-self.self.steps.items) c.args.count (omega arith) (kept.enough entries trail) (kept.kept entries trail)

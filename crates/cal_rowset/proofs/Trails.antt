@@ -1,4 +1,4 @@
--- Trails with one entry more, and with one less.
+-- Cells that can give up their last entries: with one more, and with one less.
 use Rattle.std.proofs.Common.{◌≡◌, ℕ, ◌+◌, ◌-◌, ◌<◌, ◌≤◌, ◌⊎◌, inl, inr, zero, suc, List, [], ◌∷◌, ◌++◌, length, get_or, set, take, drop, map, reverse, Some, slice_get, refl, sym, ap, ◌∙◌, subst, arith, length-set}
 use Rattle.std.specs.List.{join_with_byte}
 use Rattle.std.specs.Str.{IsUtf8}
@@ -11,13 +11,13 @@ use Rattle.cal_value.specs.declared.attribute.Entry.{Entry}
 use Rattle.cal_value.specs.declared.variant.Variant.{Variant}
 use Rattle.cal_context.specs.Tree.{no_attribute, no_value}
 use Rattle.cal_rowset.specs.Cells.{joined_texts, values_with}
-use Rattle.cal_rowset.specs.Filling.{HoldsIn, Shows, is_nothing, nth_cell, nth_name, no_cell, with_use}
+use Rattle.cal_rowset.specs.Filling.{HoldsIn, Shows, is_nothing, nth_cell, no_cell, with_use}
 use Rattle.cal_rowset.specs.declared.cell.Cell.{Cell}
+use Rattle.cal_rowset.specs.declared.cells.Cells.{Cells}
 use Rattle.cal_rowset.proofs.Filling.{Holds-added}
 use Rattle.cal_rowset.proofs.Showing.{join-push}
-use Rattle.cal_tabfmt.specs.Trails.{CanUndo, Filling, GoesBack, IsTrail, Leads, undone}
-use Rattle.cal_tabfmt.specs.declared.trail.Step.{Step}
-use Rattle.cal_tabfmt.specs.declared.trail.Trail.{Trail}
+use Rattle.cal_rowset.specs.Trails.{CanUndo, Filling, GoesBack, IsTrail, Leads, undone}
+use Rattle.cal_rowset.specs.declared.step.Step.{Step}
 
 -- what cells hold
 abbrev pub filling : List Cell → List ℕ → List Entry → Filling
@@ -153,7 +153,7 @@ HoldsIn-none = record {
 }
 
 -- a trail that has taken an entry
-module _ (old new : Trail) (es : List Entry) (e : Entry) (place : ℕ) (trail : IsTrail old es) (at : slice_get old.names place ≡ Some e.attr.name) where
+module _ (old new : Cells) (es : List Entry) (e : Entry) (place : ℕ) (trail : IsTrail old es) (at : slice_get old.names place ≡ Some e.attr.name) where
   here : place < length old.cells.items
   here = omega (arith, slice_get_within old.names place e.attr.name at, (GoesBack-holds _ _ _ trail).counted)
 
@@ -163,26 +163,26 @@ module _ (old new : Trail) (es : List Entry) (e : Entry) (place : ℕ) (trail : 
 
   pub IsTrail-added : (step : Step) (noted read cell : Cell) → noted ≡ get_or old.cells.items place noted → step ≡ step_of place noted → IsUtf8 noted.text
       → read ≡ get_or old.cells.items place read → ((vs : List Variant) → Shows read vs → Shows cell (vs ++ e.value ∷ []))
-      → new.names ≡ old.names → new.cells.items ≡ set old.cells.items place cell → new.used ≡ with_use (is_nothing (nth_cell old.cells.items place).content) old.used place
-      → new.steps ≡ old.steps ++ step ∷ [] → IsTrail new (es ++ e ∷ [])
+      → new.names ≡ old.names → new.cells.items ≡ set old.cells.items place cell → new.used.items ≡ with_use (is_nothing (nth_cell old.cells.items place).content) old.used.items place
+      → new.steps.items ≡ old.steps.items ++ step ∷ [] → IsTrail new (es ++ e ∷ [])
   IsTrail-added step noted read cell was is utf8 reads pushed names cells used steps =
       let text : IsUtf8 (nth_cell old.cells.items place).text = subst (λ (c : Cell). IsUtf8 c.text) (there noted was) utf8 in
       let shows : (vs : List Variant) → Shows (nth_cell old.cells.items place) vs → Shows cell (vs ++ e.value ∷ []) =
       λ vs shown. pushed vs (subst (λ (c : Cell). Shows c vs) (sym (there read reads)) shown) in
-      let added = GoesBack-add old.names old.cells.items old.used es (reverse old.steps) place e cell trail at text shows in
-      let noted_steps : reverse new.steps ≡ step_of place (nth_cell old.cells.items place) ∷ reverse old.steps =
-      ap reverse steps ∙ reverse-append old.steps (step ∷ []) ∙ ap (λ (s : Step). s ∷ reverse old.steps) (is ∙ ap (step_of place) (there noted was)) in
+      let added = GoesBack-add old.names old.cells.items old.used.items es (reverse old.steps.items) place e cell trail at text shows in
+      let noted_steps : reverse new.steps.items ≡ step_of place (nth_cell old.cells.items place) ∷ reverse old.steps.items =
+      ap reverse steps ∙ reverse-append old.steps.items (step ∷ []) ∙ ap (λ (s : Step). s ∷ reverse old.steps.items) (is ∙ ap (step_of place) (there noted was)) in
       rw (names, cells, used, noted_steps) added
 
 -- a trail that has given up an entry
-pub IsTrail-back : (old new : Trail) (es : List Entry) (e : Entry) (step : Step) (steps : List Step) → IsTrail old (es ++ e ∷ []) → old.steps ≡ steps ++ step ∷ []
-    → new.names ≡ old.names → new.steps ≡ steps
+pub IsTrail-back : (old new : Cells) (es : List Entry) (e : Entry) (step : Step) (steps : List Step) → IsTrail old (es ++ e ∷ []) → old.steps.items ≡ steps ++ step ∷ []
+    → new.names ≡ old.names → new.steps.items ≡ steps
     → (step.place < length old.cells.items → CanUndo step (nth_cell old.cells.items step.place)
     → new.cells.items ≡ set old.cells.items step.place (undone step (nth_cell old.cells.items step.place)))
-    → ((before : List ℕ) → old.used ≡ with_use (is_nothing step.content) before step.place → new.used ≡ before) → IsTrail new es
+    → ((before : List ℕ) → old.used.items ≡ with_use (is_nothing step.content) before step.place → new.used.items ≡ before) → IsTrail new es
 IsTrail-back old new es e step steps trail was names now cells used =
-    let noted : reverse old.steps ≡ step ∷ reverse steps = ap reverse was ∙ reverse-append steps (step ∷ []) in
-    let back = GoesBack-back old.names step (reverse steps) old.cells.items old.used es e (subst (λ (s : List Step). GoesBack old.names s (filling old.cells.items old.used (es ++ e ∷ []))) noted trail) in
+    let noted : reverse old.steps.items ≡ step ∷ reverse steps = ap reverse was ∙ reverse-append steps (step ∷ []) in
+    let back = GoesBack-back old.names step (reverse steps) old.cells.items old.used.items es e (subst (λ (s : List Step). GoesBack old.names s (filling old.cells.items old.used.items (es ++ e ∷ []))) noted trail) in
     rw (names, now, cells back.within back.text, used back.less back.noted) back.back
 
 -- ---- so many entries
@@ -190,30 +190,30 @@ IsTrail-back old new es e step steps trail was names now cells used =
 abbrev no_entry : Entry
 no_entry = record { attr = no_attribute; value = no_value }
 
-pub trail-length : (t : Trail) (entries : List Entry) → IsTrail t entries → length t.steps ≡ length entries
-trail-length t entries trail = sym (length-reverse t.steps) ∙ GoesBack-length _ _ _ trail
+pub trail-length : (t : Cells) (entries : List Entry) → IsTrail t entries → length t.steps.items ≡ length entries
+trail-length t entries trail = sym (length-reverse t.steps.items) ∙ GoesBack-length _ _ _ trail
 
-pub kept-start : (t : Trail) (entries : List Entry) → IsTrail t entries → IsTrail t (take (length t.steps) entries)
-kept-start t entries trail = subst (IsTrail t) (sym (take_all (length t.steps) entries (omega (arith, trail-length t entries trail)))) trail
+pub kept-start : (t : Cells) (entries : List Entry) → IsTrail t entries → IsTrail t (take (length t.steps.items) entries)
+kept-start t entries trail = subst (IsTrail t) (sym (take_all (length t.steps.items) entries (omega (arith, trail-length t entries trail)))) trail
 
-pub kept-fewer : (old new : Trail) (entries : List Entry) → 0 < length old.steps → length old.steps ≤ length entries → IsTrail old (take (length old.steps) entries)
-    → ((es : List Entry) (e : Entry) → IsTrail old (es ++ e ∷ []) → IsTrail new es) → IsTrail new (take (length new.steps) entries) × (length new.steps + 1 ≡ length old.steps)
+pub kept-fewer : (old new : Cells) (entries : List Entry) → 0 < length old.steps.items → length old.steps.items ≤ length entries → IsTrail old (take (length old.steps.items) entries)
+    → ((es : List Entry) (e : Entry) → IsTrail old (es ++ e ∷ []) → IsTrail new es) → IsTrail new (take (length new.steps.items) entries) × (length new.steps.items + 1 ≡ length old.steps.items)
 kept-fewer old new entries some within trail given =
     (subst (λ (k : ℕ). IsTrail new (take k entries)) (sym counted) back, omega (arith, counted, some))
   where
     m : ℕ
-    m = length old.steps - 1
+    m = length old.steps.items - 1
 
-    last : take (length old.steps) entries ≡ take m entries ++ get_or entries m no_entry ∷ []
+    last : take (length old.steps.items) entries ≡ take m entries ++ get_or entries m no_entry ∷ []
     last = ap (λ (k : ℕ). take k entries) (omega (arith, some)) ∙ take_more entries m no_entry (omega (arith, some, within))
 
     back : IsTrail new (take m entries)
     back = given (take m entries) (get_or entries m no_entry) (subst (IsTrail old) last trail)
 
-    counted : length new.steps ≡ m
+    counted : length new.steps.items ≡ m
     counted = trail-length new (take m entries) back ∙ length-take-le m entries (omega (arith, some, within))
 
-pub kept-end : (t : Trail) (entries : List Entry) (n count : ℕ) → n ≤ count → ((n ≡ length entries) ⊎ (count ≤ n)) → IsTrail t (take n entries) → IsTrail t (take count entries)
+pub kept-end : (t : Cells) (entries : List Entry) (n count : ℕ) → n ≤ count → ((n ≡ length entries) ⊎ (count ≤ n)) → IsTrail t (take n entries) → IsTrail t (take count entries)
 kept-end t entries n count past (inl all) trail =
     subst (IsTrail t) (take_all n entries (omega (arith, all)) ∙ sym (take_all count entries (omega (arith, all, past)))) trail
 kept-end t entries n count past (inr enough) trail = subst (λ (k : ℕ). IsTrail t (take k entries)) (omega (arith, past, enough)) trail

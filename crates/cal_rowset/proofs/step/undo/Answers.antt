@@ -1,11 +1,11 @@
-use Rattle.std.proofs.Common.{◌≡◌, ◌≤◌, ◌<◌, ℕ, List, inl, inr, false, true, refl, length, take, sym, ap, ◌∙◌, arith}
+use Rattle.std.proofs.Common.{◌≡◌, ℕ, List, inl, inr, false, true, refl, length, take, sym, ap, ◌∙◌, arith}
 use Rattle.std.specs.Str.{IsUtf8, IsCharBoundary}
 use Rattle.std.proofs.lemmas.Bool.{cases_lt}
 use Rattle.std.proofs.lemmas.List.{take_all}
 use Rattle.std.proofs.lemmas.Str.{IsUtf8-take, IsCharBoundary-from_take}
 use Rattle.cal_rowset.specs.declared.cell.Cell.{Cell}
-use Rattle.cal_tabfmt.proofs.trail.undo.Goals as goal
-use Rattle.cal_tabfmt.proofs.trail.undo.Goals.{then-is_char_boundary, else-is_char_boundary}
+use Rattle.cal_rowset.proofs.step.undo.Goals as goal
+use Rattle.cal_rowset.proofs.step.undo.Goals.{then-is_char_boundary, else-is_char_boundary}
 
 -- a text that can't be cut is whole already
 uncut : (text : List ℕ) (n : ℕ) → IsUtf8 text → IsUtf8 (take n text) → (IsCharBoundary text n → ⊥) → text ≡ take n text
