@@ -1,5 +1,6 @@
 ghost use Rattle.std.specs.Prelude.{◌≡◌, ◌++◌, map, IfOk, OnOk};
 ghost use Rattle.std.specs.List.{flat_map};
+ghost use Rattle.cal_rowset.specs.Showing.{IsFor};
 ghost use Rattle.cal_tabfmt.specs.Grid.{grid_line};
 ghost use Rattle.cal_tabfmt.specs.Table.{header_line, row_line, table};
 ghost use Rattle.cal_tabfmt.specs.Tables.{held};
@@ -8,7 +9,7 @@ use crate::grid::append_line;
 use crate::held::{Held, hold_row, nothing_held, shapes_of};
 use crate::shape::Shape;
 use crate::table_lines::{append_row, push_headers};
-use cal_rowset::{Answer, Column};
+use cal_rowset::{Answer, Column, ShownRow};
 use cal_value::{OutOfMemory, Seq, Text};
 use std::alloc::Global;
 
@@ -23,10 +24,11 @@ pub fn table_text<A: Answer>(alloc: Global, answer: &A) -> Result<Text, OutOfMem
     if columns.is_empty() {
         return Ok(out);
     }
-    let all = all_held(alloc, columns, answer)?;
+    let mut shown = answer.cells(alloc, columns)?;
+    let all = all_held(alloc, columns, answer, &mut shown)?;
     let shapes = shapes_of(alloc, &all)?;
     append_headers(alloc, &mut out, &shapes, columns)?;
-    append_rows(alloc, &mut out, &shapes, columns, answer)?;
+    append_rows(alloc, &mut out, &shapes, columns, answer, &mut shown)?;
     Ok(out)
 }
 
@@ -35,15 +37,19 @@ fn all_held<A: Answer>(
     alloc: Global,
     columns: &[Column],
     answer: &A,
+    shown: &mut ShownRow,
 ) -> Result<Vec<Held>, OutOfMemory>
-    ensures { IfOk result (λ all. all.items
+    requires ready { A.is_ready answer.now shown.old }
+    requires for_columns { IsFor shown.old columns.now }
+    ensures ready { OnOk result (A.is_ready answer.now shown.new) }
+    ensures for_columns { OnOk result (IsFor shown.new columns.now) }
+    ensures held { IfOk result (λ all. all.items
         ≡ map (held (A.answer answer.now).rows.rows) columns.now) }
 {
     let mut all = nothing_held(alloc, columns)?;
-    let mut shown = answer.cells(alloc, columns)?;
     for place in 0..answer.row_count() {
-        answer.show(place, &mut shown)?;
-        hold_row(alloc, &mut all, &shown)?;
+        answer.show(place, shown)?;
+        hold_row(alloc, &mut all, shown)?;
     }
     Ok(all)
 }
@@ -69,14 +75,16 @@ fn append_rows<A: Answer>(
     shapes: &[Shape],
     columns: &[Column],
     answer: &A,
+    shown: &mut ShownRow,
 ) -> Result<(), OutOfMemory>
+    requires ready { A.is_ready answer.now shown.old }
+    requires for_columns { IsFor shown.old columns.now }
     ensures { OnOk result (out.new ≡ out.old ++ flat_map (grid_line shapes.now)
         (map (row_line columns.now) (A.answer answer.now).rows.rows)) }
 {
-    let mut shown = answer.cells(alloc, columns)?;
     for place in 0..answer.row_count() {
-        answer.show(place, &mut shown)?;
-        append_row(alloc, out, shapes, columns.len(), &shown)?;
+        answer.show(place, shown)?;
+        append_row(alloc, out, shapes, columns.len(), shown)?;
     }
     Ok(())
 }

@@ -13,7 +13,7 @@ returns g c =
     let rows = (g.A.Answer.answer c.args.answer.now).rows.rows in
     let some : length columns ≢ 0 = eqb-false (length columns) 0 (sym c.is_empty.ensures ∙ c.if-is_empty.false) in
     let all = shapes (header_line columns ∷ map (row_line columns) rows) 0 (map (is_right rows) columns) in
-    let made = c.in_ok-shapes.ensures ∙ ap (map shape_of) (c.deref.ensures.value ∙ c.in_ok-all.ensures) ∙ shapes_are columns rows in
+    let made = c.in_ok-shapes.ensures ∙ ap (map shape_of) (c.deref.ensures.value ∙ c.in_ok-all.ensures.held) ∙ shapes_are columns rows in
     let headers : c.append_headers.new.out ≡ grid_line all (header_line columns) = rw (c.deref-2.ensures.value ∙ made, c.new-out.ensures) at c.in_ok-append_headers.ensures in
     let lines : c.append_rows.new.out ≡ c.append_headers.new.out ++ flat_map (grid_line all) (map (row_line columns) rows) = rw (c.deref-3.ensures.value ∙ made) at c.in_ok-append_rows.ensures in
     lines
