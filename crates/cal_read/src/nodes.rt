@@ -54,6 +54,17 @@ impl Nodes {
     {
         match in_row(self.row.as_slice(), id) {
             Some(held) => Some(held),
+            None => self.find(id),
+        }
+    }
+
+    /// The same, for whoever seldom asks.
+    #[inline(never)]
+    pub(crate) fn find(&self, id: u64) -> Option<Held>
+        ensures { result ≡ held_at self.now id }
+    {
+        match in_row(self.row.as_slice(), id) {
+            Some(held) => Some(held),
             None => self.map.get(&id).copied(),
         }
     }
