@@ -1,20 +1,19 @@
 -- Columns of a row that are looked up as they are read.
-use Rattle.std.proofs.Common.{◌≡◌, ◌≢◌, ◌<◌, ◌≤◌, ◌+◌, ℕ, List, [], ◌∷◌, ◌++◌, length, map, drop, get_or, Option, Some, None, refl, sym, ap, ◌∙◌, subst, append_assoc}
+use Rattle.std.proofs.Common.{◌≡◌, ◌≢◌, ◌<◌, ◌≤◌, ◌+◌, ℕ, List, [], ◌∷◌, ◌++◌, length, drop, get_or, refl, sym, ap, ◌∙◌, subst, append_assoc}
 use Rattle.std.specs.Prelude.{Ok, codes}
-use Rattle.std.specs.List.{All, between}
+use Rattle.std.specs.List.{between}
 use Rattle.std.proofs.lemmas.List.{map-append}
 use Rattle.std.proofs.lemmas.List.Elements.{All-nil, All-push}
 use Rattle.cal_context.specs.Snapshots.{IsBelowRoot}
-use Rattle.cal_context.specs.Tree.{Tree, attribute_at}
+use Rattle.cal_context.specs.Tree.{attribute_at}
 use Rattle.cal_context.specs.declared.numbers.AttributeNumber.{AttributeNumber}
 use Rattle.cal_context.specs.declared.numbers.NodeNumber.{NodeNumber}
 use Rattle.cal_read.specs.Fields.{id_of}
-use Rattle.cal_read.specs.Held.{AreHeld, IsNumberOf, held_at}
+use Rattle.cal_read.specs.Held.{IsNumberOf, held_at}
 use Rattle.cal_read.specs.NodeLines.{known, as_attribute}
-use Rattle.cal_read.specs.Nodes.{Named, attribute_of, node_at}
+use Rattle.cal_read.specs.Nodes.{attribute_of, node_at}
 use Rattle.cal_read.specs.Usual.{IsPlain, IsThere, written_head, written_values}
-use Rattle.cal_read.specs.UsualColumns.{EndsAre, HasNumber, NameEnds, NameNumbers, NumbersAre, ReadsColumns, ReadsEnds, ReadsHead, ReadsNumbers}
-use Rattle.cal_read.specs.declared.nodes.Held.{Held}
+use Rattle.cal_read.specs.UsualColumns.{EndsAre, HasNode, HasNumber, ReadsColumns, ReadsEnds, ReadsHead, ReadsNumbers}
 use Rattle.cal_read.specs.declared.nodes.Nodes.{Nodes}
 use Rattle.cal_read.proofs.ColumnLemmas.{attribute_is, ends_push, known_some}
 use Rattle.cal_read.proofs.EachLemmas.{each-push}
@@ -34,19 +33,19 @@ ends_none nodes line start ends within none = record {
 }
 
 module _ (nodes : Nodes) (line : List ℕ) (start place end id : ℕ) where
-  pub ends_more : (ends new : List NodeNumber) (h : Held) → ReadsEnds nodes line start place ends → place < length line → get_or line place 0 ≡ 61 → IsPlain line (place + 1) end
-      → id_of (between (place + 1) end line) ≡ Ok id → held_at nodes id ≡ Some h → new ≡ ends ++ h.place.node ∷ [] → ReadsEnds nodes line start end new
-  ends_more ends new h so_far within sign plain is there items = record {
+  pub ends_more : (ends new : List NodeNumber) (node : NodeNumber) → ReadsEnds nodes line start place ends → place < length line → get_or line place 0 ≡ 61 → IsPlain line (place + 1) end
+      → id_of (between (place + 1) end line) ≡ Ok id → HasNode nodes id node → new ≡ ends ++ node ∷ [] → ReadsEnds nodes line start end new
+  ends_more ends new node so_far within sign plain is has items = record {
     ids = so_far.ids ++ id ∷ [];
     read = ids_more line start place end so_far.ids (so_far.ids ++ id ∷ []) id so_far.read within sign plain is refl;
     are = λ t named are.
-    let before = so_far.are t named are in
-    let it = if_held t (held_at nodes id) (node_at named id) h (are id) there in
-    record {
-      found = before.found ++ it.0 ∷ [];
-      known = each-push (known named) so_far.ids id before.found it.0 before.known (known_some named id it.0 it.1);
-      are = rw items (ends_push t ends before.found h it.0 before.are it.2);
-    };
+        let before = so_far.are t named are in
+        let it = if_held t (held_at nodes id) (node_at named id) has.held (are id) has.there in
+        record {
+          found = before.found ++ it.0 ∷ [];
+          known = each-push (known named) so_far.ids id before.found it.0 before.known (known_some named id it.0 it.1);
+          are = rw (items, sym has.node_is) (ends_push t ends before.found has.held it.0 before.are it.2);
+        };
   }
 
 -- ---- ids of attributes
@@ -65,19 +64,19 @@ module _ (nodes : Nodes) (line : List ℕ) (start place end id : ℕ) where
     ids = so_far.ids ++ id ∷ [];
     read = ids_more line start place end so_far.ids (so_far.ids ++ id ∷ []) id so_far.read within sign plain is refl;
     are = λ t named are.
-    let before = so_far.are t named are in
-    let it = if_held t (held_at nodes id) (node_at named id) has.held (are id) has.there in
-    let a = attribute_is t n (attribute_of it.0) (subst (λ x. IsNumberOf t x (attribute_of it.0)) has.number_is it.2.number) in
-    record {
-      found = before.found ++ it.0 ∷ [];
-      known = each-push (known named) so_far.ids id before.found it.0 before.known (known_some named id it.0 it.1);
-      attributes = before.attributes ++ attribute_at t n ∷ [];
-      have = each-push as_attribute before.found it.0 before.attributes (attribute_at t n) before.have a.1;
-      are = rw items (record {
-        known = All-push (λ m. m.0 < length t.attributes) numbers n before.are.known a.0;
-        are = map-append (attribute_at t) numbers (n ∷ []) ∙ ap (λ r. r ++ attribute_at t n ∷ []) before.are.are;
-      });
-    };
+        let before = so_far.are t named are in
+        let it = if_held t (held_at nodes id) (node_at named id) has.held (are id) has.there in
+        let a = attribute_is t n (attribute_of it.0) (subst (λ x. IsNumberOf t x (attribute_of it.0)) has.number_is it.2.number) in
+        record {
+          found = before.found ++ it.0 ∷ [];
+          known = each-push (known named) so_far.ids id before.found it.0 before.known (known_some named id it.0 it.1);
+          attributes = before.attributes ++ attribute_at t n ∷ [];
+          have = each-push as_attribute before.found it.0 before.attributes (attribute_at t n) before.have a.1;
+          are = rw items (record {
+            known = All-push (λ m. m.0 < length t.attributes) numbers n before.are.known a.0;
+            are = map-append (attribute_at t) numbers (n ∷ []) ∙ ap (λ r. r ++ attribute_at t n ∷ []) before.are.are;
+          });
+        };
   }
 
 -- ---- what stands before the values

@@ -19,6 +19,12 @@ pub record HasNumber (nodes : Nodes) (id : ℕ) (number : AttributeNumber) : Typ
   pub there : held_at nodes id ≡ Some held
   pub number_is : held.number ≡ Some number
 
+-- what is held of the node of an id is at this node of the context
+pub record HasNode (nodes : Nodes) (id : ℕ) (node : NodeNumber) : Type 0 where
+  pub held : Held
+  pub there : held_at nodes id ≡ Some held
+  pub node_is : held.place.node ≡ node
+
 -- ids name nodes, which are these of the context
 pub record NameEnds (t : Tree) (named : List Named) (ids : List ℕ) (ends : List NodeNumber) : Type 0
   where

@@ -135,11 +135,7 @@ fn fill(
 }
 
 /// Pushes the nodes of ids.
-fn push_nodes(
-    nodes: &Nodes,
-    ids: &[u64],
-    ends: &mut Vec<NodeNumber>,
-) -> Result<(), LineEnd>
+fn push_nodes(nodes: &Nodes, ids: &[u64], ends: &mut Vec<NodeNumber>) -> Result<(), LineEnd>
     requires { ends.old.items ≡ [] }
     ensures { (t : Tree) (named : List Named) → AreHeld t nodes.now named
         → AnswersFor (λ _. AreEnds t ends.new.items) result (each (known named) ids.now) }

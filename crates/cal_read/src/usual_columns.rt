@@ -1,5 +1,5 @@
-ghost use Rattle.std.specs.Prelude.{◌≡◌, ◌≤◌, [], length, IfOk, IfSome};
-ghost use Rattle.cal_read.specs.UsualColumns.{HasNumber, ReadsColumns, ReadsEnds, ReadsHead, ReadsNumbers};
+ghost use Rattle.std.specs.Prelude.{◌≡◌, ◌≤◌, [], length, IfOk};
+ghost use Rattle.cal_read.specs.UsualColumns.{ReadsColumns, ReadsEnds, ReadsHead, ReadsNumbers};
 
 use crate::nodes::Nodes;
 use crate::number_at::number_at;
@@ -62,10 +62,10 @@ fn push_nodes_at(
         let Some(at) = number_at(line, place + 1) else {
             return Err(Unusual);
         };
-        let Some(held) = nodes.get(at.number) else {
+        let Some(node) = nodes.node(at.number) else {
             return Err(Unusual);
         };
-        ends.push(held.place.node)?;
+        ends.push(node)?;
         place = at.end;
     }
     Ok(place)
@@ -89,19 +89,11 @@ fn push_numbers_at(
         let Some(at) = number_at(line, place + 1) else {
             return Err(Unusual);
         };
-        let Some(number) = number_of_id(nodes, at.number) else {
+        let Some(number) = nodes.number(at.number) else {
             return Err(Unusual);
         };
         numbers.push(number)?;
         place = at.end;
     }
     Ok(place)
-}
-
-/// The number of the attribute that the node of an id is.
-#[inline(always)]
-fn number_of_id(nodes: &Nodes, id: u64) -> Option<AttributeNumber>
-    ensures { IfSome result (HasNumber nodes.now id) }
-{
-    nodes.get(id)?.number
 }
