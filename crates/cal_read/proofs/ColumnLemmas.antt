@@ -41,7 +41,7 @@ known_none named id e = ap (or_fault kind.UnknownNode) e
 
 -- ---- the nodes that ids name
 
-ends_push : (t : Tree) (ends : List NodeNumber) (nodes : List Node) (h : Held) (n : Node) → AreEnds t ends nodes → IsHeld t h n
+pub ends_push : (t : Tree) (ends : List NodeNumber) (nodes : List Node) (h : Held) (n : Node) → AreEnds t ends nodes → IsHeld t h n
     → AreEnds t (ends ++ h.place.node ∷ []) (nodes ++ n ∷ [])
 ends_push t ends nodes h n are is = record {
   below = All-push (IsBelowRoot t) ends h.place.node are.below (record { below = is.below; within = is.at.within });

@@ -14,6 +14,7 @@ mod RecordLemmas
 mod WholeLemmas
 mod UsualLemmas
 mod UsualRowLemmas
+mod UsualColumnLemmas
 mod UsualNodeLemmas
 mod NumberLemmas
 mod LineLemmas

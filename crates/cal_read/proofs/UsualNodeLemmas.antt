@@ -1,5 +1,5 @@
 -- Nodes that are read in one go: their fields, and what they make.
-use Rattle.std.proofs.Common.{◌≡◌, ◌≢◌, ◌≤◌, ◌<◌, ◌+◌, ℕ, false, List, [], ◌∷◌, ◌++◌, length, get_or, drop, Option, None, Some, refl, sym, ap, ◌∙◌, subst, append-nil}
+use Rattle.std.proofs.Common.{◌≡◌, ◌≢◌, ◌≤◌, ◌<◌, ◌+◌, ℕ, false, List, [], ◌∷◌, ◌++◌, length, get_or, drop, Option, None, Some, refl, sym, ap, ◌∙◌, subst, append_assoc, append-nil}
 use Rattle.std.specs.Prelude.{Ok, codes}
 use Rattle.std.specs.List.{between}
 use Rattle.std.proofs.lemmas.List.{drop_all, drop_more}
@@ -27,6 +27,15 @@ id_there line place start end bytes id there number = record {
   within = number.plain.within;
   read = there.read ∙ ap (λ (l : List ℕ). bytes ++ l) (drop_split line start end number.plain.order ∙ ap (λ (l : List ℕ). l ++ drop end line) (sym number.plain.written));
   is = id_is line start end id number;
+}
+
+-- the same behind more bytes
+pub id_behind_both : (line : List ℕ) (place start end : ℕ) (xs ys : List ℕ) (id : ℕ) → IsThere line place xs start → IsIdBehind line start ys end id → IsIdBehind line place (xs ++ ys) end id
+id_behind_both line place start end xs ys id first it = record {
+  text = it.text;
+  within = it.within;
+  read = first.read ∙ ap (λ (l : List ℕ). xs ++ l) it.read ∙ sym (append_assoc xs ys (escaped it.text ++ drop end line));
+  is = it.is;
 }
 
 pub no_parent : (line : List ℕ) (place : ℕ) → length line ≤ place → IsParentAt line place None

@@ -16,4 +16,5 @@ pub mod Lines
 pub mod Reading
 pub mod Owned
 pub mod Usual
+pub mod UsualColumns
 pub mod UsualNodes

@@ -20,6 +20,7 @@ mod spare;
 mod stream;
 mod stream_reader;
 mod usual;
+mod usual_columns;
 mod usual_node;
 mod usual_row;
 mod value_at;

@@ -1,6 +1,7 @@
 ghost use Rattle.std.specs.Prelude.{◌≡◌, ◌==◌, ◌+◌, ◌≤◌, ℕ, Some, None, OnOk, if◌then◌else◌};
-ghost use Rattle.std.specs.Prelude.{length, slice_index_or};
+ghost use Rattle.std.specs.Prelude.{length, slice_index_or, IfSome};
 ghost use Rattle.cal_read.specs.Held.{held_at};
+ghost use Rattle.cal_read.specs.UsualColumns.{HasNode, HasNumber};
 
 use cal_context::{AttributeNumber, NodeNumber};
 use cal_value::{Kind, OutOfMemory};
@@ -54,6 +55,39 @@ impl Nodes {
     {
         match in_row(self.row.as_slice(), id) {
             Some(held) => Some(held),
+            None => self.find(id),
+        }
+    }
+
+    /// The node of the context that is known under an id. Nothing else is copied.
+    #[inline(always)]
+    pub(crate) fn node(&self, id: u64) -> Option<NodeNumber>
+        ensures { IfSome result (HasNode self.now id) }
+    {
+        match there(self.row.as_slice(), id) {
+            Some(held) => Some(held.place.node),
+            None => Some(self.find(id)?.place.node),
+        }
+    }
+
+    /// The attribute that the node of an id is. Nothing else is copied.
+    #[inline(always)]
+    pub(crate) fn number(&self, id: u64) -> Option<AttributeNumber>
+        ensures { IfSome result (HasNumber self.now id) }
+    {
+        match there(self.row.as_slice(), id) {
+            Some(held) => held.number,
+            None => self.find(id)?.number,
+        }
+    }
+
+    /// The same as `get`, for whoever seldom asks.
+    #[inline(never)]
+    pub(crate) fn find(&self, id: u64) -> Option<Held>
+        ensures { result ≡ held_at self.now id }
+    {
+        match in_row(self.row.as_slice(), id) {
+            Some(held) => Some(held),
             None => self.map.get(&id).copied(),
         }
     }
@@ -70,6 +104,14 @@ impl Nodes {
         }
         put(&mut self.row, place, held)
     }
+}
+
+/// Where a row has something at the place of an id.
+#[inline(always)]
+fn there(row: &[Option<Held>], id: u64) -> Option<&Held>
+    ensures { IfSome result (λ held. slice_index_or row.now id None ≡ Some held.now) }
+{
+    row.get(id as usize)?.as_ref()
 }
 
 /// What a row has at the place of an id.

@@ -135,17 +135,13 @@ fn fill(
 }
 
 /// Pushes the nodes of ids.
-pub(crate) fn push_nodes(
-    nodes: &Nodes,
-    ids: &[u64],
-    ends: &mut Vec<NodeNumber>,
-) -> Result<(), LineEnd>
+fn push_nodes(nodes: &Nodes, ids: &[u64], ends: &mut Vec<NodeNumber>) -> Result<(), LineEnd>
     requires { ends.old.items ≡ [] }
     ensures { (t : Tree) (named : List Named) → AreHeld t nodes.now named
         → AnswersFor (λ _. AreEnds t ends.new.items) result (each (known named) ids.now) }
 {
     for id in ids {
-        let Some(held) = nodes.get(*id) else {
+        let Some(held) = nodes.find(*id) else {
             return Err(LineEnd::Bad(StreamKind::UnknownNode));
         };
         ends.push(held.place.node)?;
@@ -154,7 +150,7 @@ pub(crate) fn push_nodes(
 }
 
 /// Pushes what is known of the attributes that the nodes of ids are.
-pub(crate) fn push_found(
+fn push_found(
     nodes: &Nodes,
     ids: &[u64],
     found: &mut Vec<Option<AttributeNumber>>,
@@ -164,7 +160,7 @@ pub(crate) fn push_found(
         → AnswersFor (λ _. AreFound t found.new.items) result (each (known named) ids.now) }
 {
     for id in ids {
-        let Some(held) = nodes.get(*id) else {
+        let Some(held) = nodes.find(*id) else {
             return Err(LineEnd::Bad(StreamKind::UnknownNode));
         };
         found.push(held.number)?;
@@ -173,7 +169,7 @@ pub(crate) fn push_found(
 }
 
 /// Pushes the attributes that nodes are, where each is one.
-pub(crate) fn push_numbers(
+fn push_numbers(
     found: &[Option<AttributeNumber>],
     numbers: &mut Vec<AttributeNumber>,
 ) -> Result<(), LineEnd>

@@ -1,8 +1,7 @@
-ghost use Rattle.std.specs.Prelude.{◌≡◌, ◌==◌, ◌||◌, ◌≤◌, [], length, IfOk};
-ghost use Rattle.cal_read.specs.Usual.{AreColumns, IsHead, IsPlain, IsThere, ReadsIds};
+ghost use Rattle.std.specs.Prelude.{◌≡◌, ◌==◌, ◌||◌, ◌≤◌, length, IfOk};
+ghost use Rattle.cal_read.specs.Usual.{IsPlain, IsThere};
 
 use crate::end::LineEnd;
-use crate::number_at::number_at;
 use cal_value::{OutOfMemory, ValueFault};
 use std::alloc::AllocFailed;
 
@@ -34,44 +33,8 @@ impl<T: Drop> From<AllocFailed<T>> for Unusual {
     }
 }
 
-/// Reads the ids of a row's nodes and attributes, and answers where the values stand.
-pub(crate) fn read_columns(
-    line: &str,
-    refs: &mut Vec<u64>,
-    ids: &mut Vec<u64>,
-) -> Result<usize, Unusual>
-    ensures { IfOk result (λ end. AreColumns line.now end refs.new.items ids.new.items) }
-{
-    refs.clear();
-    ids.clear();
-    let head = read_head(line, refs)?;
-    let start = behind(line, head, b"attr")?;
-    let end = push_ids_at(line, start, ids)?;
-    if end == start {
-        return Err(Unusual);
-    }
-    behind(line, end, b",data")
-}
-
-/// Reads what stands before `attr`, and answers where that stands.
-fn read_head(line: &str, refs: &mut Vec<u64>) -> Result<usize, Unusual>
-    requires { refs.old.items ≡ [] }
-    ensures { IfOk result (λ end. IsHead line.now end refs.new.items) }
-{
-    let place = behind(line, 0, b"__rec=ctx,")?;
-    let Ok(start) = behind(line, place, b"ref") else {
-        return Ok(place);
-    };
-    let end = push_ids_at(line, start, refs)?;
-    if end == start {
-        return Err(Unusual);
-    }
-    behind(line, end, b",")
-}
-
-/// The place behind these bytes, where they stand at a place. It is inlined, so that each caller
-/// compares a few bytes that it knows.
-#[inline(always)]
+/// The place behind these bytes, where they stand at a place. At most eight bytes that a caller
+/// knows are compared as one or two words.
 pub(crate) fn behind(line: &str, place: usize, bytes: &[u8]) -> Result<usize, Unusual>
     requires { place ≤ length line.now }
     ensures { IfOk result (λ end. IsThere line.now place bytes.now end) }
@@ -82,24 +45,6 @@ pub(crate) fn behind(line: &str, place: usize, bytes: &[u8]) -> Result<usize, Un
     } else {
         Err(Unusual)
     }
-}
-
-/// Pushes the ids that the values at a place are, and answers where these end.
-fn push_ids_at(line: &str, start: usize, ids: &mut Vec<u64>) -> Result<usize, Unusual>
-    requires start { start ≤ length line.now }
-    requires none { ids.old.items ≡ [] }
-    ensures { IfOk result (λ end. ReadsIds line.now start end ids.new.items) }
-{
-    let bytes = line.as_bytes();
-    let mut place = start;
-    while place < bytes.len() && bytes[place] == b'=' {
-        let Some(at) = number_at(line, place + 1) else {
-            return Err(Unusual);
-        };
-        ids.push(at.number)?;
-        place = at.end;
-    }
-    Ok(place)
 }
 
 /// Where the text at a place ends: at the next byte that is written by an escape, or at the end.

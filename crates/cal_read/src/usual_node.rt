@@ -17,7 +17,8 @@ pub(crate) struct UsualNode<'a> {
 pub(crate) fn usual_node<'a>(line: &'a str) -> Result<UsualNode<'a>, Unusual>
     ensures { IfOk result (λ node. IsUsualNode line.now node.ids node.text.now) }
 {
-    let id = id_behind(line, 0, b"__rec=node,id=")?;
+    let start = behind(line, 0, b"__rec=")?;
+    let id = id_behind(line, start, b"node,id=")?;
     let attribute = id_behind(line, id.end, b",attr=")?;
     let place = behind(line, attribute.end, b",data")?;
     let bytes = line.as_bytes();

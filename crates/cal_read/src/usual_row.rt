@@ -5,9 +5,10 @@ ghost use Rattle.cal_read.specs.Nodes.{Named};
 ghost use Rattle.cal_read.specs.Usual.{IsUsualRow, ReadsImms};
 
 use crate::nodes::Nodes;
-use crate::record_line::{Columns, push_found, push_nodes, push_numbers};
+use crate::record_line::Columns;
 use crate::spare::empty;
-use crate::usual::{Unusual, read_columns};
+use crate::usual::Unusual;
+use crate::usual_columns::read_columns;
 use crate::value_at::value_at;
 use cal_context::{AttributeNumber, Context, Immediate, Snapshot};
 use cal_value::Text;
@@ -28,12 +29,8 @@ pub(crate) fn read_usual_row(
         → IsUsualRow context.now named line.now snapshot.new) }
 {
     empty(snapshot, &mut columns.spare)?;
-    columns.found.clear();
     columns.numbers.clear();
-    let start = read_columns(line, &mut columns.refs, &mut columns.ids)?;
-    push_nodes(nodes, &columns.refs, &mut snapshot.nodes)?;
-    push_found(nodes, &columns.ids, &mut columns.found)?;
-    push_numbers(&columns.found, &mut columns.numbers)?;
+    let start = read_columns(nodes, line, &mut snapshot.nodes, &mut columns.numbers)?;
     let imms = &mut snapshot.imms;
     let spare = &mut columns.spare;
     let end = push_imms_at(alloc, context, &columns.numbers, spare, line, start, imms)?;
