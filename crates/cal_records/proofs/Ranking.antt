@@ -4,7 +4,7 @@ use Rattle.std.proofs.Common.{Bor, ℕ, ◌+◌, ◌<◌, get_or, length, subst,
 use Rattle.std.specs.Cmp.{IsStrictWeakOrder}
 use Rattle.std.specs.Fn.{Called, Mut}
 use Rattle.std.specs.List.{All, AllByRecursion}
-use Rattle.std.specs.List.Sorted.{IsSortedByClosure, IsStableByClosure}
+use Rattle.std.specs.List.Sorted.{IsSortedByClosure, IsStableBy, IsStableByClosure}
 use Rattle.std.specs.Ordering.{is_lt}
 use Rattle.std.specs.declared.cmp.Ordering.{Ordering}
 use Rattle.std.proofs.lemmas.Fn.{always_returns_same}
@@ -101,19 +101,21 @@ module _ (t : Tree) (aggs : List Agg) where
   -- what the sort leaves
   pub sorted_by_ranks :
       {F : Type 0} {g : Mut F (Bor Ranked × (Bor Ranked × Unit {0})) Ordering} {f : F}
-      (rows : List Snapshot) (before after : List Ranked) → AreRanked t aggs rows before
-      → IsSortedByClosure g f after → IsStableByClosure g f before after
+      (rows : List Snapshot) (before mid after : List Ranked) → AreRanked t aggs rows before
+      → (IsStableBy (λ x y. is_lt (ranked_cmp t x y)) mid after
+      → IsStableBy (λ x y. is_lt (ranked_cmp t x y)) before after)
+      → IsSortedByClosure g f after → IsStableByClosure g f mid after
       → ((a : Bor Ranked × (Bor Ranked × Unit {0})) (r : Ordering) (f' : F) → Called g f a r f'
       → (r ≡ ranked_cmp t a.0.now a.1.0.now) × (f' ≡ f))
       → map row_of after ≡ sorted (rows_cmp aggs) (map (meaning t) rows)
-  sorted_by_ranks {g = g} {f = f} rows before after are up stable answers =
+  sorted_by_ranks {g = g} {f = f} rows before mid after are first up stable answers =
       let lt = λ (x y : Ranked). is_lt (ranked_cmp t x y) in
       let compares = always_returns_same g
       (λ a r. is_lt r ≡ is_lt (ranked_cmp t a.0.now a.1.0.now)) f
       (λ a r f' k. (ap is_lt (answers a r f' k).0, (answers a r f' k).1)) in
       ap (map row_of)
       (sorted-unique (ranked_cmp t) ranked_weak before after (up lt ranked_weak compares)
-      (stable lt ranked_weak compares))
+      (first (stable lt ranked_weak compares)))
       ∙ sorted-map row_of (ranked_cmp t) (rows_cmp aggs) (IsRanked t aggs) agrees before
       (recursion_from_All (IsRanked t aggs) before are.keys)
       ∙ ap (sorted (rows_cmp aggs))

@@ -3,4 +3,5 @@ pub mod Records
 pub mod Kept
 pub mod Forks
 pub mod Ranks
+pub mod Likely
 pub mod Globals

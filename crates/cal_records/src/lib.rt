@@ -9,6 +9,7 @@
 mod comparing;
 mod globals;
 mod groups;
+mod likely;
 mod query;
 mod run;
 mod same;

@@ -7,6 +7,7 @@ ghost use Rattle.cal_records.specs.Ranks.{AreRanked, key_entry, ranked_cmp};
 ghost use Rattle.cal_value.specs.Order.{entry_cmp, path_cmp};
 
 use crate::comparing::compare_paths;
+use crate::likely::{likely_key, likely_spots};
 use cal_context::{Context, Immediate, Snapshot};
 use cal_ql::Agg;
 use cal_value::{Attribute, OutOfMemory, Variant};
@@ -16,8 +17,8 @@ use std::cmp::Ordering;
 /// An entry that is lent.
 #[derive(Clone, Copy)]
 pub(crate) struct Key<'a> {
-    attr: &'a Attribute,
-    value: &'a Variant,
+    pub(crate) attr: &'a Attribute,
+    pub(crate) value: &'a Variant,
 }
 
 /// A row beside the immediates of its group.
@@ -28,7 +29,8 @@ pub(crate) struct Ranked<'a> {
 }
 
 /// Rows of a context in the order of their groups. It takes memory for a reference to each row and
-/// to each immediate of its group, and n log n comparisons of groups.
+/// to each immediate of its group, and n log n comparisons of numbers; those that end up out of
+/// order are compared as groups.
 pub(crate) fn sorted_by_group<'a>(
     alloc: Global,
     context: &'a Context,
@@ -41,7 +43,10 @@ pub(crate) fn sorted_by_group<'a>(
     ensures sorted { IfOk result (λ ranked. map (λ r. meaning context.now r.row.now) ranked.items
         ≡ sorted (rows_cmp aggs.now) (map (meaning context.now) rows.now)) }
 {
+    context.has_each_once();
     let mut ranked = ranked_rows(alloc, context, aggs, rows)?;
+    let spots = likely_spots(alloc, context, rows.len())?;
+    ranked.sort_by_cached_key(|row| likely_key(context, &spots, &row.row.nodes))?;
     ranked.sort_by(|one, other| compare(context, one, other))?;
     Ok(ranked)
 }
@@ -122,7 +127,7 @@ fn compare_keys(one: &[Key], other: &[Key]) -> Ordering
     }
 }
 
-fn compare_entries(one: &Key, other: &Key) -> Ordering
+pub(crate) fn compare_entries(one: &Key, other: &Key) -> Ordering
     ensures { result ≡ entry_cmp (key_entry one.now) (key_entry other.now) }
 {
     match one.attr.cmp(other.attr) {
