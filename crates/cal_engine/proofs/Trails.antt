@@ -112,11 +112,11 @@ begins-trail other group = same_from_decides _ _ (trail_decides other group) (be
 
 -- whether a path begins with another doesn't hang on what stands before both
 front_behind : (front one other : List Entry) → IsFront one other → IsFront (front ++ one) (front ++ other)
-front_behind front one other f = (f.0, append_assoc front one f.0 ∙ ap (λ es. front ++ es) f.1)
+front_behind front one other f = (f.0, ap (λ es. front ++ es) f.1 ∙ sym (append_assoc front one f.0))
 
 front_without : (front one other : List Entry) → IsFront (front ++ one) (front ++ other) → IsFront one other
 front_without front one other f =
-    (f.0, (split_equal front front (one ++ f.0) other refl (sym (append_assoc front one f.0) ∙ f.1)).1)
+    (f.0, (split_equal front front other (one ++ f.0) refl (f.1 ∙ append_assoc front one f.0)).1)
 
 pub begins-behind : (front one other : List Entry) → begins (front ++ one) (front ++ other) ≡ begins one other
 begins-behind front one other =
