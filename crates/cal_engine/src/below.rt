@@ -35,8 +35,8 @@ pub(crate) fn parts_below(
     Ok(below)
 }
 
-/// The same of groups whose keys lie in a tree. Where their nodes may stand for the ways to them, no
-/// way is made.
+/// The same of groups whose keys lie in a tree. Where their nodes may stand for the ways to them,
+/// no way is made.
 pub(crate) fn parts_below_keys(
     alloc: Global,
     tree: &Context,

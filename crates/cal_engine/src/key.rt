@@ -31,7 +31,7 @@ impl GroupKey {
         self.imms
     }
 
-    /// The node of its path, where it has no other one and no immediates; the root where it has none.
+    /// The node of its only path, or the root where it has none; nothing beside immediates.
     pub(crate) fn only_node(&self) -> Option<NodeNumber>
         ensures { IfSome result (IsOnly self.now) }
     {
