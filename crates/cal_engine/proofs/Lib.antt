@@ -31,3 +31,4 @@ pub mod SnapshotRanking
 pub mod MovedNumbers
 pub mod AnswerParts
 pub mod KeyWays
+pub mod OwnNodes

@@ -9,9 +9,9 @@ use Rattle.cal_value.specs.declared.record.Rec.{Rec}
 use Rattle.cal_engine.specs.Finishing.{parts_where}
 use Rattle.cal_engine.specs.Parts.{Gathered, merged_parts}
 use Rattle.cal_engine.specs.Rows.{is_below}
-use Rattle.cal_engine.specs.Totals.{AreTotals, AreWays, IsAddedAbove}
+use Rattle.cal_engine.specs.Totals.{AreTotals, AreWays, AreWaysBehind, IsAddedAbove}
 use Rattle.cal_engine.specs.Trails.{begins, trail}
-use Rattle.cal_engine.proofs.Trails.{begins-trail}
+use Rattle.cal_engine.proofs.Trails.{begins-behind, begins-trail}
 
 -- ---- parts of those that pass a test
 
@@ -98,26 +98,36 @@ map-map : {A B C : Type 0} (g : B → C) (f : A → B) (xs : List A) → map g (
 map-map g f [] = refl
 map-map g f (x ∷ xs) = ap (λ ys. g (f x) ∷ ys) (map-map g f xs)
 
-module _ (t : Tree) (keys : List Rec) (nodes : List NodeNumber) (parts : List (List Gathered)) (none : List Gathered) where
-  -- the parts of the nodes whose paths a path begins
+module _ (t : Tree) (front : List Entry) (keys : List Rec) (nodes : List NodeNumber) (parts : List (List Gathered)) (none : List Gathered) where
+  -- the parts of the nodes whose paths a path begins, behind the same entries
   abbrev below_path : List Entry → List Gathered
-  below_path path = fold merged_parts none (parts_where (λ m. begins path (path_at t m)) nodes parts)
+  below_path path = fold merged_parts none (parts_where (λ m. begins path (front ++ path_at t m)) nodes parts)
 
-  below_trail : AreWays t keys nodes → (key : Rec) → below_path (trail key) ≡ fold merged_parts none (parts_where (is_below key) keys parts)
+  below_node : (n : NodeNumber) → fold merged_parts none (parts_where (λ m. begins (path_at t n) (path_at t m)) nodes parts) ≡ below_path (front ++ path_at t n)
+  below_node n = ap (fold merged_parts none)
+      (parts_where-alike (λ m. begins (path_at t n) (path_at t m)) (λ m. begins (front ++ path_at t n) (front ++ path_at t m))
+      (λ m. sym (begins-behind front (path_at t n) (path_at t m))) nodes parts)
+
+  below_trail : AreWaysBehind t front keys nodes → (key : Rec) → below_path (trail key) ≡ fold merged_parts none (parts_where (is_below key) keys parts)
   below_trail ways key = ap (fold merged_parts none) (
-      sym (parts_where-map (begins (trail key)) (path_at t) nodes parts)
+      sym (parts_where-map (begins (trail key)) (λ n. front ++ path_at t n) nodes parts)
       ∙ ap (λ ps. parts_where (begins (trail key)) ps parts) ways.paths
       ∙ parts_where-map (begins (trail key)) trail keys parts
       ∙ parts_where-alike (λ other. begins (trail key) (trail other)) (is_below key) (begins-trail key) keys parts)
 
   pub totals_below : (totals below : List (List Gathered))
-      → AreWays t keys nodes → AreTotals t nodes parts none totals
+      → AreWaysBehind t front keys nodes → AreTotals t nodes parts none totals
       → below ≡ map (λ n. get_or totals n.0 []) nodes
       → below ≡ map (λ key. fold merged_parts none (parts_where (is_below key) keys parts)) keys
   totals_below totals below ways are is =
       is
-      ∙ map-alike (λ n. get_or totals n.0 []) (λ n. below_path (path_at t n)) nodes (λ k d l. are.at (get_or nodes k d) [] (ways.within k d l))
-      ∙ sym (map-map below_path (path_at t) nodes)
+      ∙ map-alike (λ n. get_or totals n.0 []) (λ n. below_path (front ++ path_at t n)) nodes
+      (λ k d l. are.at (get_or nodes k d) [] (ways.within k d l) ∙ below_node (get_or nodes k d))
+      ∙ sym (map-map below_path (λ n. front ++ path_at t n) nodes)
       ∙ ap (map below_path) ways.paths
       ∙ map-map below_path trail keys
       ∙ map-alike (λ key. below_path (trail key)) (λ key. fold merged_parts none (parts_where (is_below key) keys parts)) keys (λ k d l. below_trail ways (get_or keys k d))
+
+-- ways are behind nothing
+pub ways_behind : (t : Tree) (keys : List Rec) (nodes : List NodeNumber) → AreWays t keys nodes → AreWaysBehind t [] keys nodes
+ways_behind t keys nodes ways = record { within = ways.within; paths = ways.paths }

@@ -109,3 +109,18 @@ trail_decides other group =
 
 pub begins-trail : (other group : Rec) → begins (trail other) (trail group) ≡ is_below other group
 begins-trail other group = same_from_decides _ _ (trail_decides other group) (below_decides other group)
+
+-- whether a path begins with another doesn't hang on what stands before both
+front_behind : (front one other : List Entry) → IsFront one other → IsFront (front ++ one) (front ++ other)
+front_behind front one other f = (f.0, ap (λ es. front ++ es) f.1 ∙ sym (append_assoc front one f.0))
+
+front_without : (front one other : List Entry) → IsFront (front ++ one) (front ++ other) → IsFront one other
+front_without front one other f =
+    (f.0, (split_equal front front other (one ++ f.0) refl (f.1 ∙ append_assoc front one f.0)).1)
+
+pub begins-behind : (front one other : List Entry) → begins (front ++ one) (front ++ other) ≡ begins one other
+begins-behind front one other =
+    same_from_decides _ _
+    (Decides-like (begins (front ++ one) (front ++ other)) (front_without front one other) (front_behind front one other)
+    (begins_decides (front ++ one) (front ++ other)))
+    (begins_decides one other)

@@ -25,3 +25,4 @@ pub mod FoldGrows
 pub mod Results
 pub mod SnapshotRanks
 pub mod Moves
+pub mod OwnWays

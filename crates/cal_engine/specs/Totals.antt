@@ -26,6 +26,12 @@ pub record AreWays (t : Tree) (keys : List Rec) (nodes : List NodeNumber) : Type
   pub within : All (λ n. n.0 < length t.paths) nodes
   pub paths : map (path_at t) nodes ≡ map trail keys
 
+-- Nodes stand to each other as the ways to groups do: their paths behind some entries are these.
+pub record AreWaysBehind (t : Tree) (front : List Entry) (keys : List Rec)
+    (nodes : List NodeNumber) : Type 0 where
+  pub within : All (λ n. n.0 < length t.paths) nodes
+  pub paths : map (λ n. front ++ path_at t n) nodes ≡ map trail keys
+
 -- Parts were added at a node, and at each node whose path begins the node's.
 pub record IsAddedAbove (t : Tree) (node : NodeNumber) (parts : List Gathered)
     (old new : List (List Gathered)) : Type 0 where

@@ -24,6 +24,10 @@ trail key =
     mark (length (beside key)) ∷ mark (length key.imms)
     ∷ (beside key ++ (key.imms ++ hierarchy key))
 
+-- the marks of a way on which there are no other entries
+abbrev pub no_marks : List Entry
+no_marks = mark 0 ∷ mark 0 ∷ []
+
 -- whether an entry of a path is of the hierarchy, or one of the others
 abbrev pub is_chosen : Bool → Entry → Bool
 is_chosen true e = is_of_hierarchy e.attr

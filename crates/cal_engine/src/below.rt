@@ -1,13 +1,15 @@
 ghost use Rattle.std.specs.Prelude.{◌≡◌, ◌<◌, [], List, length, fold, map, replicate};
 ghost use Rattle.std.specs.Prelude.{slice_index_or, All, IfOk};
+ghost use Rattle.cal_value.specs.declared.attribute.Entry.{Entry as AnEntry};
 ghost use Rattle.cal_value.specs.declared.record.Rec.{Rec as ARecord};
 ghost use Rattle.cal_engine.specs.Finishing.{parts_where};
 ghost use Rattle.cal_engine.specs.Keys.{key_in};
 ghost use Rattle.cal_engine.specs.Parts.{merged_parts as merged_by_place};
 ghost use Rattle.cal_engine.specs.Rows.{is_below};
-ghost use Rattle.cal_engine.specs.Totals.{AreTotals, AreWays};
+ghost use Rattle.cal_engine.specs.Totals.{AreTotals, AreWaysBehind};
 
 use crate::key::GroupKey;
+use crate::own_ways::own_ways;
 use crate::part::Part;
 use crate::upwards::add_upwards;
 use crate::ways::{ways_to, ways_to_keys};
@@ -33,8 +35,29 @@ pub(crate) fn parts_below(
     Ok(below)
 }
 
-/// The same of groups whose keys lie in a tree.
+/// The same of groups whose keys lie in a tree. Where their nodes may stand for the ways to them,
+/// no way is made.
 pub(crate) fn parts_below_keys(
+    alloc: Global,
+    tree: &Context,
+    keys: &[GroupKey],
+    parts: &[Seq<Part>],
+    none: &Seq<Part>,
+) -> Result<Vec<Seq<Part>>, OutOfMemory>
+    requires { length parts.now ≡ length keys.now }
+    ensures { IfOk result (λ below. below.items ≡ map (λ key. fold merged_by_place none.now
+        (parts_where (is_below key) (map (key_in tree.now) keys.now) parts.now))
+        (map (key_in tree.now) keys.now)) }
+{
+    if let Some(nodes) = own_ways(alloc, tree, keys)? {
+        let below = gathered_below(alloc, tree, &nodes, parts, none)?;
+        return Ok(below);
+    }
+    parts_below_ways(alloc, tree, keys, parts, none)
+}
+
+/// The same, by ways that are made.
+fn parts_below_ways(
     alloc: Global,
     tree: &Context,
     keys: &[GroupKey],
@@ -62,8 +85,9 @@ fn gathered_below(
 ) -> Result<Vec<Seq<Part>>, OutOfMemory>
     requires within { All (λ n. n.0 < length context.now.paths) nodes.now }
     requires alike { length parts.now ≡ length nodes.now }
-    ensures { IfOk result (λ below. (keys : List ARecord) → AreWays context.now keys nodes.now
-        → below.items ≡ map (λ key. fold merged_by_place none.now
+    ensures { IfOk result (λ below. (front : List AnEntry) (keys : List ARecord)
+        → AreWaysBehind context.now front keys nodes.now → below.items
+        ≡ map (λ key. fold merged_by_place none.now
         (parts_where (is_below key) keys parts.now)) keys) }
 {
     let totals = totals(alloc, context, nodes, parts, none)?;

@@ -1,8 +1,10 @@
-ghost use Rattle.std.specs.Prelude.{◌≡◌, ℕ, None, Some, List, map, IfOk, OnOk};
+ghost use Rattle.std.specs.Prelude.{◌≡◌, ℕ, None, Some, List, map, IfOk, IfSome, OnOk};
+ghost use Rattle.std.specs.Prelude.{slice_index_or};
 ghost use Rattle.cal_context.specs.Snapshots.{IsIn, meaning};
 ghost use Rattle.cal_context.specs.Tree.{Grows, path_at};
 ghost use Rattle.cal_engine.specs.Groups.{group_of as group_by};
 ghost use Rattle.cal_engine.specs.Keys.{IsKeyOf, key_in};
+ghost use Rattle.cal_engine.specs.OwnWays.{IsOnly};
 ghost use Rattle.cal_engine.specs.Sieves.{AreReadySieves};
 
 use crate::immediates::immediates_of;
@@ -29,6 +31,16 @@ impl GroupKey {
         self.imms
     }
 
+    /// The node of its only path, or the root where it has none; nothing beside immediates.
+    pub(crate) fn only_node(&self) -> Option<NodeNumber>
+        ensures { IfSome result (IsOnly self.now) }
+    {
+        if self.imms.0 != 0 || self.paths.len() > 1 {
+            return None;
+        }
+        Some(first_of(self.paths.as_slice()))
+    }
+
     /// The room that its paths take.
     pub(crate) fn into_room(self) -> Vec<NodeNumber> {
         self.paths.into_vec()
@@ -50,6 +62,13 @@ impl TryCopy for GroupKey {
             imms: self.imms,
         })
     }
+}
+
+/// The first node, or else the root.
+fn first_of(nodes: &[NodeNumber]) -> NodeNumber
+    ensures { result ≡ slice_index_or nodes.now 0 (record { 0 = 0 }) }
+{
+    nodes.first().copied().unwrap_or(NodeNumber::ROOT)
 }
 
 /// The key of a record without GROUP BY, in the tree of its context. `room` is what its paths may

@@ -23,6 +23,7 @@ mod kernel_results;
 mod key;
 mod moving;
 mod numbered;
+mod own_ways;
 mod part;
 mod reading;
 mod sieve;

@@ -1,10 +1,12 @@
 use Rattle.std.proofs.Common.{map, sym, subst}
 use Rattle.cal_engine.specs.Keys.{key_in}
-use Rattle.cal_engine.specs.Totals.{AreWays}
+use Rattle.cal_engine.specs.Totals.{AreWaysBehind}
+use Rattle.cal_engine.specs.Trails.{no_marks}
 use Rattle.cal_engine.proofs.below.parts_below_keys.Goals as goal
 
-pub returns : goal.returns
-returns c =
-    let keys = map (key_in c.args.tree.now) c.args.keys.now in
-    c.in_ok-below.ensures keys
-    (subst (AreWays c.ways_to_keys.new.context keys) (sym c.deref.ensures.value) c.in_ok-nodes.ensures)
+pub returns-in-Some : goal.returns-in-Some
+returns-in-Some c =
+    let t = c.args.tree.now in
+    let keys = map (key_in t) c.args.keys.now in
+    let ways = rw c.in-Some.is at c.in_ok-nodes.ensures in
+    c.in_ok-below.ensures no_marks keys (subst (AreWaysBehind t no_marks keys) (sym c.deref.ensures.value) ways)

@@ -1,0 +1,102 @@
+-- The own nodes of keys as ways to their groups.
+use Rattle.std.proofs.Common.{◌≡◌, ℕ, zero, suc, ◌+◌, ◌<◌, ◌≤◌, true, false, not, List, [], ◌∷◌, ◌++◌, ◌⊎◌, inl, inr, length, get_or, map, take, filter, refl, sym, subst, ap, ◌∙◌, arith, append-nil}
+use Rattle.std.specs.List.{All}
+use Rattle.std.proofs.lemmas.Bool.{cases_lt}
+use Rattle.std.proofs.lemmas.List.{map-append, take_more}
+use Rattle.std.proofs.lemmas.List.Elements.{All-head, All-nil, All-push, All-tail}
+use Rattle.cal_context.specs.Children.{IsLinked}
+use Rattle.cal_context.specs.Tree.{Tree, IsContext, attribute_at, path_at, value_at}
+use Rattle.cal_context.specs.declared.numbers.Link.{Link}
+use Rattle.cal_context.specs.declared.numbers.NodeNumber.{NodeNumber}
+use Rattle.cal_rowset.specs.Hierarchy.{hierarchy, is_of_hierarchy}
+use Rattle.cal_value.specs.Flat.{joined}
+use Rattle.cal_value.specs.declared.attribute.Entry.{Entry}
+use Rattle.cal_engine.specs.Keys.{key_in}
+use Rattle.cal_engine.specs.OwnWays.{AreNestedBefore, IsNestedAt, IsOnly}
+use Rattle.cal_engine.specs.Rows.{beside}
+use Rattle.cal_engine.specs.Totals.{AreWaysBehind}
+use Rattle.cal_engine.specs.Trails.{mark, no_marks, trail}
+use Rattle.cal_engine.specs.declared.key.GroupKey.{GroupKey}
+use Rattle.cal_engine.proofs.Reaching.{leads-none}
+
+abbrev is_nested : Entry → Type 0
+is_nested e = is_of_hierarchy e.attr ≡ true
+
+pub nested_root : (t : Tree) (n : NodeNumber) → n.0 < length t.paths → path_at t n ≡ [] → IsNestedAt t n
+nested_root t n within none = record { within = within; nested = subst (All is_nested) (sym none) (All-nil is_nested) }
+
+pub nested_child : (t : Tree) (l : Link) (n : NodeNumber) → IsLinked t l n → is_of_hierarchy (attribute_at t l.attribute) ≡ true
+    → AreNestedBefore t n.0 → IsNestedAt t n
+nested_child t l n linked nested before = record {
+  within = linked.child.within;
+  nested = subst (All is_nested) (sym linked.child.path)
+      (All-push is_nested (path_at t l.parent) (record { attr = attribute_at t l.attribute; value = value_at t l.value })
+      (before l.parent linked.child.later).nested nested);
+}
+
+pub nested_next : (t : Tree) (place : ℕ) (n : NodeNumber) → n.0 ≡ place → IsNestedAt t n → AreNestedBefore t place → AreNestedBefore t (place + 1)
+nested_next t place n is here before m l = by (cases_lt m.0 place)
+  where
+    by : ((m.0 < place) ⊎ (place ≤ m.0)) → IsNestedAt t m
+    by (inl short) = before m short
+    by (inr long) =
+        let e : n.0 ≡ m.0 = omega arith in
+        let same : n ≡ m = λ i. record { 0 = e i } in
+        subst (IsNestedAt t) same here
+
+-- entries of the hierarchy are all chosen, and none of the others is
+all_nested : (es : List Entry) → All is_nested es → filter (λ e. is_of_hierarchy e.attr) (es ++ []) ≡ es
+all_nested [] h = refl
+all_nested (e ∷ es) h =
+    let first = All-head is_nested e es h in
+    rw first (ap (λ xs. e ∷ xs) (all_nested es (All-tail is_nested e es h)))
+
+none_beside : (es : List Entry) → All is_nested es → filter (λ e. not (is_of_hierarchy e.attr)) (es ++ []) ≡ []
+none_beside [] h = refl
+none_beside (e ∷ es) h =
+    let first = All-head is_nested e es h in
+    rw first (none_beside es (All-tail is_nested e es h))
+
+-- the way to a group whose key is a node's path alone
+pub own_way : (t : Tree) (k : GroupKey) (n : NodeNumber) → IsContext t → AreNestedBefore t (length t.paths) → IsOnly k n → n.0 < length t.paths
+    → trail (key_in t k) ≡ no_marks ++ path_at t n
+own_way t k n context nested only within = by k.paths refl
+  where
+    root : NodeNumber
+    root = record { 0 = 0 }
+
+    imms : path_at t k.imms ≡ []
+    imms = let same : k.imms ≡ root = λ i. record { 0 = only.imms i } in ap (path_at t) same ∙ (leads-none t context).is
+
+    trail_of : List (List Entry) → List Entry → List Entry
+    trail_of paths entries = trail (record { paths = paths; imms = entries })
+
+    one : (m : NodeNumber) → n ≡ m → trail_of (path_at t m ∷ []) [] ≡ no_marks ++ path_at t n
+    one m same =
+        let all = (nested n within).nested in
+        ap (λ x. trail_of (path_at t x ∷ []) []) (sym same)
+        ∙ (λ i. mark (length (none_beside (path_at t n) all i)) ∷ mark 0 ∷ (none_beside (path_at t n) all i ++ all_nested (path_at t n) all i))
+
+    by : (ns : List NodeNumber) → k.paths ≡ ns → trail (key_in t k) ≡ no_marks ++ path_at t n
+    by [] e =
+        let same : n ≡ root = only.node ∙ ap (λ ns. get_or ns 0 root) e in
+        (λ i. trail_of (map (path_at t) (e i)) (imms i))
+        ∙ ap (λ es. no_marks ++ es) (sym (ap (path_at t) same ∙ (leads-none t context).is))
+    by (m ∷ []) e =
+        (λ i. trail_of (map (path_at t) (e i)) (imms i))
+        ∙ one m (only.node ∙ ap (λ ns. get_or ns 0 root) e)
+    by (m ∷ o ∷ ns) e = absurd (omega (arith, only.few, ap length e))
+
+-- one key more
+pub own_next : (t : Tree) (keys : List GroupKey) (i : ℕ) (key : GroupKey) (nodes : List NodeNumber) (n : NodeNumber) → i < length keys → key ≡ get_or keys i key
+    → AreWaysBehind t no_marks (map (key_in t) (take i keys)) nodes → n.0 < length t.paths → trail (key_in t key) ≡ no_marks ++ path_at t n
+    → AreWaysBehind t no_marks (map (key_in t) (take (i + 1) keys)) (nodes ++ n ∷ [])
+own_next t keys i key nodes n within is ways inside way = record {
+  within = All-push (λ m. m.0 < length t.paths) nodes n ways.within inside;
+  paths =
+      map-append (λ m. no_marks ++ path_at t m) nodes (n ∷ [])
+      ∙ (λ j. ways.paths j ++ sym way j ∷ [])
+      ∙ sym (ap (λ ks. map trail (map (key_in t) ks)) (take_more keys i key within ∙ ap (λ k. take i keys ++ k ∷ []) (sym is))
+      ∙ ap (map trail) (map-append (key_in t) (take i keys) (key ∷ []))
+      ∙ map-append trail (map (key_in t) (take i keys)) (key_in t key ∷ []));
+}
