@@ -3,7 +3,7 @@ use Rattle.cal_context.proofs.CallerLemmas.{Grows-trans}
 use Rattle.cal_context.specs.declared.numbers.ValueNumber.{ValueNumber}
 use Rattle.cal_run.specs.Numbers.{ValuesStand}
 use Rattle.cal_run.proofs.NumberLemmas.{values_more}
-use Rattle.cal_run.proofs.numbers.number_values.Goals as goal
+use Rattle.cal_run.proofs.numbers.number_kept.Goals as goal
 
 pub loop-value-preserved : goal.loop-value-preserved
 loop-value-preserved c =
