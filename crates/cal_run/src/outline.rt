@@ -47,6 +47,7 @@ impl<'a> NodeMaker<&'a Variant, Nothing> for Outliner {
 }
 
 /// Does to the outline of a board what an operation does to the board.
+#[tactic(auto, using(crate::proofs::OutlineLemmas::value_there))]
 pub(crate) fn operate_outline(
     alloc: Global,
     script: &Script,

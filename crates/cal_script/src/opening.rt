@@ -31,11 +31,7 @@ pub(crate) struct Opening<'a> {
 impl Reader {
     #[inline(always)]
     #[tactic(auto, using(crate::proofs::Values::made_small))]
-    fn opening_of<'a>(
-        &self,
-        alloc: Global,
-        rest: Option<&'a str>,
-    ) -> Result<Opening<'a>, LineEnd>
+    fn opening_of<'a>(&self, alloc: Global, rest: Option<&'a str>) -> Result<Opening<'a>, LineEnd>
         requires kept { IsReading self.now }
         requires fits { fits (state_of self.now) ≡ true }
         ensures said { Gives (λ opening. opening) result

@@ -115,11 +115,7 @@ fn plain_text(spelled: &str) -> Option<&str>
 
 /// The value of a kind that a VALUE says.
 #[inline(always)]
-pub(crate) fn read_value(
-    alloc: Global,
-    kind: Kind,
-    spelled: &str,
-) -> Result<Said<'_>, LineEnd>
+pub(crate) fn read_value(alloc: Global, kind: Kind, spelled: &str) -> Result<Said<'_>, LineEnd>
     ensures allowed { IfOk result (λ value. IsTrue (is_allowed value)) }
     ensures said { Gives (λ value. value) result (value_said kind spelled.now) }
 {

@@ -7,6 +7,6 @@ use Rattle.cal_script.proofs.value_list.place_of.Goals as goal
 pub returns-in-Text : goal.returns-in-Text
 returns-in-Text c =
     let seen = c.in_ok-known.ensures.lookup in
-    let same : c.as_str.result.now ≡ c.args.text.now = (bytes_decides c.as_str.result.now c.args.text.now).0 (sym (c.if-eq.ensures tt)) in
-    slice_get-get_or c.args.kept.now c.in_ok-place.field-0.now c.in_ok-known.field-0.now seen.1.1.1.0
+    let same : c.as_str.result.now ≡ c.args.text.now = (bytes_decides c.as_str.result.now c.args.text.now).0 (sym c.if-eq.ensures) in
+    slice_get-get_or c.args.kept.now c.in_ok-place.field-0.now c.in_ok-known.field-0.now seen.1.1.1.0.0
     ∙ ap Some (sym seen.1.0 ∙ c.in-Text.is ∙ ap variant.Text (sym c.as_str.ensures ∙ same))
