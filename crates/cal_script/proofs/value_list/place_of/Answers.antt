@@ -8,5 +8,5 @@ pub returns-in-Text : goal.returns-in-Text
 returns-in-Text c =
     let seen = c.in_ok-known.ensures.lookup in
     let same : c.as_str.result.now ≡ c.args.text.now = (bytes_decides c.as_str.result.now c.args.text.now).0 (sym c.if-eq.ensures) in
-    slice_get-get_or c.args.kept.now c.in_ok-place.field-0.now c.in_ok-known.field-0.now seen.1.1.1.0.0
-    ∙ ap Some (sym seen.1.0 ∙ c.in-Text.is ∙ ap variant.Text (sym c.as_str.ensures ∙ same))
+    slice_get-get_or c.args.kept.now c.in_ok-place.field-0.now c.in_ok-known.field-0.now seen.3.0
+    ∙ ap Some (sym seen.1 ∙ c.in-Text.is ∙ ap variant.Text (sym c.as_str.ensures ∙ same))
