@@ -103,7 +103,8 @@ fn number_values(
 {
     let (kept, places) = values.parts();
     let numbers = number_kept(alloc, kept, context)?;
-    place_numbers(alloc, numbers.as_slice(), places)
+    let placed = place_numbers(alloc, numbers.as_slice(), places)?;
+    Ok(placed)
 }
 
 /// The numbers at these places.
