@@ -1,6 +1,7 @@
 pub mod HeldLemmas
 pub mod FillLemmas
 pub mod NumberLemmas
+pub mod PlacedNumbers
 pub mod ServiceLemmas
 pub mod LineLemmas
 pub mod RunLemmas

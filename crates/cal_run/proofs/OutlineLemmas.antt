@@ -1,10 +1,12 @@
 -- An operation does to the outline of a board what it does to the board.
-use Rattle.std.proofs.Common.{◌≡◌, subst, sym, refl}
+use Rattle.std.proofs.Common.{◌≡◌, Some, slice_get, subst, sym, refl}
+use Rattle.std.proofs.lemmas.Option.{get_or_from_slice_get}
 use Rattle.cal_board.proofs.StandingLemmas.{ended-Stands}
 use Rattle.cal_board.specs.Blackboard.{Blackboard, board_after, ended}
 use Rattle.cal_board.specs.declared.attr.AttrRef.{AttrRef}
 use Rattle.cal_run.specs.History.{board_with}
 use Rattle.cal_run.specs.Lines.{attr_ref, value_of}
+use Rattle.cal_context.specs.Tree.{no_value}
 use Rattle.cal_run.specs.Noting.{Outlines, OutlinesThen}
 use Rattle.cal_run.specs.declared.operation.Operation.{Operation}
 use Rattle.cal_run.specs.declared.outline.Nothing.{Nothing}
@@ -29,3 +31,8 @@ ended-outlined script held new op a ec ea after =
     (λ b is. subst (λ (h : Blackboard Nothing). Outlines h
     (board_after b code.End a (value_of script op) (value_of script op)))
     (sym after) (ended-Stands (λ _ _. Unit {0}) held b a (value_of script op) is))
+
+-- the value that an operation opens stands at its place
+pub value_there : (script : Script) (op : Operation) (v : Variant)
+    → slice_get script.values op.value ≡ Some v → v ≡ value_of script op
+value_there script op v is = sym (get_or_from_slice_get script.values op.value v no_value is)

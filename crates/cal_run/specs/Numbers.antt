@@ -1,5 +1,5 @@
 -- How what a run needs stands in a context, by numbers.
-use Rattle.std.specs.Prelude.{◌≡◌, ◌<◌, List, length, map, All}
+use Rattle.std.specs.Prelude.{◌≡◌, ℕ, ◌<◌, List, length, map, All, slice_index_or}
 use Rattle.std.specs.List.{AllZip}
 use Rattle.cal_context.specs.Lists.{IsFront}
 use Rattle.cal_context.specs.Tree.{Tree, attribute_at, value_at}
@@ -18,6 +18,10 @@ use Rattle.cal_words.specs.declared.op.OpCode.TheVariants as code
 pub record IsNumber (t : Tree) (n : AttributeNumber) (a : Attribute) : Type 0 where
   pub within : n.0 < length t.attributes
   pub is : attribute_at t n ≡ a
+
+-- the number at a place
+abbrev pub number_in : List ValueNumber → ℕ → ValueNumber
+number_in numbers place = slice_index_or numbers place (record { 0 = 0 })
 
 -- values have these numbers, place by place
 pub record ValuesStand (t : Tree) (ns : List ValueNumber) (vs : List Variant) : Type 0 where

@@ -1,13 +1,13 @@
-ghost use Rattle.std.specs.Prelude.{◌≡◌, [], IfOk, OnOk};
+ghost use Rattle.std.specs.Prelude.{◌≡◌, ◌<◌, [], length, map, All, IfOk, OnOk};
 ghost use Rattle.std.specs.List.{AllZip};
 ghost use Rattle.cal_context.specs.Lists.{IsFront};
 ghost use Rattle.cal_context.specs.Tree.{Grows};
-ghost use Rattle.cal_run.specs.Numbers.{AreNumbered, EventsStand, IsNumber, ValuesStand};
+ghost use Rattle.cal_run.specs.Numbers.{AreNumbered, EventsStand, IsNumber, ValuesStand, number_in};
 ghost use Rattle.cal_run.specs.Snapshots.{added, event_name, event_of};
 ghost use Rattle.cal_value.specs.declared.kind.Kind.TheVariants as kind;
 
 use cal_context::{AttributeNumber, Context, ValueNumber};
-use cal_script::Script;
+use cal_script::{Script, ValueList};
 use cal_value::{Attribute, Kind, OutOfMemory, Props, Text, Variant};
 use cal_words::OpCode;
 use std::alloc::Global;
@@ -60,7 +60,7 @@ impl Numbers {
         ensures numbered { IfOk result (AreNumbered context.new script.now) }
         ensures grows { Grows context.old context.new }
     {
-        let values = number_values(alloc, script.values.as_slice(), context)?;
+        let values = number_values(alloc, &script.values, context)?;
         let events = number_events(alloc, script.attributes.as_slice(), context)?;
         let duration = number_uint(alloc, "time.duration.ns", context)?;
         let inclusive = number_uint(alloc, "time.inclusive.duration.ns", context)?;
@@ -92,7 +92,38 @@ fn place_attributes(attributes: &[Attribute], context: &mut Context) -> Result<(
     Ok(())
 }
 
+/// Gives values their numbers. One that is kept for several is looked up once.
 fn number_values(
+    alloc: Global,
+    values: &ValueList,
+    context: &mut Context,
+) -> Result<Vec<ValueNumber>, OutOfMemory>
+    ensures numbered { IfOk result (λ numbers. ValuesStand context.new numbers.items values.now) }
+    ensures grows { Grows context.old context.new }
+{
+    let (kept, places) = values.parts();
+    let numbers = number_kept(alloc, kept, context)?;
+    let placed = place_numbers(alloc, numbers.as_slice(), places)?;
+    Ok(placed)
+}
+
+/// The numbers at these places.
+fn place_numbers(
+    alloc: Global,
+    numbers: &[ValueNumber],
+    places: &[u32],
+) -> Result<Vec<ValueNumber>, OutOfMemory>
+    requires { All (λ place. place < length numbers.now) places.now }
+    ensures { IfOk result (λ placed. placed.items ≡ map (number_in numbers.now) places.now) }
+{
+    let mut placed = Vec::with_capacity(alloc, places.len())?;
+    for place in places {
+        placed.push(numbers[*place as usize])?;
+    }
+    Ok(placed)
+}
+
+fn number_kept(
     alloc: Global,
     values: &[Variant],
     context: &mut Context,

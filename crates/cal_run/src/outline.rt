@@ -47,6 +47,7 @@ impl<'a> NodeMaker<&'a Variant, Nothing> for Outliner {
 }
 
 /// Does to the outline of a board what an operation does to the board.
+#[tactic(auto, using(crate::proofs::OutlineLemmas::value_there))]
 pub(crate) fn operate_outline(
     alloc: Global,
     script: &Script,
@@ -61,12 +62,12 @@ pub(crate) fn operate_outline(
     let attr = attr_ref(script, op.attr);
     match op.code {
         OpCode::Begin => {
-            let value = &script.values.as_slice()[op.value as usize];
+            let value = script.values.at(op.value as usize);
             let _reply = board.begin(alloc, &mut outliner, attr, value)?;
             Ok(())
         }
         OpCode::Set => {
-            let value = &script.values.as_slice()[op.value as usize];
+            let value = script.values.at(op.value as usize);
             let _reply = board.set(alloc, &mut outliner, attr, value)?;
             Ok(())
         }

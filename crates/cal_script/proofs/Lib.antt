@@ -5,3 +5,4 @@ pub mod LastChannel
 pub mod Runs
 pub mod FirstWords
 pub mod Plain
+pub mod Kept

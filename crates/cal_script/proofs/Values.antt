@@ -1,5 +1,5 @@
 -- Numbers that words write.
-use Rattle.std.proofs.Common.{◌≡◌, ℕ, ◌≤◌, Bool, length, true, false, cond, leb, List, refl, sym, arith, lit≤}
+use Rattle.std.proofs.Common.{◌≡◌, ℕ, ◌+◌, ◌/◌, ◌≤◌, Bool, length, true, false, cond, leb, List, refl, sym, arith, lit≤}
 use Rattle.std.specs.Prelude.{Option, Some, None}
 use Rattle.std.specs.Option.{option_map, ok_or}
 use Rattle.std.proofs.lemmas.Bool.Decides.{nat_tests}
@@ -63,3 +63,7 @@ words_small false words le = lit≤ tt
 
 pub made_small : (attribute : Attribute) (value : Variant) → is_allowed value ≡ true → made_words attribute value ≤ 516
 made_small attribute value fine = words_small _ _ (node_small value fine)
+
+-- the words of the node of a text
+pub text_node : (text : List ℕ) → node_length (variant.Text text) ≡ 4 + (length text + 7) / 8
+text_node text = omega (arith, length-text_words text)

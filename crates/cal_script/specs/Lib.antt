@@ -9,3 +9,4 @@ pub mod Faults
 pub mod Registers
 pub mod Reader
 pub mod Steps
+pub mod Values

@@ -93,7 +93,7 @@ impl Reader {
         if !attribute.props.is_global() {
             return Err(LineEnd::Bad(ScriptKind::NotGlobal));
         }
-        let value = read_value(alloc, attribute.kind, value)?;
+        let value = read_value(alloc, attribute.kind, value)?.into_value(alloc)?;
         Ok(Entry {
             attr: attribute.copy(alloc)?,
             value,

@@ -10,8 +10,8 @@ use crate::end::LineEnd;
 use crate::register::Register;
 use crate::tally::{Tally, tree_words};
 use crate::words::{behind, first_word, is_skipped};
-use crate::{Channel, Line, Script, ScriptKind};
-use cal_value::{Attribute, Entry, OutOfMemory, Seq, Variant};
+use crate::{Channel, Line, Script, ScriptKind, ValueList};
+use cal_value::{Attribute, Entry, OutOfMemory, Seq};
 use std::alloc::Global;
 
 const MOST_ATTRIBUTES: usize = 1_024;
@@ -34,7 +34,7 @@ pub struct Reader {
     pub(crate) channels: Register<Channel>,
     pub(crate) valued: bool,
     pub(crate) globals: Register<Entry>,
-    pub(crate) values: Seq<Variant>,
+    pub(crate) values: ValueList,
     pub(crate) earlier: Seq<Seq<Line>>,
     pub(crate) in_thread: bool,
     pub(crate) lines: Seq<Line>,
@@ -55,7 +55,7 @@ impl Reader {
             channels: Register::new(alloc),
             valued: false,
             globals: Register::new(alloc),
-            values: Seq::new(alloc),
+            values: ValueList::new(alloc),
             earlier: Seq::new(alloc),
             in_thread: false,
             lines: Seq::new(alloc),
@@ -138,10 +138,10 @@ impl Reader {
         ensures threads { OnOk result (length self.new.earlier < 65) }
         ensures near { OnOk result (IsNear self.new.tally) }
     {
-        if let Some(rest) = behind(line, "begin") {
+        if let Some((_, rest)) = behind(line, "begin") {
             return self.read_begin(alloc, Some(rest));
         }
-        if let Some(rest) = behind(line, "end") {
+        if let Some((_, rest)) = behind(line, "end") {
             return self.read_end(Some(rest));
         }
         let (word, rest) = first_word(line);

@@ -1,4 +1,5 @@
-use cal_value::{Attribute, Entry, Seq, Text, Variant};
+use crate::ValueList;
+use cal_value::{Attribute, Entry, Seq, Text};
 
 /// What a script declares and what its threads do.
 #[derive(Debug, Drop)]
@@ -6,7 +7,7 @@ pub struct Script {
     pub attributes: Seq<Attribute>,
     pub channels: Seq<Channel>,
     /// The values that lines open, in the order of the lines. A value may stand more than once.
-    pub values: Seq<Variant>,
+    pub values: ValueList,
     /// The lines of each thread.
     pub threads: Seq<Seq<Line>>,
     /// What the `global` lines say, in the order of the lines.

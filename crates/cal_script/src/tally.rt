@@ -2,7 +2,9 @@ ghost use Rattle.std.specs.Prelude.{◌≡◌, ◌≤◌, ◌<◌, max};
 ghost use Rattle.cal_script.specs.Limits.{arena, tree_words};
 ghost use Rattle.cal_script.specs.Reader.{IsNear, IsSmall};
 ghost use Rattle.cal_script.specs.State.{counted, made_words, next_thread, node_length};
+ghost use Rattle.cal_value.specs.declared.variant.Variant.TheVariants as variant;
 
+use crate::said::{Said, SaidForm};
 use cal_value::{Attribute, Variant};
 use cal_words::{NodeId, NodeRec, Packed};
 
@@ -75,14 +77,23 @@ pub(crate) fn tree_words(threads: u64, arena: u64) -> u64
 }
 
 /// The words of the node that a line of an attribute makes for a value.
-pub(crate) fn made_words(attribute: &Attribute, value: &Variant) -> u64
+pub(crate) fn made_words(attribute: &Attribute, value: &Said<'_>) -> u64
     ensures { result ≡ made_words attribute.now value.now }
 {
-    if attribute.props.is_reference() {
-        node_length(value)
-    } else {
-        0
+    if !attribute.props.is_reference() {
+        return 0;
     }
+    match &value.form {
+        SaidForm::Text(text) => text_node_length(text),
+        SaidForm::Value(value) => node_length(value),
+    }
+}
+
+#[tactic(auto, using(crate::proofs::Values::text_node))]
+fn text_node_length(text: &str) -> u64
+    ensures { result ≡ node_length (variant.Text text.now) }
+{
+    4 + (text.len() as u64 + 7) / 8
 }
 
 fn node_length(value: &Variant) -> u64

@@ -13,13 +13,11 @@ ghost use Rattle.cal_script.specs.declared.kind.ScriptKind.TheVariants as kinds;
 ghost use Rattle.cal_script.specs.declared.script.Line.TheVariants as line;
 
 use crate::end::LineEnd;
-use crate::opening::Opening;
 use crate::reader::Reader;
-use crate::tally::made_words;
-use crate::value::{read_number, read_value};
-use crate::words::{behind, one_word, word_and_rest};
+use crate::value::read_number;
+use crate::words::one_word;
 use crate::{Channel, Line, ScriptKind};
-use cal_value::{OutOfMemory, Seq, Variant};
+use cal_value::{OutOfMemory, Seq};
 use std::alloc::Global;
 use std::mem;
 
@@ -54,162 +52,6 @@ impl Reader {
         self.end_thread(alloc)?;
         self.in_thread = true;
         self.tally = self.tally.next_thread();
-        Ok(())
-    }
-
-    /// The name of the attribute that a line named last.
-    #[inline(always)]
-    fn recent_name(&self) -> Option<&str>
-        requires { AreNamed self.now.attributes.items }
-        ensures { IfSome result (λ name. IsTrue (is_name name.now)) }
-    {
-        let attributes = self.attributes.items.as_slice();
-        if self.recent >= attributes.len() {
-            return None;
-        }
-        Some(attributes[self.recent].name.as_str())
-    }
-
-    /// The name of the attribute that a line named last and what stands behind its space, where a
-    /// text begins with them.
-    #[inline(always)]
-    #[tactic(auto, using(crate::proofs::FirstWords::name_and_rest_of))]
-    fn behind_recent<'a>(&'a self, text: &'a str) -> Option<(&'a str, &'a str)>
-        requires { AreNamed self.now.attributes.items }
-        ensures { IfSome result (λ words. word_and_rest (words_of text.now)
-            ≡ Some (words.0.now, words.1.now)) }
-    {
-        let name = self.recent_name()?;
-        let value = behind(text, name)?;
-        Some((name, value))
-    }
-
-    /// The word that stands there, and the rest of the line. The name that a line had last is tried
-    /// first, since that takes no search for its end.
-    #[inline(always)]
-    fn name_and_rest<'a>(&'a self, rest: Option<&'a str>) -> Option<(&'a str, &'a str)>
-        requires { AreNamed self.now.attributes.items }
-        ensures { option_map (λ words. (words.0.now, words.1.now)) result
-            ≡ word_and_rest (words_behind rest.entry) }
-    {
-        let text = rest?;
-        match self.behind_recent(text) {
-            Some((name, value)) => Some((name, value)),
-            None => word_and_rest(rest),
-        }
-    }
-
-    /// Whether a text is the name of the attribute that a line named last.
-    #[inline(always)]
-    fn is_recent(&self, text: &str) -> bool
-        requires { AreNamed self.now.attributes.items }
-        ensures { IsTrue result → is_name text.now ≡ true }
-    {
-        match self.recent_name() {
-            Some(name) => text == name,
-            None => false,
-        }
-    }
-
-    /// The one word that stands there. The name that a line had last is tried first.
-    #[inline(always)]
-    #[tactic(auto, using(crate::proofs::FirstWords::one_name_of))]
-    fn one_name<'a>(&self, rest: Option<&'a str>) -> Option<&'a str>
-        requires { AreNamed self.now.attributes.items }
-        ensures { option_map (λ word. word.now) result ≡ one_word (words_behind rest.entry) }
-    {
-        let text = rest?;
-        if self.is_recent(text) {
-            return Some(text);
-        }
-        one_word(rest)
-    }
-
-    #[inline(always)]
-    #[tactic(auto, using(crate::proofs::Values::made_small))]
-    fn opening_of(&self, alloc: Global, rest: Option<&str>) -> Result<Opening, LineEnd>
-        requires kept { IsReading self.now }
-        requires fits { fits (state_of self.now) ≡ true }
-        ensures said { Gives (λ opening. opening) result
-            (opening_said (state_of self.now) (words_behind rest.entry)) }
-        ensures small { IfOk result (λ opening. opening.words ≤ 516) }
-    {
-        let Some((name, value)) = self.name_and_rest(rest) else {
-            return Err(LineEnd::Bad(ScriptKind::WrongArity));
-        };
-        let Some((attr, attribute)) = self.named(name) else {
-            return Err(LineEnd::Bad(ScriptKind::UnknownName));
-        };
-        let value = read_value(alloc, attribute.kind, value)?;
-        Ok(Opening {
-            attr,
-            process: attribute.props.has_process_scope(),
-            words: made_words(attribute, &value),
-            value,
-        })
-    }
-
-    /// Puts the value of a line to the others, and says its place.
-    #[inline(always)]
-    fn add_value(&mut self, value: Variant) -> Result<u32, OutOfMemory>
-        requires kept { IsReading self.old }
-        requires fits { fits (state_of self.old) ≡ true }
-        ensures place { IfOk result (λ place. place ≡ length self.old.values) }
-        ensures added { OnOk result (self.new
-            ≡ record self.old { values = self.old.values ++ value ∷ [] }) }
-    {
-        let place = self.values.len();
-        self.values.push(value)?;
-        Ok(place as u32)
-    }
-
-    #[inline(always)]
-    pub(crate) fn read_begin(&mut self, alloc: Global, rest: Option<&str>) -> Result<(), LineEnd>
-        requires kept { IsReading self.old }
-        requires fits { fits (state_of self.old) ≡ true }
-        ensures said { Gives (λ _. state_of self.new) result
-            (opening_after line.Begin (state_of self.old) (words_behind rest.entry)) }
-        ensures kept { OnOk result (IsReading self.new) }
-        ensures earlier { OnOk result (self.new.earlier ≡ self.old.earlier) }
-        ensures near { OnOk result (IsNear self.new.tally) }
-    {
-        if !self.in_thread {
-            return Err(LineEnd::Bad(ScriptKind::Misplaced));
-        }
-        let Opening {
-            attr,
-            process,
-            words,
-            value,
-        } = self.opening_of(alloc, rest)?;
-        self.recent = attr as usize;
-        let value = self.add_value(value)?;
-        self.add_line(Line::Begin { attr, value }, process, words)?;
-        Ok(())
-    }
-
-    #[inline(always)]
-    pub(crate) fn read_set(&mut self, alloc: Global, rest: Option<&str>) -> Result<(), LineEnd>
-        requires kept { IsReading self.old }
-        requires fits { fits (state_of self.old) ≡ true }
-        ensures said { Gives (λ _. state_of self.new) result
-            (opening_after line.Set (state_of self.old) (words_behind rest.entry)) }
-        ensures kept { OnOk result (IsReading self.new) }
-        ensures earlier { OnOk result (self.new.earlier ≡ self.old.earlier) }
-        ensures near { OnOk result (IsNear self.new.tally) }
-    {
-        if !self.in_thread {
-            return Err(LineEnd::Bad(ScriptKind::Misplaced));
-        }
-        let Opening {
-            attr,
-            process,
-            words,
-            value,
-        } = self.opening_of(alloc, rest)?;
-        self.recent = attr as usize;
-        let value = self.add_value(value)?;
-        self.add_line(Line::Set { attr, value }, process, words)?;
         Ok(())
     }
 

@@ -6,9 +6,11 @@ ghost use Rattle.cal_script.specs.Parts.{allowed, is_allowed, is_short_number, n
 ghost use Rattle.cal_script.specs.Parts.{value_said};
 ghost use Rattle.cal_script.specs.Steps.{Gives, uint_inside};
 ghost use Rattle.cal_script.specs.declared.kind.ScriptKind.TheVariants as kinds;
+ghost use Rattle.cal_value.specs.declared.variant.Variant.TheVariants as variant;
 
 use crate::ScriptKind;
 use crate::end::LineEnd;
+use crate::said::{Said, SaidForm};
 use cal_line::{FieldEnd, unescape};
 use cal_value::{Kind, OutOfMemory, Text, ValueFault, Variant, parse_value};
 use memchr::memchr;
@@ -75,14 +77,30 @@ fn is_allowed(value: &Variant) -> bool
 }
 
 #[inline(always)]
-fn allowed(value: Variant) -> Result<Variant, LineEnd>
+fn allowed(value: Variant) -> Result<Said<'static>, LineEnd>
     ensures allowed { IfOk result (λ value. IsTrue (is_allowed value)) }
     ensures said { Gives (λ value. value) result (allowed value) }
 {
     if !is_allowed(&value) {
         return Err(LineEnd::Bad(ScriptKind::BadValue));
     }
-    Ok(value)
+    Ok(Said {
+        form: SaidForm::Value(value),
+    })
+}
+
+/// The value of a text of the kind `string`.
+#[inline(always)]
+fn allowed_text(text: &str) -> Result<Said<'_>, LineEnd>
+    ensures allowed { IfOk result (λ value. IsTrue (is_allowed value)) }
+    ensures said { Gives (λ value. value) result (allowed (variant.Text text.now)) }
+{
+    if text.len() > LONGEST_TEXT {
+        return Err(LineEnd::Bad(ScriptKind::BadValue));
+    }
+    Ok(Said {
+        form: SaidForm::Text(text),
+    })
 }
 
 /// The text that a VALUE spells, where no escape stands in it: the VALUE itself.
@@ -97,11 +115,14 @@ fn plain_text(spelled: &str) -> Option<&str>
 
 /// The value of a kind that a VALUE says.
 #[inline(always)]
-pub(crate) fn read_value(alloc: Global, kind: Kind, spelled: &str) -> Result<Variant, LineEnd>
+pub(crate) fn read_value(alloc: Global, kind: Kind, spelled: &str) -> Result<Said<'_>, LineEnd>
     ensures allowed { IfOk result (λ value. IsTrue (is_allowed value)) }
     ensures said { Gives (λ value. value) result (value_said kind spelled.now) }
 {
     if let Some(text) = plain_text(spelled) {
+        if let Kind::Str = kind {
+            return allowed_text(text);
+        }
         let value = written_value(alloc, kind, text)?;
         return allowed(value);
     }

@@ -30,13 +30,29 @@ pub fn cut(text: &str, mark: char) -> (&str, Option<&str>)
     }
 }
 
-/// What stands behind a word and the space that ends it, where a text begins with them.
+/// What stands before the space at a place and behind it, where one stands there.
 #[inline(always)]
-pub(crate) fn behind<'a>(text: &'a str, word: &str) -> Option<&'a str>
-    ensures { IfSome result (λ rest. text.now ≡ word.now ++ 32 ∷ rest.now) }
+fn cut_at(text: &str, place: usize) -> Option<(&str, &str)>
+    ensures { IfSome result (λ parts. text.now ≡ parts.0.now ++ 32 ∷ parts.1.now) }
 {
-    let rest = text.strip_prefix(word)?;
-    rest.strip_prefix(' ')
+    let bytes = text.as_bytes();
+    if place >= bytes.len() || bytes[place] != b' ' {
+        return None;
+    }
+    Some((&text[..place], &text[place + 1..]))
+}
+
+/// The word and what stands behind the space that ends it, where a text begins with them.
+#[inline(always)]
+pub(crate) fn behind<'a>(text: &'a str, word: &str) -> Option<(&'a str, &'a str)>
+    ensures parts { IfSome result (λ parts. text.now ≡ parts.0.now ++ 32 ∷ parts.1.now) }
+    ensures word { IfSome result (λ parts. parts.0.now ≡ word.now) }
+{
+    let (front, rest) = cut_at(text, word.len())?;
+    if front != word {
+        return None;
+    }
+    Some((front, rest))
 }
 
 /// A line's first word, and what stands behind the space that ends it.

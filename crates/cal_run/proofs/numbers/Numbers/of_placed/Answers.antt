@@ -29,14 +29,12 @@ returns-clause-numbered c =
     record {
       attributes = IsFront-trans script.attributes t0.attributes t6.attributes c.requires
           g06.attributes;
-      values = subst (λ (vs : List Variant). ValuesStand t6 c.in_ok-values.values.items vs)
-          c.as_slice.ensures
-          (ValuesStand-Grows g16 c.in_ok-values.values.items c.as_slice.result.now
-          c.in_ok-values.ensures.numbered);
+      values = ValuesStand-Grows g16 c.in_ok-values.values.items script.values
+          c.in_ok-values.ensures.numbered;
       events = subst (λ (xs : List Attribute). AllZip (EventsStand t6) c.in_ok-events.events.items
-          xs) c.as_slice-2.ensures
+          xs) c.as_slice.ensures
           (AllZip-weaken (EventsStand t2) (EventsStand t6) (EventsStand-Grows g26)
-          c.in_ok-events.events.items c.as_slice-2.result.now
+          c.in_ok-events.events.items c.as_slice.result.now
           c.in_ok-events.ensures.numbered);
       duration = IsNumber-Grows g36 c.in_ok-duration.duration _ c.in_ok-duration.ensures.numbered;
       inclusive = IsNumber-Grows g46 c.in_ok-inclusive.inclusive _

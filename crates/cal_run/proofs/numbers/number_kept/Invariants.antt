@@ -1,7 +1,7 @@
 use Rattle.std.proofs.Common.{take}
 use Rattle.cal_context.specs.Tree.{Grows}
 use Rattle.cal_run.specs.Numbers.{ValuesStand}
-use Rattle.cal_run.proofs.numbers.number_values.Given as goal
+use Rattle.cal_run.proofs.numbers.number_kept.Given as goal
 
 -- the values so far have their numbers
 abbrev pub invariant-loop-value : goal.invariant-loop-value
