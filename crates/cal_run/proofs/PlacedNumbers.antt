@@ -11,14 +11,15 @@ use Rattle.cal_script.specs.Values.{value_in}
 use Rattle.cal_value.specs.declared.variant.Variant.{Variant}
 use Rattle.cal_value.specs.declared.variant.Variant.TheVariants as variant
 
-no_number : ValueNumber
+abbrev no_number : ValueNumber
 no_number = record { 0 = 0 }
 
 -- one place more
 pub numbers_more : (numbers : List ValueNumber) (places : List ℕ) (i place : ℕ) (number : ValueNumber)
     → place ≡ get_or places i place → number ≡ get_or numbers place number → place < length numbers
     → i < length places
-    → map (number_in numbers) (take i places) ++ number ∷ [] ≡ map (number_in numbers) (take (i + 1) places)
+    → map (number_in numbers) (take i places) ++ number ∷ []
+    ≡ map (number_in numbers) (take (i + 1) places)
 numbers_more numbers places i place number at is within below =
     let same : number ≡ number_in numbers (get_or places i place) =
     is ∙ get_or_default numbers place number no_number within ∙ ap (number_in numbers) at in
