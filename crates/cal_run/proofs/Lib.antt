@@ -1,3 +1,4 @@
+pub mod BehindLemmas
 pub mod HeldLemmas
 pub mod FillLemmas
 pub mod NumberLemmas

@@ -135,6 +135,15 @@ module _ (t : Tree) (script : Script) (history : List Placed) (thread : Thread) 
           (if n then reading_of note else previous)) (sym (and-false channel.timer)) is);
     }
 
+-- what had been taken before may have been taken earlier
+pub runs-earlier : (t : Tree) (script : Script) (history : List Placed) (thread : Thread)
+    (channel : Channel) (l : lines.Line) (note : LineNote) (earlier had has : List Rec → Type 0)
+    (state : ThreadState) (previous : ℕ) → ((rs : List Rec) → earlier rs → had rs)
+    → RunsLine t script history thread channel l note had has state previous
+    → RunsLine t script history thread channel l note earlier has state previous
+runs-earlier t script history thread channel l note earlier had has state previous stays runs =
+    record { taken = λ rs h. runs.taken rs (stays rs h); kept = runs.kept }
+
 -- what a thread is after what it took
 pub taken-thread : (t : Tree) (script : Script) (history : List Placed) (old new : Thread)
     (state : ThreadState) (previous next : ℕ)

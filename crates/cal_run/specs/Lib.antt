@@ -9,6 +9,7 @@ pub mod Checking
 pub mod Numbers
 pub mod Held
 pub mod Adding
+pub mod Behind
 pub mod Threads
 pub mod Seeing
 pub mod Plain
@@ -16,3 +17,4 @@ pub mod Noting
 pub mod Paths
 pub mod Holding
 pub mod Counting
+pub mod Refused

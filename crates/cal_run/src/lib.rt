@@ -5,6 +5,7 @@
 //! run may leave. Nothing is promised of a taker that ran out of memory.
 #![tactic(auto)]
 
+mod behind;
 mod boards;
 mod closing;
 mod counting;
@@ -29,6 +30,7 @@ mod paths;
 mod placed;
 mod placing;
 mod plain;
+mod plain_run;
 mod probes;
 mod process;
 mod rows;
@@ -48,4 +50,5 @@ pub use numbers::{EventNumbers, Numbers};
 pub use operation::{Operation, operation_of};
 pub use paths::count_nodes;
 pub use plain::plain_journal;
+pub use plain_run::take_plain_channel;
 pub use run::take_channel;

@@ -5,7 +5,7 @@ ghost use Rattle.cal_context.specs.Tree.{Grows};
 ghost use Rattle.cal_run.specs.Adding.{MayHavePlaces};
 ghost use Rattle.cal_run.specs.Held.{HoldsSome, HoldsThen};
 ghost use Rattle.cal_run.specs.History.{board_placed as board_changed};
-ghost use Rattle.cal_run.specs.Lines.{operation_of, takes};
+ghost use Rattle.cal_run.specs.Lines.{is_process_line, operation_of, takes};
 ghost use Rattle.cal_run.specs.Numbers.{AreNumbered};
 ghost use Rattle.cal_run.specs.Snapshots.{Sight, snapshot_of};
 ghost use Rattle.cal_run.specs.Steps.{ThreadState, is_accepted, readings_changed, reply_to_line};
@@ -17,11 +17,11 @@ use crate::boards::operate;
 use crate::filling::fill;
 use crate::lines::{attr_ref, is_process_line, takes};
 use crate::moment::Moment;
-use crate::steps::{self, reply_to_line};
+use crate::steps::{is_accepted, reply_to_line};
 use crate::thread::Thread;
 use crate::{Numbers, operation_of};
 use cal_context::{Context, Snapshot, Taker};
-use cal_script::{Channel, Line, LineNote, Placed, Script};
+use cal_script::{Channel, Line, LineNote, Placed, Reply, Script};
 use cal_value::OutOfMemory;
 use std::alloc::Global;
 
@@ -57,7 +57,48 @@ pub(crate) fn run_line<T: Taker>(
     thread
         .process
         .take_in(alloc, script, numbers, history, seen as usize, context)?;
-    if !is_accepted(script, line, shared, thread) {
+    let reply = reply_of(script, line, shared, thread);
+    let accepted = is_accepted(reply);
+    run_known(
+        alloc, script, numbers, channel, history, line, note, shared, accepted, thread, context,
+        snapshot, taker,
+    )?;
+    Ok(())
+}
+
+/// Runs a line, of which it is known whether it is a process line and whether it is accepted, behind
+/// what its thread has taken in.
+pub(crate) fn run_known<T: Taker>(
+    alloc: Global,
+    script: &Script,
+    numbers: &Numbers,
+    channel: &Channel,
+    history: &[Placed],
+    line: Line,
+    note: LineNote,
+    shared: bool,
+    accepted: bool,
+    thread: &mut Thread,
+    context: &mut Context,
+    snapshot: &mut Snapshot,
+    taker: &mut T,
+) -> Result<(), OutOfMemory>
+    requires numbered { AreNumbered context.old script.now numbers.now }
+    requires placed { IsPlaced script.now.attributes script.now.channels script.now.values line }
+    requires thread { IsSomeThread context.old script.now history.now thread.old }
+    requires seen { thread.old.process.count ≡ seen_before script.now history.now line note }
+    requires kind { shared ≡ is_process_line script.now line }
+    requires answer { accepted ≡ is_accepted (reply_to_line script.now
+        (if shared then thread.old.process.board else thread.old.board) line) }
+    ensures runs { OnOk result ((state : ThreadState) (previous : ℕ)
+        → IsThread context.old script.now history.now thread.old state previous
+        → RunsLine context.new script.now history.now thread.new channel.now line note
+        (T.has_taken taker.old context.old) (T.has_taken taker.new context.new) state previous) }
+    ensures process { OnOk result (thread.new.process ≡ thread.old.process) }
+    ensures grows { Grows context.old context.new }
+{
+    let _ = history;
+    if !accepted {
         return Ok(());
     }
     hand_on(
@@ -71,22 +112,22 @@ pub(crate) fn run_line<T: Taker>(
 }
 
 /// How many operations a line has seen before its own.
-fn seen_before(shared: bool, note: LineNote) -> u64
+pub(crate) fn seen_before(shared: bool, note: LineNote) -> u64
     requires { shared ≡ true → 0 < note.seen }
     ensures { result ≡ (if shared then note.seen - 1 else note.seen) }
 {
     if shared { note.seen - 1 } else { note.seen }
 }
 
-/// Whether a line is accepted by the board that it acts on.
-fn is_accepted(script: &Script, line: Line, shared: bool, thread: &Thread) -> bool
-    ensures { result ≡ is_accepted (reply_to_line script.now
-        (if shared then thread.now.process.board else thread.now.board) line) }
+/// The reply to a line by the board that it acts on, if the script knows it.
+pub(crate) fn reply_of(script: &Script, line: Line, shared: bool, thread: &Thread) -> Option<Reply>
+    ensures { result ≡ reply_to_line script.now
+        (if shared then thread.now.process.board else thread.now.board) line }
 {
     if shared {
-        steps::is_accepted(reply_to_line(script, line, &thread.process.board))
+        reply_to_line(script, line, &thread.process.board)
     } else {
-        steps::is_accepted(reply_to_line(script, line, &thread.board))
+        reply_to_line(script, line, &thread.board)
     }
 }
 

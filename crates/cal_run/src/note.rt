@@ -38,19 +38,55 @@ pub(crate) fn note_of(
     ensures { result ≡ noted script.now process.now.count thread.now.seen thread.now.clock line
         reply }
 {
+    let shared = is_process_line(script, line);
+    let before = process.count as u64;
+    note_behind(
+        script,
+        line,
+        shared,
+        reply,
+        before,
+        thread.seen,
+        thread.clock,
+    )
+}
+
+/// The note of a line with this reply, of a thread that has seen so much and stands behind so many
+/// operations.
+pub(crate) fn note_behind(
+    script: &Script,
+    line: Line,
+    shared: bool,
+    reply: Option<Reply>,
+    before: u64,
+    seen: u64,
+    clock: u64,
+) -> LineNote
+    requires kind { shared ≡ is_process_line script.now line }
+    requires few { before < 18446744073709551615 }
+    ensures { result ≡ noted script.now before seen clock line reply }
+{
     LineNote {
         reply: reply.unwrap_or(Reply::Merged),
-        seen: seen_with(script, line, reply, process.count as u64, thread.seen),
-        reading: reading_with(script, line, reply, thread.clock),
+        seen: seen_with(script, line, shared, reply, before, seen),
+        reading: reading_with(script, line, reply, clock),
     }
 }
 
 /// How many operations a line with this reply has seen, behind so many.
-fn seen_with(script: &Script, line: Line, reply: Option<Reply>, before: u64, seen: u64) -> u64
-    requires { before < 18446744073709551615 }
+fn seen_with(
+    script: &Script,
+    line: Line,
+    shared: bool,
+    reply: Option<Reply>,
+    before: u64,
+    seen: u64,
+) -> u64
+    requires kind { shared ≡ is_process_line script.now line }
+    requires few { before < 18446744073709551615 }
     ensures { result ≡ seen_with script.now before seen line reply }
 {
-    if is_process_line(script, line) {
+    if shared {
         before + 1
     } else if before == seen {
         seen

@@ -1,0 +1,146 @@
+ghost use Rattle.std.specs.Prelude.{◌≡◌, ℕ, ◌+◌, ◌<◌, ◌≤◌, [], true, ◌&&◌, not, length, IfOk, OnOk};
+ghost use Rattle.std.specs.Prelude.{if◌then◌else◌};
+ghost use Rattle.cal_board.specs.Blackboard.{nothing_open};
+ghost use Rattle.cal_context.specs.Tree.{Grows};
+ghost use Rattle.cal_run.specs.Behind.{IsBehind, IsSomeBehind, RunsBehind};
+ghost use Rattle.cal_run.specs.Lines.{clock_after, is_process_line};
+ghost use Rattle.cal_run.specs.Noting.{before_after};
+ghost use Rattle.cal_run.specs.Numbers.{AreNumbered};
+ghost use Rattle.cal_run.specs.Plain.{plain_history};
+ghost use Rattle.cal_run.specs.Steps.{ThreadState};
+ghost use Rattle.cal_valid.specs.Valid.{IsPlaced, IsRunnable};
+
+use crate::Numbers;
+use crate::line::{reply_of, run_known, seen_before};
+use crate::lines::is_process_line;
+use crate::note::note_behind;
+use crate::steps::{clock_after, is_accepted};
+use crate::thread::Thread;
+use cal_context::{Context, Snapshot, Taker};
+use cal_script::{Channel, Line, Placed, Reply, Script};
+use cal_value::OutOfMemory;
+use std::alloc::Global;
+
+/// What is kept of a thread between two lines while it runs behind all lines before it: the thread
+/// of a channel, its script clock, how many operations it has seen, and how many stand before it.
+#[derive(Drop)]
+pub(crate) struct Behind {
+    pub thread: Thread,
+    pub clock: u64,
+    pub seen: u64,
+    pub before: usize,
+}
+
+impl Behind {
+    /// Before the first line, behind so many operations.
+    pub(crate) fn new(alloc: Global, before: usize) -> Self
+        ensures board { result.thread.board ≡ nothing_open }
+        ensures readings { result.thread.readings ≡ [] }
+        ensures process { result.thread.process.board ≡ nothing_open }
+        ensures count { result.thread.process.count ≡ 0 }
+        ensures previous { result.thread.previous ≡ 0 }
+        ensures clock { result.clock ≡ 0 }
+        ensures seen { result.seen ≡ 0 }
+        ensures before { result.before ≡ before }
+    {
+        Behind {
+            thread: Thread::new(alloc, 0),
+            clock: 0,
+            seen: 0,
+            before,
+        }
+    }
+
+    /// Runs a line: hands what the channel takes of it to a taker, makes the change, and gives the
+    /// reply.
+    pub(crate) fn run_line<T: Taker>(
+        &mut self,
+        alloc: Global,
+        script: &Script,
+        numbers: &Numbers,
+        channel: &Channel,
+        history: &[Placed],
+        line: Line,
+        context: &mut Context,
+        snapshot: &mut Snapshot,
+        taker: &mut T,
+    ) -> Result<Reply, OutOfMemory>
+        requires runnable { IsRunnable script.now }
+        requires numbered { AreNumbered context.old script.now numbers.now }
+        requires placed { IsPlaced script.now.attributes script.now.channels script.now.values
+            line }
+        requires history { history.now ≡ plain_history script.now }
+        requires behind { IsSomeBehind context.old script.now self.old }
+        requires within { self.old.before ≤ length history.now }
+        requires room { is_process_line script.now line ≡ true
+            → self.old.before < length history.now }
+        ensures runs { IfOk result (λ reply. (state : ThreadState) (previous : ℕ)
+            → IsBehind context.old script.now self.old state previous
+            → RunsBehind context.new script.now self.old self.new channel.now line reply
+            (T.has_taken taker.old context.old) (T.has_taken taker.new context.new)
+            state previous) }
+        ensures before { OnOk result (self.new.before
+            ≡ before_after script.now self.old.before line) }
+        ensures grows { Grows context.old context.new }
+    {
+        let shared = is_process_line(script, line);
+        let first = seen_first(shared, self.before, self.thread.process.count);
+        self.thread
+            .process
+            .take_in(alloc, script, numbers, history, first, context)?;
+        let reply = reply_of(script, line, shared, &self.thread);
+        let before = self.before as u64;
+        let note = note_behind(script, line, shared, reply, before, self.seen, self.clock);
+        let seen = seen_before(shared, note);
+        self.thread
+            .process
+            .take_in(alloc, script, numbers, history, seen as usize, context)?;
+        let accepted = is_accepted(reply);
+        run_known(
+            alloc,
+            script,
+            numbers,
+            channel,
+            history,
+            line,
+            note,
+            shared,
+            accepted,
+            &mut self.thread,
+            context,
+            snapshot,
+            taker,
+        )?;
+        self.seen = note.seen;
+        self.clock = clock_behind(shared, accepted, self.clock, line);
+        self.before = count_behind(shared, self.before);
+        Ok(note.reply)
+    }
+}
+
+/// How much of the history a thread takes in before a line is answered: for a process line, all
+/// that stands before it.
+fn seen_first(shared: bool, before: usize, count: usize) -> usize
+    ensures { result ≡ (if shared then before else count) }
+{
+    if shared { before } else { count }
+}
+
+/// The script clock behind a line.
+fn clock_behind(shared: bool, accepted: bool, clock: u64, line: Line) -> u64
+    ensures { result ≡ (if accepted && not shared then clock_after clock line else clock) }
+{
+    if accepted && !shared {
+        clock_after(clock, line)
+    } else {
+        clock
+    }
+}
+
+/// How many operations stand behind a line.
+fn count_behind(shared: bool, before: usize) -> usize
+    requires { shared ≡ true → before < 18446744073709551615 }
+    ensures { result ≡ (if shared then before + 1 else before) }
+{
+    if shared { before + 1 } else { before }
+}
