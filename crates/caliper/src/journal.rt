@@ -7,7 +7,6 @@ ghost use Rattle.cal_valid.specs.Valid.{IsRunnable};
 ghost use Rattle.cal_write.specs.CanonicalText.{canonical_text};
 ghost use Rattle.caliper.specs.Refusals.{refused_lines};
 ghost use Rattle.caliper.specs.Runs.{CannotUse, Uses};
-ghost use Rattle.caliper.specs.declared.fault.Fault.TheVariants as fault;
 
 use crate::counting::count_refused;
 use crate::running::{plain_text, run_text};
@@ -96,7 +95,12 @@ fn lawful_one(alloc: Global, script: Script, text: JournalText) -> Result<Made, 
 {
     lawful_journal_law();
     match check_journal(alloc, &script, &text) {
-        Ok(()) => given_one(alloc, &script, text.journal),
+        Ok(()) => {
+            let Ok(made) = given_one(alloc, &script, text.journal) else {
+                return Err(Fault::OutOfMemory);
+            };
+            Ok(made)
+        }
         Err(CoreEnd::JournalFault { line, kind }) => Err(Fault::BadInput {
             line,
             kind: InputKind::Journal(kind),
@@ -106,18 +110,15 @@ fn lawful_one(alloc: Global, script: Script, text: JournalText) -> Result<Made, 
 }
 
 /// Makes the run by a journal by which it can be read.
-fn given_one(alloc: Global, script: &Script, journal: Journal) -> Result<Made, Fault>
+fn given_one(alloc: Global, script: &Script, journal: Journal) -> Result<Made, OutOfMemory>
     requires runnable { IsRunnable script.now }
     requires read { CanBeRead script.now journal }
     ensures used { IfOk result (λ made. made.journal ≡ journal) }
     ensures text { IfOk result (λ made. made.text
         ≡ canonical_text (records_of script.now journal)) }
     ensures refused { IfOk result (λ made. made.refused ≡ refused_lines journal) }
-    ensures fault { IfErr result (λ given. given ≡ fault.OutOfMemory) }
 {
-    let Ok(text) = run_text(alloc, script, &journal) else {
-        return Err(Fault::OutOfMemory);
-    };
+    let text = run_text(alloc, script, &journal)?;
     let refused = count_refused(&journal);
     Ok(Made {
         text,
