@@ -1,5 +1,6 @@
 pub mod Groups
 pub mod Records
+pub mod Told
 pub mod Kept
 pub mod Forks
 pub mod Ranks

@@ -1,4 +1,4 @@
-ghost use Rattle.std.specs.Prelude.{◌≡◌, map, IfOk, OnOk};
+ghost use Rattle.std.specs.Prelude.{◌≡◌, map, IfOk, IfSome, OnOk, option_copied};
 ghost use Rattle.std.specs.List.{All};
 ghost use Rattle.cal_context.specs.Snapshots.{IsIn, meaning};
 ghost use Rattle.cal_context.specs.Taking.{TakesMore};
@@ -6,18 +6,20 @@ ghost use Rattle.cal_context.specs.Tree.{Grows};
 ghost use Rattle.cal_engine.specs.Answers.{answer_of};
 ghost use Rattle.cal_ql.specs.Valid.{IsValidQuery};
 ghost use Rattle.cal_records.specs.Records.{grouped};
+ghost use Rattle.cal_records.specs.Told.{CountsRefused, told};
 ghost use Rattle.cal_run.specs.Numbers.{AreNumbered};
 ghost use Rattle.cal_run.specs.Runs.{snapshots};
 ghost use Rattle.cal_run.specs.Seeing.{CanBeRead};
 ghost use Rattle.cal_valid.specs.Valid.{IsRunnable};
 
 use crate::query::channel_query;
+use crate::run::take_snapshots;
 use crate::same::same_query;
 use crate::sorting::{Ranked, sorted_by_group};
 use cal_context::{Context, Snapshot, Taker};
 use cal_engine::SnapshotFold;
 use cal_ql::Query;
-use cal_run::{Numbers, take_channel};
+use cal_run::Numbers;
 use cal_script::{Channel, Journal, Script};
 use cal_value::OutOfMemory;
 use std::alloc::Global;
@@ -27,58 +29,61 @@ use std::alloc::Global;
 pub(crate) fn take_groups<T: Taker>(
     alloc: Global,
     script: &Script,
-    journal: &Journal,
+    journal: Option<&Journal>,
     channel: &Channel,
     numbers: &Numbers,
     context: &mut Context,
     taker: &mut T,
-) -> Result<(), OutOfMemory>
+) -> Result<Option<u64>, OutOfMemory>
     requires runnable { IsRunnable script.now }
-    requires read { CanBeRead script.now journal.now }
+    requires read { IfSome journal (λ journal. CanBeRead script.now journal.now) }
     requires numbered { AreNumbered context.old script.now numbers.now }
     ensures taken { OnOk result (TakesMore
         (T.has_taken taker.old context.old)
         (T.has_taken taker.new context.new)
-        (grouped script.now journal.now channel.now)) }
+        (grouped script.now (told script.now (option_copied journal.entry)) channel.now)) }
+    ensures refused { IfOk result (CountsRefused script.now) }
     ensures grows { Grows context.old context.new }
 {
     if !channel.aggregate {
-        return Ok(());
+        return Ok(None);
     }
     let query = channel_query(alloc, &channel.query)?;
-    let rows = group_rows(alloc, script, journal, channel, &query, numbers, context)?;
+    let (rows, refused) = group_rows(alloc, script, journal, channel, &query, numbers, context)?;
     let ranked = sorted_by_group(alloc, context, query.aggs.as_slice(), rows.as_slice())?;
     take_rows(ranked.as_slice(), context, taker)?;
-    Ok(())
+    Ok(refused)
 }
 
 /// The records of a channel's groups, in the order in which they came up.
 fn group_rows(
     alloc: Global,
     script: &Script,
-    journal: &Journal,
+    journal: Option<&Journal>,
     channel: &Channel,
     query: &Query,
     numbers: &Numbers,
     context: &mut Context,
-) -> Result<Vec<Snapshot>, OutOfMemory>
+) -> Result<(Vec<Snapshot>, Option<u64>), OutOfMemory>
     requires runnable { IsRunnable script.now }
-    requires read { CanBeRead script.now journal.now }
+    requires read { IfSome journal (λ journal. CanBeRead script.now journal.now) }
     requires numbered { AreNumbered context.old script.now numbers.now }
     requires valid { IsValidQuery query.now }
-    ensures within { IfOk result (λ rows. All (IsIn context.new) rows.items) }
-    ensures rows { IfOk result (λ rows. map (meaning context.new) rows.items
-        ≡ (answer_of query.now (snapshots script.now journal.now channel.now)).rows.rows) }
+    ensures within { IfOk result (λ rows. All (IsIn context.new) rows.0.items) }
+    ensures rows { IfOk result (λ rows. map (meaning context.new) rows.0.items
+        ≡ (answer_of query.now (snapshots script.now (told script.now (option_copied journal.entry))
+        channel.now)).rows.rows) }
+    ensures refused { IfOk result (λ rows. CountsRefused script.now rows.1) }
     ensures grows { Grows context.old context.new }
 {
     let mut fold = SnapshotFold::new(alloc, query, context)?;
-    take_channel(alloc, script, journal, channel, numbers, context, &mut fold)?;
+    let refused = take_snapshots(alloc, script, journal, channel, numbers, context, &mut fold)?;
     // a taker's contract doesn't say that it is still about this query
     if !same_query(fold.query(), query) {
         return Err(OutOfMemory);
     }
     let rows = fold.rows(context)?;
-    Ok(rows)
+    Ok((rows, refused))
 }
 
 /// Hands rows to a taker.

@@ -1,17 +1,20 @@
-ghost use Rattle.std.specs.Prelude.{◌≡◌, IfErr, IfOk, OnOk};
+ghost use Rattle.std.specs.Prelude.{◌≡◌, IfErr, IfOk, IfSome, OnOk, option_copied};
 ghost use Rattle.cal_context.specs.Taking.{TakesMore};
 ghost use Rattle.cal_context.specs.Tree.{Grows};
 ghost use Rattle.cal_records.specs.Records.{channel_rows, records_of, run_rows, traced};
+ghost use Rattle.cal_records.specs.Told.{CountsRefused, told};
 ghost use Rattle.cal_run.specs.Broken.{IsLawfulText};
 ghost use Rattle.cal_run.specs.Checking.{IsRefusalOf};
 ghost use Rattle.cal_run.specs.Numbers.{AreNumbered};
+ghost use Rattle.cal_run.specs.Plain.{plain};
+ghost use Rattle.cal_run.specs.Runs.{snapshots};
 ghost use Rattle.cal_run.specs.Seeing.{CanBeRead};
 ghost use Rattle.cal_valid.specs.Valid.{IsRunnable};
 
 use crate::globals::put_globals;
 use crate::groups::take_groups;
 use cal_context::{Context, Taken, Taker, expand};
-use cal_run::{CoreEnd, Numbers, check_journal, lawful_journal_law, take_channel};
+use cal_run::{CoreEnd, Numbers, check_journal, lawful_journal_law, take_channel, take_plain_channel};
 use cal_script::{Channel, Journal, JournalText, Script};
 use cal_value::{OutOfMemory, Records};
 use std::alloc::Global;
@@ -37,59 +40,143 @@ pub fn take_run<T: Taker>(
     ensures grows { Grows context.old context.new }
 {
     for channel in script.channels.as_slice() {
-        take_rows_of(alloc, script, journal, channel, numbers, context, taker)?;
+        take_rows_of(
+            alloc,
+            script,
+            Some(journal),
+            channel,
+            numbers,
+            context,
+            taker,
+        )?;
     }
     Ok(())
 }
 
-/// Hands the rows of a channel to a taker.
-fn take_rows_of<T: Taker>(
+/// Hands the rows of the run of the threads one after another to a taker, as `take_run` does by the
+/// plain journal, of which nothing is kept. Gives how many lines were refused, where some channel
+/// has trace or aggregates.
+pub fn take_plain_run<T: Taker>(
     alloc: Global,
     script: &Script,
-    journal: &Journal,
-    channel: &Channel,
     numbers: &Numbers,
     context: &mut Context,
     taker: &mut T,
-) -> Result<(), OutOfMemory>
+) -> Result<Option<u64>, OutOfMemory>
     requires runnable { IsRunnable script.now }
-    requires read { CanBeRead script.now journal.now }
     requires numbered { AreNumbered context.old script.now numbers.now }
     ensures taken { OnOk result (TakesMore
         (T.has_taken taker.old context.old)
         (T.has_taken taker.new context.new)
-        (channel_rows script.now journal.now channel.now)) }
+        (run_rows script.now (plain script.now))) }
+    ensures refused { IfOk result (CountsRefused script.now) }
     ensures grows { Grows context.old context.new }
 {
-    take_trace(alloc, script, journal, channel, numbers, context, taker)?;
-    take_groups(alloc, script, journal, channel, numbers, context, taker)?;
-    Ok(())
+    let mut refused = None;
+    for channel in script.channels.as_slice() {
+        let counted = take_rows_of(alloc, script, None, channel, numbers, context, taker)?;
+        refused = either(script, refused, counted);
+    }
+    Ok(refused)
+}
+
+/// One of two counts of the lines that are refused, if there is one.
+fn either(script: &Script, first: Option<u64>, second: Option<u64>) -> Option<u64>
+    requires first { CountsRefused script.now first }
+    requires second { CountsRefused script.now second }
+    ensures { CountsRefused script.now result }
+{
+    let _ = script;
+    match second {
+        Some(counted) => Some(counted),
+        None => first,
+    }
+}
+
+/// Hands the rows of a channel to a taker. Without a journal it gives how many lines were refused,
+/// where the channel has trace or aggregates.
+fn take_rows_of<T: Taker>(
+    alloc: Global,
+    script: &Script,
+    journal: Option<&Journal>,
+    channel: &Channel,
+    numbers: &Numbers,
+    context: &mut Context,
+    taker: &mut T,
+) -> Result<Option<u64>, OutOfMemory>
+    requires runnable { IsRunnable script.now }
+    requires read { IfSome journal (λ journal. CanBeRead script.now journal.now) }
+    requires numbered { AreNumbered context.old script.now numbers.now }
+    ensures taken { OnOk result (TakesMore
+        (T.has_taken taker.old context.old)
+        (T.has_taken taker.new context.new)
+        (channel_rows script.now (told script.now (option_copied journal.entry)) channel.now)) }
+    ensures refused { IfOk result (CountsRefused script.now) }
+    ensures grows { Grows context.old context.new }
+{
+    let traced = take_trace(alloc, script, journal, channel, numbers, context, taker)?;
+    let grouped = take_groups(alloc, script, journal, channel, numbers, context, taker)?;
+    Ok(either(script, traced, grouped))
 }
 
 /// Hands the snapshots of a channel with trace to a taker.
 fn take_trace<T: Taker>(
     alloc: Global,
     script: &Script,
-    journal: &Journal,
+    journal: Option<&Journal>,
     channel: &Channel,
     numbers: &Numbers,
     context: &mut Context,
     taker: &mut T,
-) -> Result<(), OutOfMemory>
+) -> Result<Option<u64>, OutOfMemory>
     requires runnable { IsRunnable script.now }
-    requires read { CanBeRead script.now journal.now }
+    requires read { IfSome journal (λ journal. CanBeRead script.now journal.now) }
     requires numbered { AreNumbered context.old script.now numbers.now }
     ensures taken { OnOk result (TakesMore
         (T.has_taken taker.old context.old)
         (T.has_taken taker.new context.new)
-        (traced script.now journal.now channel.now)) }
+        (traced script.now (told script.now (option_copied journal.entry)) channel.now)) }
+    ensures refused { IfOk result (CountsRefused script.now) }
     ensures grows { Grows context.old context.new }
 {
     if !channel.trace {
-        return Ok(());
+        return Ok(None);
     }
-    take_channel(alloc, script, journal, channel, numbers, context, taker)?;
-    Ok(())
+    let counted = take_snapshots(alloc, script, journal, channel, numbers, context, taker)?;
+    Ok(counted)
+}
+
+/// Hands the snapshots of a channel to a taker. Without a journal it gives how many lines were
+/// refused.
+pub(crate) fn take_snapshots<T: Taker>(
+    alloc: Global,
+    script: &Script,
+    journal: Option<&Journal>,
+    channel: &Channel,
+    numbers: &Numbers,
+    context: &mut Context,
+    taker: &mut T,
+) -> Result<Option<u64>, OutOfMemory>
+    requires runnable { IsRunnable script.now }
+    requires read { IfSome journal (λ journal. CanBeRead script.now journal.now) }
+    requires numbered { AreNumbered context.old script.now numbers.now }
+    ensures taken { OnOk result (TakesMore
+        (T.has_taken taker.old context.old)
+        (T.has_taken taker.new context.new)
+        (snapshots script.now (told script.now (option_copied journal.entry)) channel.now)) }
+    ensures refused { IfOk result (CountsRefused script.now) }
+    ensures grows { Grows context.old context.new }
+{
+    match journal {
+        Some(journal) => {
+            take_channel(alloc, script, journal, channel, numbers, context, taker)?;
+            Ok(None)
+        }
+        None => {
+            let refused = take_plain_channel(alloc, script, channel, numbers, context, taker)?;
+            Ok(Some(refused))
+        }
+    }
 }
 
 /// The records of a run, with entries of their own. It takes time in the lengths of all paths.

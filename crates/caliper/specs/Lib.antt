@@ -7,3 +7,4 @@ pub mod Runs
 pub mod Inputs
 pub mod Causes
 pub mod Ends
+pub mod Used

@@ -24,6 +24,7 @@ mod serve;
 mod summarizing;
 #[cfg(test)]
 mod tests;
+mod used;
 mod words;
 
 pub use about::about;
@@ -34,6 +35,7 @@ pub use report::put_fault;
 pub use run::{INPUT_LIMIT, run};
 pub use running::run_text;
 pub use serve::serve;
+pub use used::UsedJournal;
 use std::io;
 use std::process::ExitCode;
 use std::rt::Env;

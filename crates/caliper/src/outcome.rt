@@ -4,7 +4,7 @@ ghost use Rattle.caliper.specs.Ends.{Tells};
 ghost use Rattle.caliper.specs.Faults.{report_of, status_of};
 ghost use Rattle.caliper.specs.Refusals.{no_journal};
 
-use crate::{Fault, put_fault};
+use crate::{Fault, UsedJournal, put_fault};
 use cal_base::Sink;
 use cal_script::Journal;
 use cal_value::Seq;
@@ -16,14 +16,14 @@ use std::alloc::Global;
 pub struct Outcome {
     pub status: u8,
     pub fault: Option<Fault>,
-    pub journal: Journal,
+    pub journal: UsedJournal,
 }
 
 /// What a command came to.
 #[derive(Debug, Drop)]
 pub struct Ended {
     pub fault: Option<Fault>,
-    pub journal: Journal,
+    pub journal: UsedJournal,
 }
 
 impl Ended {
@@ -32,11 +32,11 @@ impl Ended {
         ensures fault { result.fault ≡ fault }
         ensures journal { result.journal ≡ no_journal }
     {
-        let journal = Journal {
+        let journal = UsedJournal::given(Journal {
             real: false,
             ops: Seq::new(alloc),
             threads: Seq::new(alloc),
-        };
+        });
         Ended { fault, journal }
     }
 }

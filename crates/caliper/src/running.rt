@@ -1,11 +1,13 @@
 ghost use Rattle.std.specs.Prelude.{◌≡◌, IfOk};
 ghost use Rattle.cal_records.specs.Records.{records_of};
+ghost use Rattle.cal_records.specs.Told.{CountsRefused};
+ghost use Rattle.cal_run.specs.Plain.{plain};
 ghost use Rattle.cal_run.specs.Seeing.{CanBeRead};
 ghost use Rattle.cal_valid.specs.Valid.{IsRunnable};
 ghost use Rattle.cal_write.specs.CanonicalText.{canonical_text};
 
 use cal_context::Context;
-use cal_records::{put_globals, take_run};
+use cal_records::{put_globals, take_plain_run, take_run};
 use cal_run::Numbers;
 use cal_script::{Journal, Script};
 use cal_value::{OutOfMemory, Text};
@@ -25,4 +27,24 @@ pub fn run_text(alloc: Global, script: &Script, journal: &Journal) -> Result<Tex
     take_run(alloc, script, journal, &numbers, &mut context, &mut writer)?;
     let globals = put_globals(alloc, script.globals.as_slice(), &mut context)?;
     writer.finish(&context, &globals)
+}
+
+/// The `.cali` text of the records of the run of the threads one after another, and how many lines
+/// were refused, where some channel was run. Nothing is kept of a line.
+pub(crate) fn plain_text(
+    alloc: Global,
+    script: &Script,
+) -> Result<(Text, Option<u64>), OutOfMemory>
+    requires runnable { IsRunnable script.now }
+    ensures text { IfOk result (λ made. made.0
+        ≡ canonical_text (records_of script.now (plain script.now))) }
+    ensures refused { IfOk result (λ made. CountsRefused script.now made.1) }
+{
+    let mut context = Context::new(alloc);
+    let numbers = Numbers::of(alloc, script, &mut context)?;
+    let mut writer = Writer::new(alloc)?;
+    let refused = take_plain_run(alloc, script, &numbers, &mut context, &mut writer)?;
+    let globals = put_globals(alloc, script.globals.as_slice(), &mut context)?;
+    let text = writer.finish(&context, &globals)?;
+    Ok((text, refused))
 }

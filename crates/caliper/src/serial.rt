@@ -8,26 +8,14 @@ ghost use Rattle.caliper.specs.Inputs.{Makes};
 ghost use Rattle.caliper.specs.Refusals.{no_journal, refused_lines};
 ghost use Rattle.caliper.specs.Tasks.{SerialTask};
 
-use crate::counting::count_refused;
-use crate::journal::journal_to_use;
+use crate::journal::{Made, make_run};
 use crate::outcome::Ended;
-use crate::running::run_text;
 use crate::{Fault, INPUT_LIMIT, InputKind};
 use cal_base::{ReadEnd, Sink, Source, read_all};
 use cal_journal::{BothEnd, read_both};
-use cal_script::{Journal, JournalText, Script};
+use cal_script::{JournalText, Script};
 use cal_valid::valid_script_law;
-use cal_value::Text;
 use std::alloc::Global;
-
-/// The text of a run's records, and the journal that the run used.
-#[derive(Drop)]
-pub struct Made {
-    text: Text,
-    journal: Journal,
-    /// How many of its lines were refused.
-    refused: u64,
-}
 
 /// Reads a script and a journal behind it, or none, and writes the text of the run.
 pub fn serial<S: Source, W: Sink>(alloc: Global, input: &mut S, output: &mut W) -> Ended
@@ -64,16 +52,8 @@ fn made_run<S: Source>(alloc: Global, input: &mut S) -> Result<Made, Fault>
         (change_of S.left S.faults input.old input.new) output no_journal fault) }
 {
     let (script, behind) = read_input(alloc, input)?;
-    let journal = journal_to_use(alloc, &script, behind)?;
-    let Ok(text) = run_text(alloc, &script, &journal) else {
-        return Err(Fault::OutOfMemory);
-    };
-    let refused = count_refused(&journal);
-    Ok(Made {
-        text,
-        journal,
-        refused,
-    })
+    let made = make_run(alloc, script, behind)?;
+    Ok(made)
 }
 
 /// Reads the script and the journal behind it that the input has left, and the end behind them.

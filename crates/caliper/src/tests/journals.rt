@@ -53,7 +53,7 @@ fn the_journal_is_handed_back(rt: HostRuntime) -> Result<(), Fail> {
             sink(alloc, 1000)?,
             sink(alloc, 100)?,
         )?;
-        let journal = &ran.outcome.journal;
+        let journal = ran.outcome.journal.into_journal(alloc)?;
         assert_eq!(rt; journal.ops.len(), ops);
         assert_eq!(rt; journal.threads.len(), threads);
     }

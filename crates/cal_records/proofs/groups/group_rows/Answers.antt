@@ -1,42 +1,44 @@
 use Rattle.std.proofs.Common.{◌≡◌, [], sym, ap, ◌∙◌}
+use Rattle.std.specs.Prelude.{option_copied}
 use Rattle.cal_context.proofs.CallerLemmas.{Grows-trans}
 use Rattle.cal_engine.specs.Answers.{answer_of}
 use Rattle.cal_engine.specs.Standing.{HasFolded}
 use Rattle.cal_ql.specs.declared.query.Query.{Query}
+use Rattle.cal_records.specs.Told.{told}
 use Rattle.cal_run.proofs.NumberLemmas.{AreNumbered-Grows}
 use Rattle.cal_run.specs.Runs.{snapshots}
 use Rattle.cal_records.proofs.groups.group_rows.Goals as goal
 
-pub take_channel-requires-clause-numbered : goal.take_channel-requires-clause-numbered
-take_channel-requires-clause-numbered c =
+pub take_snapshots-requires-clause-numbered : goal.take_snapshots-requires-clause-numbered
+take_snapshots-requires-clause-numbered c =
     AreNumbered-Grows c.in_ok-fold.ensures.grows c.args.script.now c.args.numbers.now
     c.requires.numbered
 
-pub returns-in_err-take_channel-clause-grows : goal.returns-in_err-take_channel-clause-grows
-returns-in_err-take_channel-clause-grows c =
-    Grows-trans _ _ _ c.in_ok-fold.ensures.grows c.take_channel.ensures.grows
+pub returns-in_err-refused-clause-grows : goal.returns-in_err-refused-clause-grows
+returns-in_err-refused-clause-grows c =
+    Grows-trans _ _ _ c.in_ok-fold.ensures.grows c.take_snapshots.ensures.grows
 
 pub returns-then-not-same_query-clause-grows : goal.returns-then-not-same_query-clause-grows
 returns-then-not-same_query-clause-grows c =
-    Grows-trans _ _ _ c.in_ok-fold.ensures.grows c.take_channel.ensures.grows
+    Grows-trans _ _ _ c.in_ok-fold.ensures.grows c.take_snapshots.ensures.grows
 
 pub returns-in_err-rows-clause-grows : goal.returns-in_err-rows-clause-grows
 returns-in_err-rows-clause-grows c =
-    Grows-trans _ _ _ (Grows-trans _ _ _ c.in_ok-fold.ensures.grows c.take_channel.ensures.grows)
+    Grows-trans _ _ _ (Grows-trans _ _ _ c.in_ok-fold.ensures.grows c.take_snapshots.ensures.grows)
     c.rows.ensures.grows
 
 pub returns-clause-grows : goal.returns-clause-grows
 returns-clause-grows c =
-    Grows-trans _ _ _ (Grows-trans _ _ _ c.in_ok-fold.ensures.grows c.take_channel.ensures.grows)
+    Grows-trans _ _ _ (Grows-trans _ _ _ c.in_ok-fold.ensures.grows c.take_snapshots.ensures.grows)
     c.in_ok-rows.ensures.grows
 
 pub returns-clause-rows : goal.returns-clause-rows
 returns-clause-rows c =
-    let taken = snapshots c.args.script.now c.args.journal.now c.args.channel.now in
-    let fold = c.take_channel.new.taker in
+    let taken = snapshots c.args.script.now (told c.args.script.now (option_copied c.args.journal)) c.args.channel.now in
+    let fold = c.take_snapshots.new.taker in
     let same : fold.query ≡ c.args.query.now =
     sym c.query.ensures ∙ c.same_query.ensures c.if-not-same_query.false in
-    let folded : HasFolded fold c.take_channel.new.context taken =
-    c.in_ok-take_channel.ensures.taken [] c.in_ok-fold.ensures.none in
+    let folded : HasFolded fold c.take_snapshots.new.context taken =
+    c.in_ok-refused.ensures.taken [] c.in_ok-fold.ensures.none in
     c.in_ok-rows.ensures.rows taken folded
     ∙ ap (λ (q : Query). (answer_of q taken).rows.rows) same

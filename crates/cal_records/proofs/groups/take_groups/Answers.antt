@@ -1,5 +1,6 @@
 use Rattle.std.proofs.Common.{◌≡◌, true, List, [], ◌++◌, map, sym, ap, subst, ◌∙◌}
 use Rattle.std.specs.List.{All}
+use Rattle.std.specs.Prelude.{option_copied}
 use Rattle.std.proofs.lemmas.Bool.{cond-true}
 use Rattle.cal_context.specs.Snapshots.{IsIn, meaning}
 use Rattle.cal_engine.specs.Sorting.{sorted}
@@ -7,6 +8,7 @@ use Rattle.cal_ql.specs.declared.query.Query.{Query}
 use Rattle.cal_records.specs.Groups.{channel_query, group_records, rows_cmp}
 use Rattle.cal_records.specs.Records.{grouped}
 use Rattle.cal_records.specs.declared.sorting.Ranked.{Ranked}
+use Rattle.cal_records.specs.Told.{told}
 use Rattle.cal_run.specs.Runs.{snapshots}
 use Rattle.cal_value.specs.declared.record.Rec.{Rec}
 use Rattle.cal_records.proofs.groups.take_groups.Goals as goal
@@ -24,7 +26,7 @@ take_rows-requires g c =
 pub returns-clause-taken : goal.returns-clause-taken
 returns-clause-taken g c =
     let script = c.args.script.now in
-    let journal = c.args.journal.now in
+    let journal = told script (option_copied c.args.journal) in
     let channel = c.args.channel.now in
     let taken = snapshots script journal channel in
     let t = c.group_rows.new.context in

@@ -9,5 +9,5 @@ returns-clause-taken g c =
     let has_taken = g.T.Taker.has_taken in
     let on : c.args.channel.now.trace ≡ true = cc in
     subst (λ (rows : List Rec). TakesMore (has_taken c.args.taker.now c.args.context.now)
-    (has_taken c.take_channel.new.taker c.take_channel.new.context) rows)
-    (sym (cond-true c.args.channel.now.trace _ _ on)) c.in_ok-take_channel.ensures.taken
+    (has_taken c.take_snapshots.new.taker c.take_snapshots.new.context) rows)
+    (sym (cond-true c.args.channel.now.trace _ _ on)) c.in_ok-counted.ensures.taken

@@ -1,22 +1,16 @@
 use Rattle.std.proofs.lemmas.Result.{err_from_is_err_and}
 use Rattle.cal_base.specs.Change.{change_of}
 use Rattle.caliper.specs.Refusals.{no_journal}
-use Rattle.caliper.proofs.FewLines.{few_lines}
 use Rattle.caliper.proofs.Serving.{cannot_use}
 use Rattle.caliper.proofs.serial.made_run.Goals as goal
 
--- the cause that the journal gave
-pub returns-in_err-journal-clause-caused : goal.returns-in_err-journal-clause-caused
-returns-in_err-journal-clause-caused g c =
-    let gone = c.from_residual-in_err-journal in
+-- the cause that the run gave
+pub returns-in_err-made-clause-caused : goal.returns-in_err-made-clause-caused
+returns-in_err-made-clause-caused g c =
+    let gone = c.from_residual-in_err-made in
     let p = err_from_is_err_and gone.result gone.ensures.1 in
     let input = change_of g.S.Source.left g.S.Source.faults c.args.input.now c.read_input.new.input in
     let read = c.in_ok-script in
     rw (p.1, p.2)
-    (λ output. cannot_use input read.script read.behind c.in_err-journal.field-0.0 read.ensures.read
-    c.in_err-journal.ensures.fault output no_journal)
-
-pub count_refused-refused-requires : goal.count_refused-refused-requires
-count_refused-refused-requires g c =
-    few_lines c.in_ok-script.script c.in_ok-journal.journal c.in_ok-script.ensures.runnable
-    c.in_ok-journal.ensures.read
+    (λ output. cannot_use input read.script read.behind c.in_err-made.field-0.0 read.ensures.read
+    c.in_err-made.ensures.fault output no_journal)

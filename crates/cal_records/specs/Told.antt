@@ -1,0 +1,14 @@
+-- A run by a journal, or by none.
+use Rattle.std.specs.Prelude.{◌≡◌, ℕ, Option, IfSome, unwrap_or}
+use Rattle.cal_run.specs.Plain.{plain}
+use Rattle.cal_run.specs.Refused.{refused_in}
+use Rattle.cal_script.specs.declared.journal.Journal.{Journal}
+use Rattle.cal_script.specs.declared.script.Script.{Script}
+
+-- the journal of a run: the one that is given, or else that of the threads one after another
+abbrev pub told : Script → Option Journal → Journal
+told script journal = unwrap_or journal (plain script)
+
+-- How many lines of the threads one after another are refused, if it was counted.
+abbrev pub CountsRefused : Script → Option ℕ → Type 0
+CountsRefused script counted = IfSome counted (λ refused. refused ≡ refused_in (plain script).threads)
