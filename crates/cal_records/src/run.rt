@@ -14,7 +14,9 @@ ghost use Rattle.cal_valid.specs.Valid.{IsRunnable};
 use crate::globals::put_globals;
 use crate::groups::take_groups;
 use cal_context::{Context, Taken, Taker, expand};
-use cal_run::{CoreEnd, Numbers, check_journal, lawful_journal_law, take_channel, take_plain_channel};
+use cal_run::{
+    CoreEnd, Numbers, check_journal, lawful_journal_law, take_channel, take_plain_channel,
+};
 use cal_script::{Channel, Journal, JournalText, Script};
 use cal_value::{OutOfMemory, Records};
 use std::alloc::Global;

@@ -35,10 +35,10 @@ pub use report::put_fault;
 pub use run::{INPUT_LIMIT, run};
 pub use running::run_text;
 pub use serve::serve;
-pub use used::UsedJournal;
 use std::io;
 use std::process::ExitCode;
 use std::rt::Env;
+pub use used::UsedJournal;
 pub use words::{Command, Print, read_words};
 
 /// Lends the standard streams.

@@ -31,10 +31,7 @@ pub fn run_text(alloc: Global, script: &Script, journal: &Journal) -> Result<Tex
 
 /// The `.cali` text of the records of the run of the threads one after another, and how many lines
 /// were refused, where some channel was run. Nothing is kept of a line.
-pub(crate) fn plain_text(
-    alloc: Global,
-    script: &Script,
-) -> Result<(Text, Option<u64>), OutOfMemory>
+pub(crate) fn plain_text(alloc: Global, script: &Script) -> Result<(Text, Option<u64>), OutOfMemory>
     requires runnable { IsRunnable script.now }
     ensures text { IfOk result (λ made. made.0
         ≡ canonical_text (records_of script.now (plain script.now))) }
