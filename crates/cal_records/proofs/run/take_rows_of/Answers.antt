@@ -10,8 +10,8 @@ take_groups-requires-clause-numbered g c =
     AreNumbered-Grows c.take_trace.ensures.grows c.args.script.now c.args.numbers.now
     c.requires.numbered
 
-pub returns-in_err-take_groups-clause-grows : goal.returns-in_err-take_groups-clause-grows
-returns-in_err-take_groups-clause-grows g c =
+pub returns-in_err-grouped-clause-grows : goal.returns-in_err-grouped-clause-grows
+returns-in_err-grouped-clause-grows g c =
     Grows-trans _ _ _ c.take_trace.ensures.grows c.take_groups.ensures.grows
 
 pub returns-clause-taken : goal.returns-clause-taken
