@@ -1,5 +1,5 @@
 -- A journal of a script's shape has no more lines than the script; and which of them are refused.
-use Rattle.std.proofs.Common.{◌≡◌, ◌+◌, List, [], ◌∷◌, length, refl, ap, arith}
+use Rattle.std.proofs.Common.{◌≡◌, ◌+◌, ℕ, List, [], ◌∷◌, length, refl, ap, arith}
 use Rattle.std.specs.Prelude.{sum_by, count_by, if◌then◌else◌}
 use Rattle.std.specs.List.{AllZip}
 use Rattle.std.proofs.lemmas.List.Sums.{sum_by-cons}
@@ -51,7 +51,7 @@ refused-notes : (notes : List LineNote)
 refused-notes [] = refl
 refused-notes (n ∷ ns) =
     let rest = refused-notes ns in
-    let one = ap (λ b. if b then 1 else 0) (refused-reply n.reply) in
+    let one = ap {B = ℕ} (λ b. if b then 1 else 0) (refused-reply n.reply) in
     let left = sum_by-cons (λ (n : LineNote). if run.is_refused n.reply then 1 else 0) n ns in
     let right = sum_by-cons (λ (n : LineNote). if is_refusal n.reply then 1 else 0) n ns in
     omega (arith, rest, one, left, right)

@@ -1,9 +1,11 @@
-use Rattle.std.proofs.Common.{◌∙◌, ap, subst, sym}
+use Rattle.std.proofs.Common.{◌∙◌, subst, sym}
 use Rattle.cal_run.specs.Plain.{plain}
-use Rattle.cal_run.specs.Seeing.{CanBeRead}
 use Rattle.caliper.proofs.FewLines.{few_lines, refused-same}
-use Rattle.caliper.specs.Refusals.{refused_lines}
+use Rattle.caliper.specs.Refusals.{HasFewLines}
 use Rattle.caliper.proofs.journal.refused_of_plain.Goals as goal
 
-pub returns-in-Some : goal.returns-in-Some
-returns-in-Some c = c.requires.counted ∙ refused-same (plain c.args.script.now).threads
+pub count_refused-requires : goal.count_refused-requires
+count_refused-requires c =
+    let script = c.args.script.now in
+    subst HasFewLines (sym c.in_ok-journal-in-None.ensures.plain)
+    (few_lines script (plain script) c.requires.runnable (c.plain_journal_law.ensures.read script))
