@@ -1,13 +1,13 @@
 ghost use Rattle.std.specs.Prelude.{◌≡◌, ◌+◌, ◌<◌, ◌≤◌, ◌^◌, ◌∷◌, false, length, IfErr, IfNone};
 ghost use Rattle.std.specs.Prelude.{IfOk, IfSome};
 ghost use Rattle.cal_script.specs.Lines.{lines_of};
+ghost use Rattle.cal_script.specs.Rests.{bytes_in};
 ghost use Rattle.cal_journal.specs.Both.{IsFront, IsRefusalOf, MeansBoth, begins, ends_word};
 ghost use Rattle.cal_journal.specs.Both.{script_length};
 
 use crate::BothEnd;
 use crate::reading::read_journal;
-use cal_line::next_line;
-use cal_script::{JournalText, LineEnd, Reader, Script};
+use cal_script::{JournalText, LineEnd, Reader, Rest, Script};
 use std::alloc::Global;
 
 fn ends_word(behind: &[u8]) -> bool
@@ -27,18 +27,17 @@ fn begins_journal(line: &[u8]) -> bool
 }
 
 /// The next line, where it is one of the script, and what stands behind it.
-fn script_line(rest: &[u8]) -> Option<(&[u8], &[u8])>
-    ensures lines { IfSome result (λ parts. lines_of rest.now
-        ≡ parts.0.now ∷ lines_of parts.1.now) }
-    ensures shorter { IfSome result (λ parts. length parts.1.now < length rest.now) }
-    ensures script { IfSome result (λ parts. begins parts.0.now ≡ false) }
-    ensures none { IfNone result (script_length (lines_of rest.now) ≡ 0) }
+#[inline(always)]
+fn script_line(rest: Rest<'_>) -> Option<(Rest<'_>, Rest<'_>)>
+    ensures lines { IfSome result (λ parts. lines_of (bytes_in rest.entry)
+        ≡ bytes_in parts.0 ∷ lines_of (bytes_in parts.1)) }
+    ensures shorter { IfSome result (λ parts. length (bytes_in parts.1)
+        < length (bytes_in rest.entry)) }
+    ensures script { IfSome result (λ parts. begins (bytes_in parts.0) ≡ false) }
+    ensures none { IfNone result (script_length (lines_of (bytes_in rest.entry)) ≡ 0) }
 {
-    if rest.is_empty() {
-        return None;
-    }
-    let (line, after) = next_line(rest);
-    if begins_journal(line) {
+    let (line, after) = rest.next_line()?;
+    if begins_journal(line.bytes()) {
         return None;
     }
     Some((line, after))
@@ -58,11 +57,11 @@ fn read_front(alloc: Global, bytes: &[u8]) -> Result<Front<'_>, BothEnd>
     ensures fault { IfErr result (λ end. IsRefusalOf bytes.now end) }
 {
     let mut reader = Reader::new(alloc);
-    let mut rest = bytes;
+    let mut rest = Rest::of(bytes);
     let mut line: u64 = 0;
     while let Some((text, after)) = script_line(rest) {
         line += 1;
-        match reader.read_line(alloc, text) {
+        match reader.read_rest(alloc, text) {
             Ok(()) => {}
             Err(LineEnd::Bad(kind)) => return Err(BothEnd::Script { line, kind }),
             Err(LineEnd::OutOfMemory) => return Err(BothEnd::OutOfMemory),
@@ -70,6 +69,7 @@ fn read_front(alloc: Global, bytes: &[u8]) -> Result<Front<'_>, BothEnd>
         rest = after;
     }
     let script = reader.into_script()?;
+    let rest = rest.bytes();
     Ok(Front { script, line, rest })
 }
 

@@ -6,3 +6,5 @@ pub mod Runs
 pub mod FirstWords
 pub mod Plain
 pub mod Kept
+pub mod NewlineCuts
+pub mod Naming

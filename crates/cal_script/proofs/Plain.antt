@@ -1,8 +1,8 @@
 -- Spellings without a backslash.
-use Rattle.std.proofs.Common.{◌≡◌, ℕ, Bool, true, false, cond, eqb, Option, Some, None, List, [], ◌∷◌, map, length, refl, sym, ap, ◌∙◌, arith}
+use Rattle.std.proofs.Common.{◌≡◌, ℕ, ◌<◌, get_or, Bool, true, false, cond, eqb, Option, Some, None, List, [], ◌∷◌, map, length, refl, sym, ap, ◌∙◌, arith}
 use Rattle.std.specs.List.{All}
 use Rattle.std.specs.Option.{option_map}
-use Rattle.std.proofs.lemmas.Bool.{eqb-true, false_from_ne_true}
+use Rattle.std.proofs.lemmas.Bool.{eqb-true, false_from_ne_true, ne_eqb}
 use Rattle.std.proofs.lemmas.List.{get_or_default}
 use Rattle.std.proofs.lemmas.List.Elements.{All-head, All-tail}
 use Rattle.memchr.specs.Find.{Nowhere, Passes, is_byte}
@@ -31,7 +31,11 @@ plain (b ∷ c ∷ bytes) all =
     let rest : spelled_text (c ∷ bytes) ≡ Some (c ∷ bytes) = plain (c ∷ bytes) (All-tail (λ x. eqb x 92 ≡ false) b (c ∷ bytes) all) in
     rw other (onto_text (token b) (tokens_of (c ∷ bytes)) ∙ ap (option_map (λ (text : List ℕ). byte_of (token b) ∷ text)) rest ∙ ap (λ (x : ℕ). Some (x ∷ c ∷ bytes)) (byte_of-token b))
 
--- what has no backslash spells itself
+-- what has no backslash spells itself, by a look at each byte and by a search
+pub spelled_none : (bytes text : List ℕ) → bytes ≡ text → ((k : ℕ) → k < length bytes → get_or bytes k 0 ≡ 92 → ⊥) → spelled_text text ≡ Some text
+spelled_none bytes text are none =
+    rw (← are) (plain bytes (λ k d below. ne_eqb _ _ (rw (get_or_default bytes k d 0 below) (none k below))))
+
 pub spelled_plain : (bytes text : List ℕ) → bytes ≡ text → Nowhere (Passes (is_byte 92) bytes) 0 (length bytes) → spelled_text text ≡ Some text
 spelled_plain bytes text are none =
     rw (← are) (plain bytes (λ k d below. false_from_ne_true _ (λ is. none k (omega arith) below (rw (get_or_default bytes k d 0 below) at is))))

@@ -1,22 +1,22 @@
-ghost use Rattle.std.specs.Prelude.{◌≡◌, false, true, IfOk, IfSome, OnOk};
-ghost use Rattle.std.specs.Option.{ok_or, option_map};
+ghost use Rattle.std.specs.Prelude.{◌≡◌, false, true, IfOk, OnOk};
 ghost use Rattle.cal_script.specs.Limits.{fits};
-ghost use Rattle.cal_script.specs.Parts.{attribute_named, is_among};
+ghost use Rattle.cal_script.specs.Parts.{is_among};
 ghost use Rattle.cal_script.specs.Reader.{IsReading, SameLines, state_of};
 ghost use Rattle.cal_script.specs.Reading.{attribute_after, channel_after, global_after, global_of};
 ghost use Rattle.cal_script.specs.Reading.{global_names, key_after, value_after};
 ghost use Rattle.cal_script.specs.Steps.{Gives, words_behind};
-ghost use Rattle.cal_script.specs.declared.kind.ScriptKind.TheVariants as kinds;
 
 use crate::ScriptKind;
 use crate::attributes::read_attribute;
 use crate::channels::read_channel;
 use crate::end::LineEnd;
+use crate::hints::Seen;
 use crate::lists::{add_keys, add_values};
 use crate::reader::Reader;
+use crate::recent::Declared;
 use crate::value::read_value;
 use crate::words::{three_words, two_words, word_and_rest};
-use cal_value::{Attribute, Entry, TryCopy};
+use cal_value::{Entry, TryCopy};
 use std::alloc::Global;
 
 /// The lines of a header.
@@ -40,6 +40,8 @@ impl Reader {
             return Err(LineEnd::Bad(ScriptKind::WrongArity));
         };
         let attribute = read_attribute(alloc, &self.attributes, name, kind, props)?;
+        self.near
+            .keep(alloc, Seen::of(name).hash, self.attributes.items.len())?;
         self.attributes.add(alloc, attribute)?;
         Ok(())
     }
@@ -63,19 +65,6 @@ impl Reader {
         Ok(())
     }
 
-    /// The attribute of this name, with its place.
-    #[inline(always)]
-    pub(crate) fn named(&self, name: &str) -> Option<(u32, &Attribute)>
-        requires kept { IsReading self.now }
-        requires fits { fits (state_of self.now) ≡ true }
-        ensures named { ok_or (option_map (λ named. (named.0, named.1.now)) result) kinds.UnknownName
-            ≡ attribute_named self.now.attributes.items name.now }
-        ensures same { IfSome result (λ named. named.1.now.name ≡ name.now) }
-    {
-        let place = self.attributes.place_near(self.recent, name)?;
-        Some((place as u32, &self.attributes.items.as_slice()[place]))
-    }
-
     fn global_of(&self, alloc: Global, name: &str, value: &str) -> Result<Entry, LineEnd>
         requires kept { IsReading self.now }
         requires fits { fits (state_of self.now) ≡ true }
@@ -87,7 +76,7 @@ impl Reader {
         if self.globals.has(name) {
             return Err(LineEnd::Bad(ScriptKind::DuplicateName));
         }
-        let Some((_, attribute)) = self.named(name) else {
+        let Some(Declared { attribute, .. }) = self.named(name) else {
             return Err(LineEnd::Bad(ScriptKind::UnknownName));
         };
         if !attribute.props.is_global() {

@@ -8,6 +8,7 @@ ghost use Rattle.cal_script.specs.declared.script.Line.TheVariants as line;
 
 use crate::end::LineEnd;
 use crate::reader::Reader;
+use crate::recent::Naming;
 use crate::said::Said;
 use crate::tally::made_words;
 use crate::value::read_value;
@@ -30,7 +31,7 @@ pub(crate) struct Opening<'a> {
 /// The lines that open a value.
 impl Reader {
     #[inline(always)]
-    #[tactic(auto, using(crate::proofs::Values::made_small))]
+    #[tactic(auto, using(crate::proofs::Values::made_small, crate::proofs::Naming::opening_falls, crate::proofs::Naming::opening_goes))]
     fn opening_of<'a>(&self, alloc: Global, rest: Option<&'a str>) -> Result<Opening<'a>, LineEnd>
         requires kept { IsReading self.now }
         requires fits { fits (state_of self.now) ≡ true }
@@ -38,15 +39,14 @@ impl Reader {
             (opening_said (state_of self.now) (words_behind rest.entry)) }
         ensures small { IfOk result (λ opening. opening.words ≤ 516) }
     {
-        let Some((name, value)) = self.name_and_rest(rest) else {
-            return Err(LineEnd::Bad(ScriptKind::WrongArity));
+        let Naming { named, rest } = match self.naming(rest) {
+            Ok(naming) => naming,
+            Err(kind) => return Err(LineEnd::Bad(kind)),
         };
-        let Some((attr, attribute)) = self.named(name) else {
-            return Err(LineEnd::Bad(ScriptKind::UnknownName));
-        };
-        let value = read_value(alloc, attribute.kind, value)?;
+        let attribute = named.attribute;
+        let value = read_value(alloc, attribute.kind, rest)?;
         Ok(Opening {
-            attr,
+            attr: named.place,
             process: attribute.props.has_process_scope(),
             words: made_words(attribute, &value),
             value,

@@ -3,14 +3,16 @@ ghost use Rattle.cal_script.specs.Limits.{fits, thread_count};
 ghost use Rattle.cal_script.specs.Lines.{words_of};
 ghost use Rattle.cal_script.specs.Reader.{HasNames, IsNear, IsReading, IsSmall, last_thread, state_of};
 ghost use Rattle.cal_script.specs.Reading.{line_after, text_after, words_after};
+ghost use Rattle.cal_script.specs.Rests.{bytes_in};
 ghost use Rattle.cal_script.specs.State.{no_lines, script_of, with_line};
 ghost use Rattle.cal_script.specs.Steps.{Gives, words_behind};
 
 use crate::end::LineEnd;
+use crate::hints::Hints;
 use crate::register::Register;
 use crate::tally::{Tally, tree_words};
 use crate::words::{behind, first_word, is_skipped};
-use crate::{Channel, Line, Script, ScriptKind, ValueList};
+use crate::{Channel, Line, Rest, Script, ScriptKind, ValueList};
 use cal_value::{Attribute, Entry, OutOfMemory, Seq};
 use std::alloc::Global;
 
@@ -41,6 +43,8 @@ pub struct Reader {
     pub(crate) tally: Tally,
     /// Where the attribute stands that a line named last. The next line likely names it too.
     pub(crate) recent: usize,
+    /// Where attributes may stand, by their names.
+    pub(crate) near: Hints,
 }
 
 impl Reader {
@@ -67,6 +71,7 @@ impl Reader {
                 most: 0,
             },
             recent: 0,
+            near: Hints::new(alloc),
         }
     }
 
@@ -83,10 +88,39 @@ impl Reader {
         let Ok(text) = std::str::from_utf8(line) else {
             return Err(LineEnd::Bad(ScriptKind::NotText));
         };
-        if is_skipped(line) {
+        self.read_known(alloc, text)
+    }
+
+    /// Reads the next line, of which it may be known that it is a text.
+    #[inline(always)]
+    pub fn read_rest(&mut self, alloc: Global, line: Rest<'_>) -> Result<(), LineEnd>
+        requires kept { IsReading self.old }
+        requires fits { fits (state_of self.old) ≡ true }
+        ensures said { Gives (λ _. state_of self.new) result
+            (line_after (state_of self.old) (bytes_in line.entry)) }
+        ensures kept { OnOk result (IsReading self.new) }
+        ensures fits { OnOk result (fits (state_of self.new) ≡ true) }
+    {
+        match line {
+            Rest::Bytes(bytes) => self.read_line(alloc, bytes),
+            Rest::Text(text) => self.read_known(alloc, text),
+        }
+    }
+
+    /// Reads the next line, which is a text.
+    #[tactic(auto, unfolding(crate::specs::Reading::line_after), using(crate::proofs::Runs::texts))]
+    fn read_known(&mut self, alloc: Global, line: &str) -> Result<(), LineEnd>
+        requires kept { IsReading self.old }
+        requires fits { fits (state_of self.old) ≡ true }
+        ensures said { Gives (λ _. state_of self.new) result
+            (line_after (state_of self.old) line.now) }
+        ensures kept { OnOk result (IsReading self.new) }
+        ensures fits { OnOk result (fits (state_of self.new) ≡ true) }
+    {
+        if is_skipped(line.as_bytes()) {
             return Ok(());
         }
-        self.read_text(alloc, text)
+        self.read_text(alloc, line)
     }
 
     /// Reads a line that says something.
@@ -143,6 +177,12 @@ impl Reader {
         }
         if let Some((_, rest)) = behind(line, "end") {
             return self.read_end(Some(rest));
+        }
+        if line == "snapshot" {
+            return self.read_snapshot(None);
+        }
+        if let Some((_, rest)) = behind(line, "tick") {
+            return self.read_tick(alloc, Some(rest));
         }
         let (word, rest) = first_word(line);
         match word {
@@ -201,6 +241,7 @@ impl Reader {
             lines,
             tally: _,
             recent: _,
+            near: _,
         } = self;
         Ok(Script {
             attributes: attributes.into_items(),

@@ -4,8 +4,7 @@ ghost use Rattle.cal_script.specs.Reading.{Means};
 
 use crate::end::LineEnd;
 use crate::reader::Reader;
-use crate::{Script, ScriptEnd};
-use cal_line::next_line;
+use crate::{Rest, Script, ScriptEnd};
 use std::alloc::Global;
 
 /// The script that the bytes mean. It takes time in their number.
@@ -14,12 +13,11 @@ pub fn read_script(alloc: Global, bytes: &[u8]) -> Result<Script, ScriptEnd>
     ensures fault { IfErr result (λ end. IsRefusalOf bytes.now end) }
 {
     let mut reader = Reader::new(alloc);
-    let mut rest = bytes;
+    let mut rest = Rest::of(bytes);
     let mut line: u64 = 0;
-    while !rest.is_empty() {
-        let (text, after) = next_line(rest);
+    while let Some((text, after)) = rest.next_line() {
         line += 1;
-        match reader.read_line(alloc, text) {
+        match reader.read_rest(alloc, text) {
             Ok(()) => {}
             Err(LineEnd::Bad(kind)) => return Err(ScriptEnd::BadLine { line, kind }),
             Err(LineEnd::OutOfMemory) => return Err(ScriptEnd::OutOfMemory),

@@ -1,5 +1,5 @@
 ghost use Rattle.std.specs.Prelude.{◌≡◌, ◌<◌, ◌++◌, ◌∷◌, [], List, ℕ, Some, false, length, map};
-ghost use Rattle.std.specs.Prelude.{slice_index_or, OnOk, IfSome, IsTrue};
+ghost use Rattle.std.specs.Prelude.{slice_get, slice_index_or, OnOk, IfSome, IsTrue};
 ghost use Rattle.cal_script.specs.Parts.{is_among, place_of};
 ghost use Rattle.cal_script.specs.Registers.{IsRegister};
 
@@ -114,6 +114,22 @@ impl<T: Named + Drop> Register<T> {
             return false;
         }
         name == items[place].name()
+    }
+
+    /// The item at a place, if there is one: it is the one that is found by its name.
+    #[inline(always)]
+    pub(crate) fn at(&self, place: usize) -> Option<&T>
+        requires { IsRegister T.name_of self.now }
+        ensures item { IfSome result (λ item. slice_get self.now.items place ≡ Some item.now) }
+        ensures found { IfSome result (λ item.
+            place_of (map T.name_of self.now.items) (T.name_of item.now) ≡ Some place) }
+    {
+        let items = self.items.as_slice();
+        let count = self.names.len();
+        if place >= count {
+            return None;
+        }
+        Some(&items[place])
     }
 
     /// Adds an item, whose name no other has. After an `Err` the register is of no more use.

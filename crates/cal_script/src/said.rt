@@ -13,7 +13,8 @@ pub(crate) struct Said<'a> {
 
 #[derive(Debug, Drop)]
 pub(crate) enum SaidForm<'a> {
-    Text(&'a str),
+    /// A text, and what it is looked for by.
+    Text { text: &'a str, hash: usize },
     Value(Variant),
 }
 
@@ -32,7 +33,7 @@ impl<'a> Said<'a> {
         ensures { IfOk result (λ value. value ≡ self.entry) }
     {
         match self.form {
-            SaidForm::Text(text) => Ok(Variant::Text(Text::from_str(alloc, text)?)),
+            SaidForm::Text { text, hash: _ } => Ok(Variant::Text(Text::from_str(alloc, text)?)),
             SaidForm::Value(value) => Ok(value),
         }
     }

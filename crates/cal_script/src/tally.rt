@@ -84,7 +84,7 @@ pub(crate) fn made_words(attribute: &Attribute, value: &Said<'_>) -> u64
         return 0;
     }
     match &value.form {
-        SaidForm::Text(text) => text_node_length(text),
+        SaidForm::Text { text, hash: _ } => text_node_length(text),
         SaidForm::Value(value) => node_length(value),
     }
 }

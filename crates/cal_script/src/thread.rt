@@ -1,19 +1,16 @@
-ghost use Rattle.std.specs.Prelude.{◌≡◌, ◌<◌, ◌≤◌, ◌++◌, ◌∷◌, [], length, true, Some};
-ghost use Rattle.std.specs.Prelude.{IfOk, IfSome, IsTrue, OnOk};
+ghost use Rattle.std.specs.Prelude.{◌≡◌, ◌<◌, length, true, OnOk};
 ghost use Rattle.std.specs.Option.{ok_or, option_map};
 ghost use Rattle.cal_script.specs.Limits.{fits};
-ghost use Rattle.cal_script.specs.Lines.{one_word, word_and_rest, words_of};
-ghost use Rattle.cal_script.specs.Names.{is_name};
 ghost use Rattle.cal_script.specs.Parts.{channel_named};
-ghost use Rattle.cal_script.specs.Reader.{AreNamed, IsNear, IsReading, ended, state_of};
-ghost use Rattle.cal_script.specs.Reading.{end_after, flush_after, opening_after, snapshot_after};
-ghost use Rattle.cal_script.specs.Reading.{opening_said, thread_after, tick_after};
+ghost use Rattle.cal_script.specs.Reader.{IsNear, IsReading, ended, state_of};
+ghost use Rattle.cal_script.specs.Reading.{end_after, flush_after, snapshot_after};
+ghost use Rattle.cal_script.specs.Reading.{thread_after, tick_after};
 ghost use Rattle.cal_script.specs.Steps.{Gives, words_behind};
 ghost use Rattle.cal_script.specs.declared.kind.ScriptKind.TheVariants as kinds;
-ghost use Rattle.cal_script.specs.declared.script.Line.TheVariants as line;
 
 use crate::end::LineEnd;
 use crate::reader::Reader;
+use crate::recent::Declared;
 use crate::value::read_number;
 use crate::words::one_word;
 use crate::{Channel, Line, ScriptKind};
@@ -56,6 +53,7 @@ impl Reader {
     }
 
     #[inline(always)]
+    #[tactic(auto, using(crate::proofs::Naming::end_by_name))]
     pub(crate) fn read_end(&mut self, rest: Option<&str>) -> Result<(), LineEnd>
         requires kept { IsReading self.old }
         requires fits { fits (state_of self.old) ≡ true }
@@ -68,12 +66,11 @@ impl Reader {
         if !self.in_thread {
             return Err(LineEnd::Bad(ScriptKind::Misplaced));
         }
-        let Some(name) = self.one_name(rest) else {
-            return Err(LineEnd::Bad(ScriptKind::WrongArity));
+        let Declared { place, attribute } = match self.alone(rest) {
+            Ok(named) => named,
+            Err(kind) => return Err(LineEnd::Bad(kind)),
         };
-        let Some((attr, attribute)) = self.named(name) else {
-            return Err(LineEnd::Bad(ScriptKind::UnknownName));
-        };
+        let attr = place;
         let process = attribute.props.has_process_scope();
         self.recent = attr as usize;
         self.add_line(Line::End { attr }, process, 0)?;

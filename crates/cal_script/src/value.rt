@@ -1,4 +1,4 @@
-ghost use Rattle.std.specs.Prelude.{◌≡◌, Some, IfOk, IfSome, IsTrue};
+ghost use Rattle.std.specs.Prelude.{◌≡◌, Some, IfOk, IsTrue};
 ghost use Rattle.std.specs.Option.{ok_or};
 ghost use Rattle.cal_line.specs.Tokens.{spelled_text};
 ghost use Rattle.cal_value.specs.Reading.{uint_of, value_of};
@@ -10,10 +10,10 @@ ghost use Rattle.cal_value.specs.declared.variant.Variant.TheVariants as variant
 
 use crate::ScriptKind;
 use crate::end::LineEnd;
+use crate::hints::Seen;
 use crate::said::{Said, SaidForm};
 use cal_line::{FieldEnd, unescape};
 use cal_value::{Kind, OutOfMemory, Text, ValueFault, Variant, parse_value};
-use memchr::memchr;
 use std::alloc::Global;
 
 const LEAST: i128 = -9_223_372_036_854_775_808;
@@ -89,9 +89,9 @@ fn allowed(value: Variant) -> Result<Said<'static>, LineEnd>
     })
 }
 
-/// The value of a text of the kind `string`.
+/// The value of a text of the kind `string` in which no backslash stands.
 #[inline(always)]
-fn allowed_text(text: &str) -> Result<Said<'_>, LineEnd>
+fn allowed_text(text: &str, hash: usize) -> Result<Said<'_>, LineEnd>
     ensures allowed { IfOk result (λ value. IsTrue (is_allowed value)) }
     ensures said { Gives (λ value. value) result (allowed (variant.Text text.now)) }
 {
@@ -99,18 +99,8 @@ fn allowed_text(text: &str) -> Result<Said<'_>, LineEnd>
         return Err(LineEnd::Bad(ScriptKind::BadValue));
     }
     Ok(Said {
-        form: SaidForm::Text(text),
+        form: SaidForm::Text { text, hash },
     })
-}
-
-/// The text that a VALUE spells, where no escape stands in it: the VALUE itself.
-fn plain_text(spelled: &str) -> Option<&str>
-    ensures { IfSome result (λ text. spelled_text spelled.now ≡ Some text.now) }
-{
-    match memchr(b'\\', spelled.as_bytes()) {
-        Some(_) => None,
-        None => Some(spelled),
-    }
 }
 
 /// The value of a kind that a VALUE says.
@@ -119,13 +109,22 @@ pub(crate) fn read_value(alloc: Global, kind: Kind, spelled: &str) -> Result<Sai
     ensures allowed { IfOk result (λ value. IsTrue (is_allowed value)) }
     ensures said { Gives (λ value. value) result (value_said kind spelled.now) }
 {
-    if let Some(text) = plain_text(spelled) {
-        if let Kind::Str = kind {
-            return allowed_text(text);
-        }
-        let value = written_value(alloc, kind, text)?;
-        return allowed(value);
+    let seen = Seen::of(spelled);
+    if seen.escapes {
+        return read_escaped(alloc, kind, spelled);
     }
+    if let Kind::Str = kind {
+        return allowed_text(spelled, seen.hash);
+    }
+    let value = written_value(alloc, kind, spelled)?;
+    allowed(value)
+}
+
+/// The value of a kind that a VALUE with a backslash says.
+fn read_escaped(alloc: Global, kind: Kind, spelled: &str) -> Result<Said<'_>, LineEnd>
+    ensures allowed { IfOk result (λ value. IsTrue (is_allowed value)) }
+    ensures said { Gives (λ value. value) result (value_said kind spelled.now) }
+{
     let text = read_text(alloc, spelled)?;
     let value = value_of_text(alloc, kind, text)?;
     allowed(value)

@@ -1,20 +1,15 @@
 ghost use Rattle.std.specs.Prelude.{◌≡◌, ◌<◌, ◌++◌, ◌∷◌, [], length, map, slice_get, OnOk};
-ghost use Rattle.std.specs.Prelude.{IfSome, Some};
+ghost use Rattle.std.specs.Prelude.{IsTrue, Some};
 ghost use Rattle.std.specs.List.{All};
 ghost use Rattle.std.specs.Option.{option_copied};
 ghost use Rattle.cal_script.specs.Values.{value_in};
 ghost use Rattle.cal_value.specs.declared.variant.Variant.TheVariants as variant;
 
+use crate::hints::Hints;
 use crate::said::{Said, SaidForm};
 use cal_value::{OutOfMemory, Seq, Text, Variant};
 use std::alloc::Global;
 use std::marker::Model;
-
-/// For how many texts it is remembered where they stand.
-const HINTS: usize = 16_384;
-
-/// So many bytes of a text are hashed.
-const MOST_HASHED: usize = 32;
 
 /// Values in the order in which they came, which contracts see as their list. A text that comes
 /// again is kept once, unless too many others came between.
@@ -24,7 +19,7 @@ pub struct ValueList {
     /// The place of each value among those kept.
     places: Seq<u32>,
     /// By a hash of a text, where it may stand among those kept.
-    hints: Seq<u32>,
+    hints: Hints,
 }
 
 impl Model for ValueList {
@@ -48,7 +43,7 @@ impl ValueList {
         ValueList {
             kept: Seq::new(alloc),
             places: Seq::new(alloc),
-            hints: Seq::new(alloc),
+            hints: Hints::new(alloc),
         }
     }
 
@@ -89,39 +84,30 @@ impl ValueList {
         ensures { OnOk result (self.new ≡ self.old ++ value.entry ∷ []) }
     {
         match value.form {
-            SaidForm::Text(text) => self.add_text(alloc, text),
+            SaidForm::Text { text, hash } => self.add_text(alloc, text, hash),
             SaidForm::Value(value) => self.add_new(value),
         }
     }
 
+    /// Adds a text of this hash.
     #[inline(always)]
-    fn add_text(&mut self, alloc: Global, text: &str) -> Result<(), OutOfMemory>
+    fn add_text(&mut self, alloc: Global, text: &str, hash: usize) -> Result<(), OutOfMemory>
         ensures { OnOk result (self.new ≡ self.old ++ variant.Text text.now ∷ []) }
     {
-        let hash = hash_of(text);
-        if let Some(place) = place_of(self.kept.as_slice(), self.hints.as_slice(), hash, text) {
-            self.places.push(place)?;
+        let likely = self.hints.likely(hash);
+        if is_at(self.kept.as_slice(), likely as usize, text) {
+            self.places.push(likely)?;
             return Ok(());
         }
-        self.hint(alloc, hash)?;
-        self.add_new(Variant::Text(Text::from_str(alloc, text)?))
+        self.add_new_text(alloc, text, hash)
     }
 
-    /// Remembers that a text of this hash comes next.
-    fn hint(&mut self, alloc: Global, hash: usize) -> Result<(), OutOfMemory>
-        ensures { OnOk result (self.new ≡ self.old) }
+    /// Adds a text that isn't known to be kept, and remembers where it stands.
+    fn add_new_text(&mut self, alloc: Global, text: &str, hash: usize) -> Result<(), OutOfMemory>
+        ensures { OnOk result (self.new ≡ self.old ++ variant.Text text.now ∷ []) }
     {
-        if self.hints.is_empty() {
-            self.hints = Seq::from_vec(vec![in alloc; 0; HINTS]?);
-        }
-        let place = self.kept.len();
-        if place > u32::MAX as usize {
-            return Err(OutOfMemory);
-        }
-        if let Some(hint) = self.hints.get_mut(hash) {
-            *hint = place as u32;
-        }
-        Ok(())
+        self.hints.keep(alloc, hash, self.kept.len())?;
+        self.add_new(Variant::Text(Text::from_str(alloc, text)?))
     }
 
     fn add_new(&mut self, value: Variant) -> Result<(), OutOfMemory>
@@ -137,24 +123,13 @@ impl ValueList {
     }
 }
 
-/// A number below `HINTS` for a text, the same for the same text.
-fn hash_of(text: &str) -> usize {
-    let bytes = text.as_bytes();
-    let mut hash = 14695981039346656037 ^ bytes.len() as u64;
-    for byte in &bytes[..bytes.len().min(MOST_HASHED)] {
-        hash = (hash ^ u64::from(*byte)).wrapping_mul(1099511628211);
-    }
-    (hash ^ (hash >> 20)) as usize % HINTS
-}
-
-/// Where a text stands among the values kept, if a hint says so.
+/// Whether a text stands at a place of the values kept.
 #[inline(always)]
-fn place_of(kept: &[Variant], hints: &[u32], hash: usize, text: &str) -> Option<u32>
-    ensures { IfSome result (λ place. slice_get kept.now place ≡ Some (variant.Text text.now)) }
+fn is_at(kept: &[Variant], place: usize, text: &str) -> bool
+    ensures { IsTrue result → slice_get kept.now place ≡ Some (variant.Text text.now) }
 {
-    let place = *hints.get(hash)?;
-    match kept.get(place as usize)? {
-        Variant::Text(known) if known.as_str() == text => Some(place),
-        _ => None,
+    match kept.get(place) {
+        Some(Variant::Text(known)) => known.as_str() == text,
+        _ => false,
     }
 }

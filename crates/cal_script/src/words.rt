@@ -49,10 +49,10 @@ pub(crate) fn behind<'a>(text: &'a str, word: &str) -> Option<(&'a str, &'a str)
     ensures word { IfSome result (λ parts. parts.0.now ≡ word.now) }
 {
     let (front, rest) = cut_at(text, word.len())?;
-    if front != word {
-        return None;
+    if front == word {
+        return Some((front, rest));
     }
-    Some((front, rest))
+    None
 }
 
 /// A line's first word, and what stands behind the space that ends it.

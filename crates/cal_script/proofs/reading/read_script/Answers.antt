@@ -1,18 +1,20 @@
-use Rattle.std.proofs.Common.{rules}
+use Rattle.std.proofs.Common.{length, rules, ap}
+use Rattle.cal_script.specs.Rests.{bytes_in}
 use Rattle.cal_script.proofs.Runs.{run_on, run_falls, run_ends}
 use Rattle.cal_script.proofs.reading.read_script.Goals as goal
 
 pub returns-in-Err-Bad-clause-fault : goal.returns-in-Err-Bad-clause-fault
 returns-in-Err-Bad-clause-fault c =
-    run_falls c.args.bytes.now c.loop-rest.line c.loop-rest.reader c.loop-rest.rest.now c.loop-rest.invariant
-    c.next_line.result.0.now c.next_line.result.1.now _ c.next_line.ensures.lines (search rules)
+    run_falls c.args.bytes.now c.loop-text.line c.loop-text.reader (bytes_in c.loop-text.rest) c.loop-text.invariant
+    (bytes_in c.in-Some.text) (bytes_in c.in-Some.after) _ c.in-Some.ensures.lines (search rules)
 
-pub loop-rest-preserved : goal.loop-rest-preserved
-loop-rest-preserved c =
-    run_on c.args.bytes.now c.loop-rest.line c.loop-rest.reader c.loop-rest.rest.now c.loop-rest.invariant
-    c.next_line.result.0.now c.next_line.result.1.now c.read_line.new.self c.next_line.ensures.lines c.next_line.ensures.shorter c.in-Ok.ensures.said c.in-Ok.ensures.kept c.in-Ok.ensures.fits
+pub loop-text-preserved : goal.loop-text-preserved
+loop-text-preserved c =
+    run_on c.args.bytes.now c.loop-text.line c.loop-text.reader (bytes_in c.loop-text.rest) c.loop-text.invariant
+    (bytes_in c.in-Some.text) (bytes_in c.in-Some.after) c.read_rest.new.self c.in-Some.ensures.lines c.in-Some.ensures.shorter
+    c.in-Ok.ensures.said c.in-Ok.ensures.kept c.in-Ok.ensures.fits
 
 pub returns-clause-read : goal.returns-clause-read
 returns-clause-read c =
     rw c.in_ok-into_script.ensures
-    (run_ends c.args.bytes.now c.loop-rest.line c.loop-rest.reader c.loop-rest.rest.now c.loop-rest.invariant (search rules))
+    (run_ends c.args.bytes.now c.loop-text.line c.loop-text.reader (bytes_in c.loop-text.rest) c.loop-text.invariant (ap length c.in_default.ensures.none))

@@ -1,10 +1,11 @@
 use Rattle.std.proofs.Common.{length}
+use Rattle.cal_script.specs.Rests.{bytes_in}
 use Rattle.cal_script.proofs.Runs.{IsRun}
 use Rattle.cal_script.proofs.reading.read_script.Given as goal
 
 -- the lines so far say what the reader has, and the others are those of the rest
-abbrev pub invariant-loop-rest : goal.invariant-loop-rest
-invariant-loop-rest l = IsRun l.bytes l.line l.reader l.rest
+abbrev pub invariant-loop-text : goal.invariant-loop-text
+invariant-loop-text l = IsRun l.bytes l.line l.reader (bytes_in l.rest)
 
-abbrev pub decreases-loop-rest : goal.decreases-loop-rest
-decreases-loop-rest l = length l.rest
+abbrev pub decreases-loop-text : goal.decreases-loop-text
+decreases-loop-text l = length (bytes_in l.rest)
