@@ -2,6 +2,7 @@ mod ListLemmas
 mod FieldLemmas
 mod EachLemmas
 mod HeldLemmas
+mod InTurnLemmas
 mod CutLemmas
 mod FaultLemmas
 mod ColumnLemmas
@@ -15,6 +16,7 @@ mod WholeLemmas
 mod UsualLemmas
 mod UsualRowLemmas
 mod UsualColumnLemmas
+mod KnownLemmas
 mod UsualNodeLemmas
 mod NumberLemmas
 mod LineLemmas

@@ -13,7 +13,8 @@ use Rattle.cal_read.specs.Held.{IsNumberOf, held_at}
 use Rattle.cal_read.specs.NodeLines.{known, as_attribute}
 use Rattle.cal_read.specs.Nodes.{attribute_of, node_at}
 use Rattle.cal_read.specs.Usual.{IsPlain, IsThere, written_head, written_values}
-use Rattle.cal_read.specs.UsualColumns.{EndsAre, HasNode, HasNumber, ReadsColumns, ReadsEnds, ReadsHead, ReadsNumbers}
+use Rattle.cal_read.specs.Known.{NamesAttributes}
+use Rattle.cal_read.specs.UsualColumns.{EndsAre, HasNode, HasNumber, NumbersAre, ReadsColumns, ReadsEnds, ReadsHead}
 use Rattle.cal_read.specs.declared.nodes.Nodes.{Nodes}
 use Rattle.cal_read.proofs.ColumnLemmas.{attribute_is, ends_push, known_some}
 use Rattle.cal_read.proofs.EachLemmas.{each-push}
@@ -50,34 +51,26 @@ module _ (nodes : Nodes) (line : List ℕ) (start place end id : ℕ) where
 
 -- ---- ids of attributes
 
-pub numbers_none : (nodes : Nodes) (line : List ℕ) (start : ℕ) (numbers : List AttributeNumber) → start ≤ length line → numbers ≡ [] → ReadsNumbers nodes line start start numbers
-numbers_none nodes line start numbers within none = record {
-  ids = [];
-  read = ids_none line start [] within refl;
-  are = λ t named are. record { found = []; known = refl; attributes = []; have = refl; are = rw none (record { known = All-nil (λ n. n.0 < length t.attributes); are = refl }) };
-}
+pub numbers_none : (nodes : Nodes) (numbers : List AttributeNumber) → numbers ≡ [] → NumbersAre nodes [] numbers
+numbers_none nodes numbers none =
+    λ t named are. record { found = []; known = refl; attributes = []; have = refl; are = rw none (record { known = All-nil (λ n. n.0 < length t.attributes); are = refl }) }
 
-module _ (nodes : Nodes) (line : List ℕ) (start place end id : ℕ) where
-  pub numbers_more : (numbers new : List AttributeNumber) (n : AttributeNumber) → ReadsNumbers nodes line start place numbers → place < length line → get_or line place 0 ≡ 61 → IsPlain line (place + 1) end
-      → id_of (between (place + 1) end line) ≡ Ok id → HasNumber nodes id n → new ≡ numbers ++ n ∷ [] → ReadsNumbers nodes line start end new
-  numbers_more numbers new n so_far within sign plain is has items = record {
-    ids = so_far.ids ++ id ∷ [];
-    read = ids_more line start place end so_far.ids (so_far.ids ++ id ∷ []) id so_far.read within sign plain is refl;
-    are = λ t named are.
-        let before = so_far.are t named are in
-        let it = if_held t (held_at nodes id) (node_at named id) has.held (are id) has.there in
-        let a = attribute_is t n (attribute_of it.0) (subst (λ x. IsNumberOf t x (attribute_of it.0)) has.number_is it.2.number) in
-        record {
-          found = before.found ++ it.0 ∷ [];
-          known = each-push (known named) so_far.ids id before.found it.0 before.known (known_some named id it.0 it.1);
-          attributes = before.attributes ++ attribute_at t n ∷ [];
-          have = each-push as_attribute before.found it.0 before.attributes (attribute_at t n) before.have a.1;
-          are = rw items (record {
-            known = All-push (λ m. m.0 < length t.attributes) numbers n before.are.known a.0;
-            are = map-append (attribute_at t) numbers (n ∷ []) ∙ ap (λ r. r ++ attribute_at t n ∷ []) before.are.are;
-          });
-        };
-  }
+pub numbers_more : (nodes : Nodes) (ids : List ℕ) (id : ℕ) (numbers new : List AttributeNumber) (n : AttributeNumber) → NumbersAre nodes ids numbers → HasNumber nodes id n
+    → new ≡ numbers ++ n ∷ [] → NumbersAre nodes (ids ++ id ∷ []) new
+numbers_more nodes ids id numbers new n so_far has items = λ t named are.
+    let before = so_far t named are in
+    let it = if_held t (held_at nodes id) (node_at named id) has.held (are id) has.there in
+    let a = attribute_is t n (attribute_of it.0) (subst (λ x. IsNumberOf t x (attribute_of it.0)) has.number_is it.2.number) in
+    record {
+      found = before.found ++ it.0 ∷ [];
+      known = each-push (known named) ids id before.found it.0 before.known (known_some named id it.0 it.1);
+      attributes = before.attributes ++ attribute_at t n ∷ [];
+      have = each-push as_attribute before.found it.0 before.attributes (attribute_at t n) before.have a.1;
+      are = rw items (record {
+        known = All-push (λ m. m.0 < length t.attributes) numbers n before.are.known a.0;
+        are = map-append (attribute_at t) numbers (n ∷ []) ∙ ap (λ r. r ++ attribute_at t n ∷ []) before.are.are;
+      });
+    }
 
 -- ---- what stands before the values
 
@@ -119,23 +112,24 @@ head_some nodes line middle place start last end ends first second third are apa
     }
 
 -- all that stands before the values
-pub columns_there : (nodes : Nodes) (line : List ℕ) (place start last end : ℕ) (ends : List NodeNumber) (numbers : List AttributeNumber) → ReadsHead nodes line place ends
-    → IsThere line place (codes "attr") start → ReadsNumbers nodes line start last numbers → last ≢ start → IsThere line last (codes ",data") end → ReadsColumns nodes line end ends numbers
-columns_there nodes line place start last end ends numbers head key are apart values =
-    let texts = are.read.texts in
+pub columns_there : (nodes : Nodes) (line : List ℕ) (place start end : ℕ) (ends : List NodeNumber) (numbers : List AttributeNumber) → ReadsHead nodes line place ends
+    → IsThere line place (codes "attr") start → NamesAttributes nodes line start end numbers → ReadsColumns nodes line end ends numbers
+columns_there nodes line place start end ends numbers head key are =
+    let named = are.named in
+    let read = named.spelled.read in
     record {
       refs = head.refs;
       ids = are.ids;
       columns = record {
         refs_texts = head.head.texts;
-        texts = texts;
-        some = some_values line start last texts key.within are.read.values apart;
-        within = values.within;
+        texts = read.texts;
+        some = named.spelled.some;
+        within = named.key.within;
         whole = head.head.whole
             ∙ ap (λ (l : List ℕ). written_head head.head.texts ++ l)
-            (key.read ∙ ap (λ (l : List ℕ). codes "attr" ++ l) (are.read.values.read ∙ ap (λ (l : List ℕ). written_values texts ++ l) values.read));
+            (key.read ∙ ap (λ (l : List ℕ). codes "attr" ++ l) (read.values.read ∙ ap (λ (l : List ℕ). written_values read.texts ++ l) named.key.read));
         refs_read = head.head.read;
-        read = are.read.read;
+        read = read.read;
       };
       ends_are = head.are;
       numbers_are = are.are;

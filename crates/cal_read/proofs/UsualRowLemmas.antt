@@ -32,7 +32,7 @@ rec_field = record { key = codes "__rec"; values = codes "ctx" ∷ [] }
 abbrev ref_field : List (List ℕ) → Field
 ref_field texts = record { key = codes "ref"; values = texts }
 
-abbrev attr_field : List (List ℕ) → Field
+abbrev pub attr_field : List (List ℕ) → Field
 attr_field texts = record { key = codes "attr"; values = texts }
 
 abbrev data_field : List (List ℕ) → Field
@@ -43,7 +43,7 @@ usual_fields [] ids texts = rec_field ∷ attr_field ids ∷ data_field texts �
 usual_fields (ref ∷ refs) ids texts = rec_field ∷ ref_field (ref ∷ refs) ∷ attr_field ids ∷ data_field texts ∷ []
 
 -- how they are written
-pieces-values : (key : List ℕ) (values : List (List ℕ)) → written_pieces key values ≡ escaped key ++ written_values values
+pub pieces-values : (key : List ℕ) (values : List (List ℕ)) → written_pieces key values ≡ escaped key ++ written_values values
 pieces-values key [] = sym (append-nil (escaped key))
 pieces-values key (value ∷ values) = ap (λ (l : List ℕ). escaped key ++ 61 ∷ l) (pieces-values value values)
 
@@ -63,7 +63,7 @@ module _ (ids texts : List (List ℕ)) where
       ∙ ap (λ (l : List ℕ). written_values (ref ∷ refs) ++ 44 ∷ l) (sym behind_head))
       ∙ sym (ap (λ (l : List ℕ). codes "__rec=ctx," ++ (l ++ 44 ∷ written_fields (attr_field ids) (data_field texts ∷ []))) (pieces-values (codes "ref") (ref ∷ refs)))
 
-some_byte : (b : ℕ) (bytes : List ℕ) → (b ∷ bytes) ≢ []
+pub some_byte : (b : ℕ) (bytes : List ℕ) → (b ∷ bytes) ≢ []
 some_byte b bytes e = cc
 
 some_text : (text : List ℕ) (texts : List (List ℕ)) → (text ∷ texts) ≢ []

@@ -1,12 +1,12 @@
 -- What is held of the nodes of a stream, over a context (private).
 use Rattle.std.specs.Prelude.{◌≡◌, ℕ, ◌<◌, List, Option, Some, None, length, map, nat_eq}
-use Rattle.std.specs.Prelude.{slice_index_or}
 use Rattle.cal_context.specs.Tree.{Tree, attribute_at, path_at}
 use Rattle.cal_context.specs.declared.numbers.AttributeNumber.{AttributeNumber}
 use Rattle.cal_value.specs.declared.attribute.Attribute.{Attribute}
 use Rattle.indexmap.specs.IndexMap.{get}
 use Rattle.cal_read.specs.Nodes.{Step, Node, Named, steps_to, kind_below, props_below}
 use Rattle.cal_read.specs.Nodes.{attribute_of, node_at}
+use Rattle.cal_read.specs.InTurn.{in_turn_at}
 use Rattle.cal_read.specs.declared.nodes.Held.{Held}
 use Rattle.cal_read.specs.declared.nodes.Nodes.{Nodes}
 use Rattle.cal_read.specs.declared.nodes.Place.{Place}
@@ -16,9 +16,9 @@ abbrev pub or_else : Option Held → Option Held → Option Held
 or_else (Some h) other = Some h
 or_else None other = other
 
--- what is held of the node of an id, in the row or beside it
+-- what is held of the node of an id, in turn or beside
 abbrev pub held_at : Nodes → ℕ → Option Held
-held_at nodes id = or_else (slice_index_or nodes.row.items id None) (get nat_eq nodes.map id)
+held_at nodes id = or_else (in_turn_at nodes.in_turn id) (get nat_eq nodes.map id)
 
 -- a place is that behind these steps
 pub record IsAt (t : Tree) (place : Place) (steps : List Step) : Type 0 where

@@ -7,6 +7,8 @@ pub mod RecordLines
 pub mod Stream
 pub mod Steps
 pub mod Keys
+pub mod Shared
+pub mod InTurn
 pub mod Held
 pub mod Sites
 pub mod Columns
@@ -17,4 +19,5 @@ pub mod Reading
 pub mod Owned
 pub mod Usual
 pub mod UsualColumns
+pub mod Known
 pub mod UsualNodes

@@ -57,13 +57,6 @@ pub record ReadsEnds (nodes : Nodes) (line : List ℕ) (start end : ℕ) (ends :
   pub read : ReadsIds line start end ids
   pub are : EndsAre nodes ids ends
 
--- the values between two places are ids of attributes with these numbers
-pub record ReadsNumbers (nodes : Nodes) (line : List ℕ) (start end : ℕ)
-    (numbers : List AttributeNumber) : Type 0 where
-  pub ids : List ℕ
-  pub read : ReadsIds line start end ids
-  pub are : NumbersAre nodes ids numbers
-
 -- up to this place stands a head with ids of these nodes
 pub record ReadsHead (nodes : Nodes) (line : List ℕ) (end : ℕ) (ends : List NodeNumber) : Type 0
   where

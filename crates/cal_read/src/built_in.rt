@@ -11,6 +11,7 @@ use crate::node_line::{Site, held_there};
 use crate::node_texts::NodeIds;
 use crate::nodes::{Held, Nodes};
 use crate::place::root;
+use crate::recent::Recent;
 use cal_context::Context;
 use cal_value::{Attribute, Kind, OutOfMemory, Props, Text, Variant};
 use std::alloc::Global;
@@ -129,7 +130,15 @@ fn held_kind(alloc: Global, kind: Kind, context: &mut Context) -> Result<Held, O
         attribute: BuiltIn::OfKinds.id(),
         parent: None,
     };
-    held_there(alloc, &ids, &site, &Variant::Kind(kind), context)
+    let mut recent = Recent::new(alloc);
+    held_there(
+        alloc,
+        &mut recent,
+        &ids,
+        &site,
+        &Variant::Kind(kind),
+        context,
+    )
 }
 
 /// What is held of the node of a built-in attribute.
@@ -152,5 +161,6 @@ fn held_built_in(
         parent: Some(attribute.kind().node()),
     };
     let name = Variant::Text(Text::from_str(alloc, attribute.name())?);
-    held_there(alloc, &ids, &site, &name, context)
+    let mut recent = Recent::new(alloc);
+    held_there(alloc, &mut recent, &ids, &site, &name, context)
 }

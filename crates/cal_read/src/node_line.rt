@@ -17,6 +17,7 @@ use crate::end::LineEnd;
 use crate::node_texts::{NodeIds, ids_of, texts_of};
 use crate::nodes::{Held, Nodes, Place};
 use crate::place::{misfit, number_of, place_below, props_in, root};
+use crate::recent::Recent;
 use cal_context::{AttributeNumber, Context};
 use cal_line::Fields;
 use cal_value::{OutOfMemory, ValueFault, Variant, parse_value};
@@ -33,6 +34,7 @@ pub(crate) struct Site {
 pub(crate) fn read_node(
     alloc: Global,
     nodes: &mut Nodes,
+    recent: &mut Recent,
     fields: &Fields,
     context: &mut Context,
 ) -> Result<(), LineEnd>
@@ -44,13 +46,14 @@ pub(crate) fn read_node(
     let texts = texts_of(alloc, fields)?;
     let ids = ids_of(alloc, &texts)?;
     let text = texts.value.text(alloc)?;
-    add_node(alloc, nodes, &ids, text.as_str(), context)
+    add_node(alloc, nodes, recent, &ids, text.as_str(), context)
 }
 
 /// Adds the node of these ids and this text. After an `Err` the nodes are of no more use.
 pub(crate) fn add_node(
     alloc: Global,
     nodes: &mut Nodes,
+    recent: &mut Recent,
     ids: &NodeIds,
     text: &str,
     context: &mut Context,
@@ -65,7 +68,7 @@ pub(crate) fn add_node(
     if let Some(kind) = misfit(ids.attribute, &site.above) {
         return Err(LineEnd::Bad(kind));
     }
-    put_node(alloc, nodes, ids, &site, &value, context)
+    put_node(alloc, nodes, recent, ids, &site, &value, context)
 }
 
 /// The attribute and the place above, of these ids.
@@ -121,6 +124,7 @@ fn node_value(
 fn put_node(
     alloc: Global,
     nodes: &mut Nodes,
+    recent: &mut Recent,
     ids: &NodeIds,
     site: &Site,
     value: &Variant,
@@ -145,7 +149,7 @@ fn put_node(
             }
         }
         None => {
-            let held = held_there(alloc, ids, site, value, context)?;
+            let held = held_there(alloc, recent, ids, site, value, context)?;
             nodes.insert(ids.id, held)?;
             Ok(())
         }
@@ -186,6 +190,7 @@ fn has_value(old: &Held, value: &Variant, context: &Context) -> bool
 /// What is held of a new node.
 pub(crate) fn held_there(
     alloc: Global,
+    recent: &mut Recent,
     ids: &NodeIds,
     site: &Site,
     value: &Variant,
@@ -198,7 +203,7 @@ pub(crate) fn held_there(
     ensures held { IfOk result (λ held. (n : Node)
         → IsToBe context.old ids.now site.now value.now n → IsHeld context.new held n) }
 {
-    let node = context.child(site.above.node, site.attribute, value)?;
+    let node = recent.child(context, site.above.node, site.attribute, value)?;
     let number = number_of(alloc, ids.attribute, value, &site.above, context)?;
     Ok(Held {
         place: place_below(&site.above, ids.attribute, value, node),

@@ -3,6 +3,7 @@ ghost use Rattle.std.specs.Prelude.{length, slice_index_or, IfSome};
 ghost use Rattle.cal_read.specs.Held.{held_at};
 ghost use Rattle.cal_read.specs.UsualColumns.{HasNode, HasNumber};
 
+use crate::in_turn::InTurn;
 use cal_context::{AttributeNumber, NodeNumber};
 use cal_value::{Kind, OutOfMemory};
 use indexmap::IndexMap;
@@ -30,8 +31,7 @@ pub(crate) struct Held {
 /// The nodes by their ids.
 #[derive(Drop)]
 pub(crate) struct Nodes {
-    // those whose ids come in turn, but for single gaps
-    row: Vec<Option<Held>>,
+    in_turn: InTurn,
     // the others
     map: IndexMap<u64, Held>,
 }
@@ -42,20 +42,18 @@ impl Nodes {
         ensures { (id : ℕ) → held_at result id ≡ None }
     {
         Nodes {
-            row: Vec::new(alloc),
+            in_turn: InTurn::new(alloc),
             map: IndexMap::new(alloc),
         }
     }
 
-    /// What is known of the node of an id: without a look-up where the ids come in turn. It is
-    /// inlined, so that a caller copies no more than it reads.
-    #[inline(always)]
+    /// What is known of the node of an id: without a look-up where the ids come in turn.
     pub(crate) fn get(&self, id: u64) -> Option<Held>
         ensures { result ≡ held_at self.now id }
     {
-        match in_row(self.row.as_slice(), id) {
+        match self.in_turn.get(id) {
             Some(held) => Some(held),
-            None => self.find(id),
+            None => self.map.get(&id).copied(),
         }
     }
 
@@ -64,9 +62,9 @@ impl Nodes {
     pub(crate) fn node(&self, id: u64) -> Option<NodeNumber>
         ensures { IfSome result (HasNode self.now id) }
     {
-        match there(self.row.as_slice(), id) {
-            Some(held) => Some(held.place.node),
-            None => Some(self.find(id)?.place.node),
+        match self.in_turn.node(id) {
+            Some(node) => Some(node),
+            None => Some(self.get(id)?.place.node),
         }
     }
 
@@ -75,20 +73,9 @@ impl Nodes {
     pub(crate) fn number(&self, id: u64) -> Option<AttributeNumber>
         ensures { IfSome result (HasNumber self.now id) }
     {
-        match there(self.row.as_slice(), id) {
-            Some(held) => held.number,
-            None => self.find(id)?.number,
-        }
-    }
-
-    /// The same as `get`, for whoever seldom asks.
-    #[inline(never)]
-    pub(crate) fn find(&self, id: u64) -> Option<Held>
-        ensures { result ≡ held_at self.now id }
-    {
-        match in_row(self.row.as_slice(), id) {
-            Some(held) => Some(held),
-            None => self.map.get(&id).copied(),
+        match self.in_turn.number(id) {
+            Some(number) => Some(number),
+            None => self.get(id)?.number,
         }
     }
 
@@ -97,47 +84,9 @@ impl Nodes {
         ensures { OnOk result ((other : ℕ) → held_at self.new other
             ≡ (if id == other then Some held else held_at self.old other)) }
     {
-        let place = id as usize;
-        if place > self.row.len() + 1 {
+        if !self.in_turn.put(id, &held)? {
             self.map.insert(id, held)?;
-            return Ok(());
         }
-        put(&mut self.row, place, held)
+        Ok(())
     }
-}
-
-/// Where a row has something at the place of an id.
-#[inline(always)]
-fn there(row: &[Option<Held>], id: u64) -> Option<&Held>
-    ensures { IfSome result (λ held. slice_index_or row.now id None ≡ Some held.now) }
-{
-    row.get(id as usize)?.as_ref()
-}
-
-/// What a row has at the place of an id.
-#[inline(always)]
-fn in_row(row: &[Option<Held>], id: u64) -> Option<Held>
-    ensures { result ≡ slice_index_or row.now id None }
-{
-    match row.get(id as usize) {
-        Some(held) => *held,
-        None => None,
-    }
-}
-
-/// Puts a node into a row that is so long, or one shorter, or longer.
-fn put(row: &mut Vec<Option<Held>>, place: usize, held: Held) -> Result<(), OutOfMemory>
-    requires { place ≤ length row.old.items + 1 }
-    ensures { OnOk result ((other : ℕ) → slice_index_or row.new.items other None
-        ≡ (if place == other then Some held else slice_index_or row.old.items other None)) }
-{
-    if place < row.len() {
-        row[place] = Some(held);
-        return Ok(());
-    }
-    if place > row.len() {
-        row.push(None)?;
-    }
-    row.push(Some(held))?;
-    Ok(())
 }

@@ -16,6 +16,7 @@ use crate::StreamKind;
 use crate::end::LineEnd;
 use crate::ids::read_id;
 use crate::keys::field_with_key;
+use crate::lately::Lately;
 use crate::nodes::Nodes;
 use cal_context::{AttributeNumber, Context, Immediate, NodeNumber, Snapshot};
 use cal_line::{FieldPieces, Fields, Piece};
@@ -23,7 +24,7 @@ use cal_value::{Text, ValueFault, Variant, parse_value};
 use std::alloc::Global;
 
 /// Lists that serve for line after line: the ids of a record's nodes, those of its attributes, what
-/// is known of these, and texts whose memory serves again.
+/// is known of these, texts whose memory serves again, and what rows had in `attr` lately.
 #[derive(Drop)]
 pub(crate) struct Columns {
     pub(crate) refs: Vec<u64>,
@@ -31,6 +32,7 @@ pub(crate) struct Columns {
     pub(crate) found: Vec<Option<AttributeNumber>>,
     pub(crate) numbers: Vec<AttributeNumber>,
     pub(crate) spare: Vec<Text>,
+    pub(crate) lately: Lately,
 }
 
 impl Columns {
@@ -42,6 +44,7 @@ impl Columns {
             found: Vec::new(alloc),
             numbers: Vec::new(alloc),
             spare: Vec::new(alloc),
+            lately: Lately::new(alloc),
         }
     }
 }
@@ -141,7 +144,7 @@ fn push_nodes(nodes: &Nodes, ids: &[u64], ends: &mut Vec<NodeNumber>) -> Result<
         → AnswersFor (λ _. AreEnds t ends.new.items) result (each (known named) ids.now) }
 {
     for id in ids {
-        let Some(held) = nodes.find(*id) else {
+        let Some(held) = nodes.get(*id) else {
             return Err(LineEnd::Bad(StreamKind::UnknownNode));
         };
         ends.push(held.place.node)?;
@@ -160,7 +163,7 @@ fn push_found(
         → AnswersFor (λ _. AreFound t found.new.items) result (each (known named) ids.now) }
 {
     for id in ids {
-        let Some(held) = nodes.find(*id) else {
+        let Some(held) = nodes.get(*id) else {
             return Err(LineEnd::Bad(StreamKind::UnknownNode));
         };
         found.push(held.number)?;

@@ -13,6 +13,7 @@ use crate::keys::repeats_key;
 use crate::line::Line;
 use crate::node_line::{add_node, read_node};
 use crate::nodes::Nodes;
+use crate::recent::Recent;
 use crate::record_line::{Columns, read_record};
 use crate::sort::{Sort, sort_of};
 use crate::usual_node::usual_node;
@@ -30,6 +31,7 @@ pub(crate) struct Stream {
     pub(crate) globals: Snapshot,
     columns: Columns,
     row: Snapshot,
+    recent: Recent,
 }
 
 impl Stream {
@@ -43,6 +45,7 @@ impl Stream {
             globals: Snapshot::new(alloc),
             columns: Columns::new(alloc),
             row: Snapshot::new(alloc),
+            recent: Recent::new(alloc),
         })
     }
 
@@ -149,7 +152,17 @@ impl Stream {
             (standing T.has_taken context.new self.new taker.new) result }
     {
         match usual_node(line) {
-            Ok(node) => add_node(alloc, &mut self.nodes, &node.ids, node.text, context),
+            Ok(node) => {
+                let recent = &mut self.recent;
+                add_node(
+                    alloc,
+                    &mut self.nodes,
+                    recent,
+                    &node.ids,
+                    node.text,
+                    context,
+                )
+            }
             Err(_) => self.read_split(alloc, splitter, line, context, taker),
         }
     }
@@ -193,7 +206,7 @@ impl Stream {
             return Err(LineEnd::Bad(StreamKind::BadField));
         }
         match sort_of(alloc, fields)? {
-            Sort::OfNode => read_node(alloc, &mut self.nodes, fields, context),
+            Sort::OfNode => read_node(alloc, &mut self.nodes, &mut self.recent, fields, context),
             Sort::OfRow => self.read_row(alloc, fields, context, taker),
             Sort::OfGlobals => self.read_globals(alloc, fields, context),
         }

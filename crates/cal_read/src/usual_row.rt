@@ -30,7 +30,9 @@ pub(crate) fn read_usual_row(
 {
     empty(snapshot, &mut columns.spare)?;
     columns.numbers.clear();
-    let start = read_columns(nodes, line, &mut snapshot.nodes, &mut columns.numbers)?;
+    let lately = &mut columns.lately;
+    let numbers = &mut columns.numbers;
+    let start = read_columns(alloc, nodes, lately, line, &mut snapshot.nodes, numbers)?;
     let imms = &mut snapshot.imms;
     let spare = &mut columns.spare;
     let end = push_imms_at(alloc, context, &columns.numbers, spare, line, start, imms)?;

@@ -4,14 +4,14 @@ use Rattle.std.proofs.lemmas.List.{length-map}
 use Rattle.cal_context.specs.Snapshots.{IsIn, meaning, entry_of as imm_entry}
 use Rattle.cal_context.specs.Tree.{attribute_at}
 use Rattle.cal_value.specs.declared.attribute.Attribute.{Attribute}
-use Rattle.cal_read.specs.Columns.{AreEnds, AreFound}
+use Rattle.cal_read.specs.Columns.{AreEnds, AreFound, AreNumbers}
 use Rattle.cal_read.specs.Fields.{each}
 use Rattle.cal_read.specs.Keys.{values_in}
 use Rattle.cal_read.specs.NodeLines.{known, as_attribute}
 use Rattle.cal_read.specs.RecordLines.{entry_of, record_of_ids}
 use Rattle.cal_read.specs.Steps.{AnswersFor}
 use Rattle.cal_read.proofs.EachLemmas.{each-length}
-use Rattle.cal_read.proofs.RecordLemmas.{refs_fault, ids_fault, filled}
+use Rattle.cal_read.proofs.RecordLemmas.{refs_fault, ids_fault, attributes_fault, filled}
 use Rattle.cal_read.proofs.StepLemmas.{refusal_passes}
 use Rattle.cal_read.proofs.record_line.fill.Goals as goal
 
@@ -30,6 +30,17 @@ returns-in_err-push_found c = λ named are.
     (λ k e. ids_fault named c.args.columns.now.refs.items c.args.columns.now.ids.items (values_in c.args.texts.now) ends.0
     (ap (each (known named)) (sym c.deref.ensures.value) ∙ ends.1) k (ap (each (known named)) (sym c.deref-2.ensures.value) ∙ e))
     (c.in_err-push_found.ensures c.args.context.now named are) _ c.from_residual-in_err-push_found.ensures
+
+pub returns-in_err-push_numbers : goal.returns-in_err-push_numbers
+returns-in_err-push_numbers c = λ named are.
+    let ends = c.in_ok-push_nodes.ensures c.args.context.now named are in
+    let nodes = c.in_ok-push_found.ensures c.args.context.now named are in
+    refusal_passes {A = Unit {0}} (λ _. AreNumbers c.args.context.now c.push_numbers.new.numbers.items) _ _ (each as_attribute nodes.0)
+    (record_of_ids named c.args.columns.now.refs.items c.args.columns.now.ids.items (values_in c.args.texts.now))
+    (λ k e. attributes_fault named c.args.columns.now.refs.items c.args.columns.now.ids.items (values_in c.args.texts.now) ends.0
+    (ap (each (known named)) (sym c.deref.ensures.value) ∙ ends.1) nodes.0 (ap (each (known named)) (sym c.deref-2.ensures.value) ∙ nodes.1) k e)
+    (c.in_err-push_numbers.ensures c.args.context.now nodes.0 (subst (λ l. AreFound c.args.context.now l nodes.0) (sym c.deref-3.ensures.value) nodes.2))
+    _ c.from_residual-in_err-push_numbers.ensures
 
 pub push_imms-requires-clause-even : goal.push_imms-requires-clause-even
 push_imms-requires-clause-even c =

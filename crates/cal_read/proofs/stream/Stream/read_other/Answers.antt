@@ -12,7 +12,7 @@ use Rattle.cal_read.proofs.stream.Stream.read_other.Goals as goal
 pub returns-in-Ok-clause-read : goal.returns-in-Ok-clause-read
 returns-in-Ok-clause-read g c = λ s stands.
     let it = c.in-Ok.ensures in
-    let held : Stream = record { nodes = c.add_node.new.nodes; globals = c.args.self.now.globals; columns = c.args.self.now.columns; row = c.args.self.now.row } in
+    let held : Stream = record { nodes = c.add_node.new.nodes; globals = c.args.self.now.globals; columns = c.args.self.now.columns; row = c.args.self.now.row; recent = c.add_node.new.recent } in
     let had = g.T.Taker.has_taken c.args.taker.now c.args.context.now in
     let has = g.T.Taker.has_taken c.args.taker.now c.add_node.new.context in
     subst (λ (o : Result streams.Stream StreamKind). AnswersFor (λ _. TakesLine c.add_node.new.context held had has s) c.add_node.result o)

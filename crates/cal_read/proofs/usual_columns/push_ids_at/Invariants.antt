@@ -1,9 +1,9 @@
 use Rattle.std.proofs.Common.{◌-◌, length}
-use Rattle.cal_read.specs.UsualColumns.{ReadsNumbers}
-use Rattle.cal_read.proofs.usual_columns.push_numbers_at.Given as goal
+use Rattle.cal_read.specs.Usual.{ReadsIds}
+use Rattle.cal_read.proofs.usual_columns.push_ids_at.Given as goal
 
 abbrev pub invariant-loop-place : goal.invariant-loop-place
-invariant-loop-place l = ReadsNumbers l.nodes l.line l.start l.place l.numbers.items
+invariant-loop-place l = ReadsIds l.line l.start l.place l.ids.items
 
 abbrev pub decreases-loop-place : goal.decreases-loop-place
 decreases-loop-place l = length l.bytes - l.place
