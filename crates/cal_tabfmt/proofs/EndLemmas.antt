@@ -1,7 +1,9 @@
 -- Texts without the spaces at their ends, and a line that grows.
 use Rattle.std.proofs.Common.{◌≡◌, ◌≢◌, ℕ, zero, suc, ◌+◌, ◌-◌, ◌<◌, ◌==◌, Bool, true, false, List, [], ◌∷◌, ◌++◌, length, if◌then◌else◌, refl, sym, ap, ap₂, subst, ◌∙◌, append_assoc, append-nil, length-append, eqb-true, ne_eqb, ◌≤◌, get_or, take, arith}
+use Rattle.std.specs.Str.{IsCharBoundary}
 use Rattle.std.proofs.lemmas.Bool.{cond-true, cond-false}
 use Rattle.std.proofs.lemmas.List.{replicate-append-replicate, length-replicate, take_more}
+use Rattle.std.proofs.lemmas.Str.{IsCharBoundary-from_ascii}
 use Rattle.cal_tabfmt.specs.Ends.{HasLine, gap}
 use Rattle.cal_tabfmt.specs.Grid.{before_kept, placed, spaces, width, without_end}
 use Rattle.cal_tabfmt.specs.declared.shape.Shape.{Shape}
@@ -15,6 +17,16 @@ kept_before b (c ∷ cs) some = refl
 pub without_end-spaces : (n : ℕ) → without_end (spaces n) ≡ []
 without_end-spaces zero = refl
 without_end-spaces (suc n) = ap (before_kept 32) (without_end-spaces n)
+
+-- spaces can be cut anywhere
+spaces-ascii : (n i : ℕ) → get_or (spaces n) i 0 < 128
+spaces-ascii zero i = omega arith
+spaces-ascii (suc n) zero = omega arith
+spaces-ascii (suc n) (suc i) = spaces-ascii n i
+
+pub spaces-boundary : (text : List ℕ) (n i : ℕ) → text ≡ spaces n → i ≤ n → IsCharBoundary text i
+spaces-boundary text n i is within =
+    IsCharBoundary-from_ascii text i (rw is (spaces-ascii n)) (omega (arith, within, ap length is, length-replicate {A = ℕ} n 32))
 
 -- nor of spaces behind a text
 pub without_end-more : (line : List ℕ) (n : ℕ) → without_end (line ++ spaces n) ≡ without_end line

@@ -7,3 +7,4 @@ pub mod GridLemmas
 pub mod TableLemmas
 pub mod StandLemmas
 pub mod NewlineSteps
+pub mod KeptLemmas

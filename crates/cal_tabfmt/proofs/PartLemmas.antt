@@ -50,7 +50,7 @@ HasParts-part before text new is_first parts cell header [] shows something has 
 HasParts-part before text new is_first parts cell header (v ∷ vs) shows something has is =
     HasParts-push before text is_first parts (part header (joined_texts (v ∷ vs))) new has (is ∙ ap (λ (t : List ℕ). text ++ (comma is_first ++ part header t)) shows.text)
 
--- what four calls appended
-pub part_appended : (out one two three four : List ℕ) (k h t : List ℕ) → one ≡ out ++ k → two ≡ one ++ h → three ≡ two ++ 61 ∷ [] → four ≡ three ++ t → four ≡ out ++ (k ++ (h ++ 61 ∷ t))
-part_appended out one two three four k h t a b c d =
-    d ∙ ap (λ (x : List ℕ). x ++ t) (c ∙ ap (λ (x : List ℕ). x ++ 61 ∷ []) (b ∙ ap (λ (x : List ℕ). x ++ h) a)) ∙ simp append_assoc
+-- what three calls appended
+pub part_appended : (out one two three : List ℕ) (k h t : List ℕ) → one ≡ out ++ k → two ≡ one ++ (h ++ 61 ∷ []) → three ≡ two ++ t → three ≡ out ++ (k ++ (h ++ 61 ∷ t))
+part_appended out one two three k h t a b c =
+    c ∙ ap (λ (x : List ℕ). x ++ t) (b ∙ ap (λ (x : List ℕ). x ++ (h ++ 61 ∷ [])) a) ∙ simp append_assoc

@@ -1,6 +1,7 @@
 pub mod Ends
 pub mod Expand
 pub mod Grid
+pub mod Kept
 pub mod Parts
 pub mod Snapshots
 pub mod Table

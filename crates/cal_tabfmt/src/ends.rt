@@ -1,4 +1,4 @@
-ghost use Rattle.std.specs.Prelude.{◌≡◌, ◌+◌, ◌++◌, List, ℕ, IfOk, OnOk};
+ghost use Rattle.std.specs.Prelude.{◌≡◌, ◌+◌, ◌≤◌, ◌++◌, List, ℕ, IfOk, OnOk};
 ghost use Rattle.cal_tabfmt.specs.Ends.{HasLine};
 ghost use Rattle.cal_tabfmt.specs.Grid.{spaces, without_end};
 
@@ -6,11 +6,11 @@ use cal_value::{OutOfMemory, Text};
 
 /// Appends a text to a line. Spaces at its end stay pending, and are written before what follows,
 /// so that those at the line's end cost nothing.
-pub(crate) fn append_text(out: &mut Text, pending: usize, text: &Text) -> Result<usize, OutOfMemory>
+pub(crate) fn append_text(out: &mut Text, pending: usize, text: &str) -> Result<usize, OutOfMemory>
     ensures { IfOk result (λ left. (before line : List ℕ) → HasLine before out.old pending line
         → HasLine before out.new left (line ++ text.now)) }
 {
-    let kept = without_end(text.as_str());
+    let kept = without_end(text);
     if kept.is_empty() {
         return added(pending, text.len());
     }
@@ -26,25 +26,28 @@ pub(crate) fn added(pending: usize, more: usize) -> Result<usize, OutOfMemory>
     pending.checked_add(more).ok_or(OutOfMemory)
 }
 
-// Most lines have many spaces, so that sixteen are written at once.
+// so many spaces are written at once
+const SPACES: &str = "                                                                ";
+
+// Most lines have many spaces, and most gaps fewer than are written at once.
 fn append_spaces(out: &mut Text, count: usize) -> Result<(), OutOfMemory>
     ensures { OnOk result (out.new ≡ out.old ++ spaces count) }
 {
     let mut left = count;
-    while left >= 16 {
-        out.push_str("                ")?;
-        left -= 16;
+    while left > 64 {
+        out.push_str(SPACES)?;
+        left -= 64;
     }
-    append_last_spaces(out, left)
+    out.push_str(first_of(SPACES, left))
 }
 
-fn append_last_spaces(out: &mut Text, count: usize) -> Result<(), OutOfMemory>
-    ensures { OnOk result (out.new ≡ out.old ++ spaces count) }
+// so many of sixty-four spaces
+fn first_of(blank: &str, count: usize) -> &str
+    requires blank { blank.now ≡ spaces 64 }
+    requires count { count ≤ 64 }
+    ensures { result.now ≡ spaces count }
 {
-    for _ in 0..count {
-        out.push_str(" ")?;
-    }
-    Ok(())
+    &blank[..count]
 }
 
 /// A text without the spaces at its end.

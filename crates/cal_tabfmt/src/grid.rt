@@ -13,7 +13,7 @@ pub fn append_line(out: &mut Text, shapes: &[Shape], texts: &[Text]) -> Result<(
 {
     let mut pending = 0;
     for (place, text) in texts.iter().enumerate() {
-        pending = append_column(out, pending, place, shapes, text)?;
+        pending = append_column(out, pending, place, shapes, text.as_str())?;
     }
     out.push_str("\n")
 }
@@ -24,7 +24,7 @@ pub(crate) fn append_column(
     pending: usize,
     place: usize,
     shapes: &[Shape],
-    text: &Text,
+    text: &str,
 ) -> Result<usize, OutOfMemory>
     ensures { IfOk result (λ left. (before : List ℕ) (texts : List (List ℕ))
         → place < length texts → text.now ≡ slice_index_or texts place text.now
@@ -43,7 +43,7 @@ fn append_behind_gap(
     pending: usize,
     place: usize,
     shape: Shape,
-    text: &Text,
+    text: &str,
 ) -> Result<usize, OutOfMemory>
     ensures { IfOk result (λ left. (before line : List ℕ) → HasLine before out.old pending line
         → HasLine before out.new left (line ++ (gap place ++ placed shape text.now))) }
@@ -60,7 +60,7 @@ fn append_placed(
     out: &mut Text,
     pending: usize,
     shape: Shape,
-    text: &Text,
+    text: &str,
 ) -> Result<usize, OutOfMemory>
     ensures { IfOk result (λ left. (before line : List ℕ) → HasLine before out.old pending line
         → HasLine before out.new left (line ++ placed shape text.now)) }

@@ -11,6 +11,7 @@ mod ends;
 mod grid;
 mod held;
 mod hierarchy_cell;
+mod kept;
 mod lines;
 mod part;
 mod shape;

@@ -1,4 +1,4 @@
-ghost use Rattle.std.specs.Prelude.{◌≡◌, ◌<◌, ◌≤◌, map, max, IfOk};
+ghost use Rattle.std.specs.Prelude.{◌≡◌, ◌<◌, ◌≤◌, length, map, max, IfOk, IsTrue};
 ghost use Rattle.std.specs.Fmt.{is_char_start};
 ghost use Rattle.cal_tabfmt.specs.Grid.{nth_text, shapes, widest, width};
 
@@ -46,7 +46,7 @@ fn width_at(line: &Seq<Text>, place: usize) -> usize
     ensures { result ≡ width (nth_text line.now place) }
 {
     match line.get(place) {
-        Some(text) => width(text),
+        Some(text) => width(text.as_str()),
         None => 0,
     }
 }
@@ -59,11 +59,27 @@ pub(crate) fn wider(width: usize, other: usize) -> usize
 }
 
 /// How many characters a text has.
-pub(crate) fn width(text: &Text) -> usize
+pub(crate) fn width(text: &str) -> usize
     ensures { result ≡ width text.now }
 {
-    let bytes = text.as_str().as_bytes();
+    if is_ascii(text) {
+        return text.len();
+    }
+    let bytes = text.as_bytes();
     bytes.iter().filter(|b| is_char_start(**b)).count()
+}
+
+/// Whether each byte is a character. It goes on behind one that isn't, since it is quicker so.
+fn is_ascii(text: &str) -> bool
+    ensures { IsTrue result → width text.now ≡ length text.now }
+{
+    let mut ascii = true;
+    for byte in text.as_bytes() {
+        if *byte >= 0x80 {
+            ascii = false;
+        }
+    }
+    ascii
 }
 
 fn is_char_start(byte: u8) -> bool

@@ -28,9 +28,9 @@ pub fn shown_width(alloc: Global, text: &Text) -> Result<usize, OutOfMemory>
     ensures { IfOk result (λ width. width ≡ width_of (on_line text.now)) }
 {
     if is_one_line(text.as_str()) {
-        return Ok(width(text));
+        return Ok(width(text.as_str()));
     }
-    Ok(width(&on_line(alloc, text.as_str())?))
+    Ok(width(on_line(alloc, text.as_str())?.as_str()))
 }
 
 /// Whether a line shows a text as it is. It goes on behind a newline, since it is quicker so.

@@ -1,16 +1,15 @@
 ghost use Rattle.std.specs.Prelude.{◌≡◌, ℕ, ◌+◌, ◌<◌, ◌++◌, List, length, slice_index_or};
 ghost use Rattle.std.specs.Prelude.{IfOk, OnOk};
-ghost use Rattle.cal_value.specs.declared.record.Rec.{Rec};
-ghost use Rattle.cal_rowset.specs.Showing.{ShowsRow};
-ghost use Rattle.cal_rowset.specs.declared.rowset.Column as columns;
 ghost use Rattle.cal_tabfmt.specs.Ends.{HasLine, front_of_line};
 ghost use Rattle.cal_tabfmt.specs.Grid.{grid_line, on_line as on_line_of};
-ghost use Rattle.cal_tabfmt.specs.Table.{header_line, row_line};
+ghost use Rattle.cal_tabfmt.specs.Kept.{AreLeft};
+ghost use Rattle.cal_tabfmt.specs.Table.{header_line};
 
 use crate::grid::append_column;
+use crate::kept::{KeptTexts, Mark};
 use crate::shape::Shape;
 use crate::shown_text::{is_one_line, on_line};
-use cal_rowset::{Column, ShownRow};
+use cal_rowset::Column;
 use cal_value::{OutOfMemory, Seq, Text};
 use std::alloc::Global;
 
@@ -28,44 +27,26 @@ pub fn push_headers(
     Ok(())
 }
 
-/// Appends the line of a row, which is shown in so many columns.
-pub(crate) fn append_row(
-    alloc: Global,
+/// Appends the line of the next texts that are kept, and answers the mark behind them.
+pub(crate) fn append_kept(
     out: &mut Text,
     shapes: &[Shape],
     count: usize,
-    shown: &ShownRow,
-) -> Result<(), OutOfMemory>
-    ensures { OnOk result ((columns : List columns.Column) (row : Rec)
-        → ShowsRow shown.now columns row → count ≡ length columns
-        → out.new ≡ out.old ++ grid_line shapes.now (row_line columns row)) }
+    texts: &KeptTexts,
+    from: Mark,
+) -> Result<Mark, OutOfMemory>
+    ensures { IfOk result (λ mark. (line more : List (List ℕ)) → length line ≡ count
+        → AreLeft texts.now from (line ++ more)
+        → (out.new ≡ out.old ++ grid_line shapes.now line) × AreLeft texts.now mark more) }
 {
+    let mut mark = from;
     let mut pending = 0;
     for place in 0..count {
-        pending = append_cell(alloc, out, pending, place, shapes, shown)?;
+        pending = append_column(out, pending, place, shapes, texts.text(mark))?;
+        mark = texts.behind(mark);
     }
-    out.push_str("\n")
-}
-
-/// Appends the cell in a column.
-fn append_cell(
-    alloc: Global,
-    out: &mut Text,
-    pending: usize,
-    place: usize,
-    shapes: &[Shape],
-    shown: &ShownRow,
-) -> Result<usize, OutOfMemory>
-    ensures { IfOk result (λ left. (columns : List columns.Column) (row : Rec) (before : List ℕ)
-        → ShowsRow shown.now columns row → place < length columns
-        → HasLine before out.old pending (front_of_line shapes.now (row_line columns row) place)
-        → HasLine before out.new left (front_of_line shapes.now (row_line columns row)
-        (place + 1))) }
-{
-    match shown.cell(place) {
-        Some(cell) => append_shown(alloc, out, pending, place, shapes, &cell.text),
-        None => Ok(pending),
-    }
+    out.push_str("\n")?;
+    Ok(mark)
 }
 
 /// Appends a text as a line shows it. Most texts have no newline, and none of them is copied.
@@ -84,8 +65,8 @@ pub fn append_shown(
         → HasLine before out.new left (front_of_line shapes.now texts (place + 1))) }
 {
     if is_one_line(text.as_str()) {
-        return append_column(out, pending, place, shapes, text);
+        return append_column(out, pending, place, shapes, text.as_str());
     }
     let line = on_line(alloc, text.as_str())?;
-    append_column(out, pending, place, shapes, &line)
+    append_column(out, pending, place, shapes, line.as_str())
 }

@@ -14,21 +14,20 @@ pub(crate) fn append_written(text: &str, out: &mut Text) -> Result<(), OutOfMemo
     escape(text, out)
 }
 
-/// Whether a text is written as it is. It goes on behind a byte that isn't, since it is quicker so.
+/// Whether a text is written as it is. It goes on behind a byte that isn't, and asks for each such
+/// byte by itself, since many bytes are tested at once so.
 fn is_plain(text: &str) -> bool
     ensures { IsTrue result → escaped text.now ≡ text.now }
 {
-    let mut plain = true;
+    let mut newline = false;
+    let mut backslash = false;
+    let mut comma = false;
+    let mut equals = false;
     for byte in text.as_bytes() {
-        if is_special(*byte) {
-            plain = false;
-        }
+        newline |= *byte == b'\n';
+        backslash |= *byte == b'\\';
+        comma |= *byte == b',';
+        equals |= *byte == b'=';
     }
-    plain
-}
-
-fn is_special(byte: u8) -> bool
-    ensures { result ≡ false → escaped_byte byte ≡ byte ∷ [] }
-{
-    (byte == b'\n') | (byte == b'\\') | (byte == b',') | (byte == b'=')
+    !newline && !backslash && !comma && !equals
 }

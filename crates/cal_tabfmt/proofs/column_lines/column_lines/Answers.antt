@@ -12,7 +12,7 @@ loop-place-preserved g c =
     let within : c.loop-place.place < length rows = omega (arith, c.row_count-place-end.ensures, c.loop-place-test.true) in
     let shows = c.in_ok-show.ensures.shows c.args.columns.now kept.is in
     record {
-      text = c.in_ok-append_line.ensures row shows
+      text = c.in_ok-append_line.ensures c.args.columns.now row shows (c.deref.ensures.value ∙ c.in_ok-fronts.ensures)
           ∙ ap (λ (t : List ℕ). t ++ (expand_line (Some c.args.columns.now) row ++ 10 ∷ [])) kept.text
           ∙ lines_at (Some c.args.columns.now) rows c.loop-place.place within;
       is = shows.is;

@@ -8,7 +8,7 @@ pub loop-place-init : goal.loop-place-init
 loop-place-init c = HasLine-start c.args.out.now
 
 pub loop-place-preserved : goal.loop-place-preserved
-loop-place-preserved c = c.in_ok-pending.ensures c.args.out.now c.args.texts.now c.loop-place-test.true c.index-texts-place.is c.loop-place.invariant
+loop-place-preserved c = c.in_ok-pending.ensures c.args.out.now c.args.texts.now c.loop-place-test.true (rw c.as_str.ensures c.index-texts-place.is) c.loop-place.invariant
 
 pub returns : goal.returns
 returns c =

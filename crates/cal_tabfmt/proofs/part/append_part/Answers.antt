@@ -10,7 +10,7 @@ returns-then-is_empty c =
 
 pub returns : goal.returns
 returns c =
-    let text = part_appended c.args.out.now _ _ _ _ _ (escaped c.args.header.now) (escaped c.args.cell.now.text) c.in_ok-append_comma.ensures
-    (rw c.as_str.ensures at c.in_ok-append_written.ensures) c.in_ok-push_str.ensures.ok (rw c.as_str-2.ensures at c.in_ok-append_written-2.ensures) in
+    let text = part_appended c.args.out.now _ _ _ _ (escaped c.args.header.now) (escaped c.args.cell.now.text) c.in_ok-append_comma.ensures
+    c.in_ok-append_front.ensures (rw c.as_str.ensures at c.in_ok-append_written.ensures) in
     λ before parts vs shows has.
     HasParts-part before c.args.out.now _ c.args.is_first parts c.args.cell.now c.args.header.now vs shows (sym c.is_empty.ensures ∙ c.if-is_empty.false) has text
