@@ -1,5 +1,5 @@
 ghost use Rattle.std.specs.Prelude.{◌≡◌, ◌≤◌, [], Some, length, slice_get, slice_index_or};
-ghost use Rattle.std.specs.Prelude.{IsTrue, OnOk, OnErr};
+ghost use Rattle.std.specs.Prelude.{IfOk, IsTrue, OnOk, OnErr};
 ghost use Rattle.cal_context.specs.Lists.{Interns};
 ghost use Rattle.cal_engine.specs.Folding.{put_parts};
 ghost use Rattle.cal_engine.specs.Numbered.{GathersKey};

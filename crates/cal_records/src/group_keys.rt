@@ -92,7 +92,7 @@ fn key_of(room: &Context, link: Link) -> Key<'_>
 /// Adds an entry, unless it has the name of a result.
 fn push_unless<'a>(aggs: &[Agg], keys: &mut Vec<Key<'a>>, key: Key<'a>) -> Result<(), OutOfMemory>
     ensures { OnOk result (map key_entry keys.new.items ≡ map key_entry keys.old.items
-        ++ filter (λ e. not (is_result_of aggs.now e)) (key_entry key ∷ [])) }
+        ++ filter (λ e. not (is_result_of aggs.now e)) (key_entry key.entry ∷ [])) }
 {
     if !is_result(aggs, &key) {
         keys.push(key)?;
@@ -112,7 +112,7 @@ pub(crate) fn keys_at<'k, 'a>(keys: &'k [GroupKeys<'a>], number: usize) -> &'k [
     ensures { map key_entry result.now ≡ entries_at keys.now number }
 {
     match keys.get(number) {
-        Some(keys) => &keys.entries,
+        Some(keys) => keys.entries.as_slice(),
         None => &[],
     }
 }
