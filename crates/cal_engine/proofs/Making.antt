@@ -1,7 +1,7 @@
 -- The row of one group.
-use Rattle.std.proofs.Common.{◌≡◌, ℕ, zero, suc, ◌<◌, true, if◌then◌else◌, List, [], ◌∷◌, length, map, get_or, refl, sym, ap, ◌∙◌, arith}
+use Rattle.std.proofs.Common.{◌≡◌, ℕ, ◌<◌, true, if◌then◌else◌, List, [], ◌∷◌, length, map, get_or, sym, ap, ◌∙◌, arith}
 use Rattle.std.specs.List.{filter_map}
-use Rattle.std.proofs.lemmas.List.{length-map}
+use Rattle.std.proofs.lemmas.List.{get_or-map, length-map}
 use Rattle.cal_context.specs.Tree.{Tree, Grows}
 use Rattle.cal_filter.specs.Kept.{kept}
 use Rattle.cal_ql.specs.declared.query.Agg.{Agg}
@@ -29,13 +29,6 @@ groups-Grows grows q rs g h = record {
   groups = grouped_in-Grows grows g h.keys ∙ h.groups;
 }
 
--- an item of a mapped list
-at_map : {A B : Type 0} (f : A → B) (xs : List A) (n : ℕ) (d : A) (e : B) → n < length xs
-    → get_or (map f xs) n e ≡ f (get_or xs n d)
-at_map f [] n d e l = absurd (omega arith)
-at_map f (x ∷ xs) zero d e l = refl
-at_map f (x ∷ xs) (suc n) d e l = at_map f xs n d e (omega arith)
-
 -- what is kept for the group of a number
 pub kept_there : (aggs : List Agg) (g : GroupLists) (keys : List Rec) (parts : List (List Gathered))
     (all : List Gathered) (below : List (List Gathered)) (n : ℕ) (key : Rec)
@@ -43,11 +36,11 @@ pub kept_there : (aggs : List Agg) (g : GroupLists) (keys : List Rec) (parts : L
     → AreKept aggs (lists_at g key) (get_or parts n []) all (get_or below n [])
 kept_there aggs g keys parts all below n key are l e = record {
   own = ap (λ ps. get_or ps n []) are.own
-      ∙ at_map (λ k. parts_over aggs (g.own k)) keys n key [] l
+      ∙ get_or-map (λ k. parts_over aggs (g.own k)) keys n key [] l
       ∙ ap (λ k. parts_over aggs (g.own k)) (sym e);
   all = are.all;
   below = ap (λ ps. get_or ps n []) are.below
-      ∙ at_map (λ k. parts_over aggs (g.below k)) keys n key [] l
+      ∙ get_or-map (λ k. parts_over aggs (g.below k)) keys n key [] l
       ∙ ap (λ k. parts_over aggs (g.below k)) (sym e);
 }
 
@@ -58,7 +51,7 @@ pub row_there : (aggs : List Agg) (g : GroupLists) (keys rows : List Rec) (n : �
 row_there aggs g keys rows n key are l e =
     ap (λ k. row_with k (entries_of_results aggs (lists_at g k))) e
     ∙ sym (ap (λ rs. nth_row rs n) are
-    ∙ at_map (λ k. row_with k (entries_of_results aggs (lists_at g k))) keys n key _ l)
+    ∙ get_or-map (λ k. row_with k (entries_of_results aggs (lists_at g k))) keys n key _ l)
 
 -- the rows of groups that aren't ordered are those of the answer
 pub unordered_rows : (q : Query) (rs : List Rec) → is_aggregated q ≡ true → q.order ≡ []
@@ -91,5 +84,5 @@ made-row t aggs g rows h n within =
     let below : n < length keys = omega (arith, within, counted) in
     let there : n < length (map f keys) = omega (arith, below, length-map keys f) in
     ap (λ rs. nth_row rs n) h.are
-    ∙ at_map row (map f keys) n (f (key_at g n)) _ there
-    ∙ ap row (at_map f keys n _ (f (key_at g n)) below)
+    ∙ get_or-map row (map f keys) n (f (key_at g n)) _ there
+    ∙ ap row (get_or-map f keys n _ (f (key_at g n)) below)

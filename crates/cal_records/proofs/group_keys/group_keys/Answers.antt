@@ -1,9 +1,8 @@
 use Rattle.std.proofs.Common.{◌≡◌, ◌<◌, [], ◌∷◌, ◌++◌, length, map, filter, not, get_or, sym, ap, ◌∙◌, arith}
-use Rattle.std.proofs.lemmas.List.{map-append, map_more, take_all}
+use Rattle.std.proofs.lemmas.List.{get_or-map, map-append, map_more, take_all}
 use Rattle.cal_context.proofs.CallerLemmas.{root_path}
 use Rattle.cal_context.specs.Tree.{path_at}
 use Rattle.cal_context.specs.declared.numbers.NodeNumber.{NodeNumber}
-use Rattle.cal_engine.proofs.Making.{at_map}
 use Rattle.cal_engine.specs.Making.{group_count, key_at}
 use Rattle.cal_records.specs.Groups.{is_result}
 use Rattle.cal_records.specs.Ranks.{key_entries, lent_entries}
@@ -30,7 +29,7 @@ loop-number-preserved c =
     ∙ map-append lent_entries c.loop-number.keys.items (record { entries = c.in_ok-entries.entries } ∷ [])
     ∙ (λ i. c.loop-number.invariant i ++ (c.in_ok-entries.ensures
     ∙ ap (λ node. filter (λ e. not (is_result aggs e)) (path_at room node)) c.immediates.ensures) i ∷ [])
-    ∙ sym (map_more (key_entries room aggs) g.groups.keys n (key_at g n) within)
+    ∙ sym (map_more (key_entries room aggs) g.groups.keys n _ within)
 
 pub returns : goal.returns
 returns c = λ n within.
@@ -39,4 +38,4 @@ returns c = λ n within.
     let g = c.args.rows.now in
     ap (λ es. get_or es n []) (c.loop-number.invariant
     ∙ ap (map (key_entries room aggs)) (take_all c.loop-number.number g.groups.keys (omega arith)))
-    ∙ at_map (key_entries room aggs) g.groups.keys n _ [] within
+    ∙ get_or-map (key_entries room aggs) g.groups.keys n _ [] within
