@@ -32,3 +32,4 @@ pub mod MovedNumbers
 pub mod AnswerParts
 pub mod KeyWays
 pub mod OwnNodes
+pub mod Making

@@ -26,3 +26,4 @@ pub mod Results
 pub mod SnapshotRanks
 pub mod Moves
 pub mod OwnWays
+pub mod Making

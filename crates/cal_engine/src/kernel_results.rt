@@ -1,4 +1,4 @@
-ghost use Rattle.std.specs.Prelude.{◌≡◌, ◌++◌, List, option_map, IfOk, OnOk, Some};
+ghost use Rattle.std.specs.Prelude.{◌≡◌, ◌++◌, List, option_map, slice_get, IfOk, OnOk, Some};
 ghost use Rattle.std.specs.List.{AllZip};
 ghost use Rattle.std.specs.Option.{option_copied};
 ghost use Rattle.cal_context.specs.Snapshots.{entry_of};
@@ -19,7 +19,7 @@ use cal_agg::Num;
 use cal_context::{AttributeNumber, Context, Immediate};
 use cal_filter::{result_attribute, value_of_number};
 use cal_ql::{Agg, KernelName};
-use cal_value::{Kind, OutOfMemory, Seq};
+use cal_value::{Kind, OutOfMemory};
 use std::alloc::Global;
 
 /// A kernel, and the attributes that its results have in a context: of kind int, or double where
@@ -70,19 +70,29 @@ fn attributes_of(
 pub(crate) fn add_result_immediates(
     imms: &mut Vec<Immediate>,
     results: &[ResultAttributes],
-    own: &Seq<Part>,
-    all: &Seq<Part>,
-    below: &Seq<Part>,
+    own: &[Part],
+    all: &[Part],
+    below: &[Part],
 ) -> Result<(), OutOfMemory>
     ensures { OnOk result ((t : Tree) (aggs : List AnAgg) (lists : Lists)
         → AllZip (IsResultOf t) aggs results.now → AreKept aggs lists own.now all.now below.now
         → AddsResults t (entries_of_results aggs lists) imms.old.items imms.new.items) }
 {
     for (place, attributes) in results.iter().enumerate() {
-        let found = result_at(attributes, own.get(place), all.get(place), below.get(place));
+        let own_part = part_at(own, place);
+        let all_part = part_at(all, place);
+        let below_part = part_at(below, place);
+        let found = result_at(attributes, own_part, all_part, below_part);
         push_some(imms, found)?;
     }
     Ok(())
+}
+
+/// The part of the kernel at a place.
+fn part_at(parts: &[Part], place: usize) -> Option<&Part>
+    ensures { option_copied result ≡ slice_get parts.now place }
+{
+    parts.get(place)
 }
 
 /// A kernel's result, if that is there.

@@ -7,7 +7,6 @@ ghost use Rattle.cal_engine.specs.Keys.{IsKeyOf, key_in};
 ghost use Rattle.cal_engine.specs.OwnWays.{IsOnly};
 ghost use Rattle.cal_engine.specs.Sieves.{AreReadySieves};
 
-use crate::immediates::immediates_of;
 use crate::sieve::Sieve;
 use crate::sieves::{key_imms, key_paths};
 use crate::stepping::path_of;
@@ -24,6 +23,14 @@ pub(crate) struct GroupKey {
 }
 
 impl GroupKey {
+    /// The nodes of its paths.
+    pub(crate) fn paths(&self) -> &[NodeNumber]
+        ensures { result.now ≡ self.now.paths }
+    {
+        let _imms = self.imms;
+        self.paths.as_slice()
+    }
+
     /// The node of its immediates.
     pub(crate) fn imms(&self) -> NodeNumber
         ensures { result ≡ self.now.imms }
@@ -114,21 +121,6 @@ pub(crate) fn key_by_names(
     Ok(GroupKey {
         paths: Seq::from_vec(paths),
         imms,
-    })
-}
-
-/// The group that a key means as a snapshot, with room for more immediates.
-pub(crate) fn snapshot_of(
-    alloc: Global,
-    context: &Context,
-    key: &GroupKey,
-    more: usize,
-) -> Result<Snapshot, OutOfMemory>
-    ensures { IfOk result (λ s. meaning context.now s ≡ key_in context.now key.now) }
-{
-    Ok(Snapshot {
-        nodes: Vec::from_slice(alloc, key.paths.as_slice())?,
-        imms: immediates_of(alloc, context, key.imms, more)?,
     })
 }
 

@@ -1,40 +1,81 @@
 ghost use Rattle.std.specs.Prelude.{◌≡◌, ◌<◌, length, map, slice_get, slice_set, None};
 ghost use Rattle.std.specs.Prelude.{replicate, Some, IfOk, OnOk};
 ghost use Rattle.std.specs.List.{All};
-ghost use Rattle.cal_context.specs.Snapshots.{IsIn, entry_of, meaning};
+ghost use Rattle.cal_context.specs.Snapshots.{entry_of, meaning};
 ghost use Rattle.cal_context.specs.Tree.{Grows, Tree, path_at};
 ghost use Rattle.cal_context.specs.declared.numbers.AttributeNumber as numbers;
 ghost use Rattle.cal_context.specs.declared.numbers.NodeNumber.{NodeNumber as ANode};
 ghost use Rattle.cal_filter.specs.Results.{IsNumbered};
+ghost use Rattle.cal_engine.specs.Keys.{key_in};
+ghost use Rattle.cal_engine.specs.Making.{IsMoved};
 ghost use Rattle.cal_engine.specs.Moves.{AreMovedAttributes, AreMovedNodes};
 ghost use Rattle.cal_engine.specs.Totals.{Leads};
 
-use crate::within::are_in;
+use crate::immediates::fill_immediates;
+use crate::key::GroupKey;
+use crate::within::are_below_root;
 use cal_context::{AttributeNumber, Context, Immediate, NodeNumber, Snapshot};
 use cal_value::{Attribute, OutOfMemory};
 use std::alloc::Global;
 
-/// Snapshots of one context as snapshots of another, to which the attributes and nodes are added
-/// that they need. Each node is put there once.
-pub(crate) fn moved(
-    alloc: Global,
-    from: &Context,
-    rows: Vec<Snapshot>,
-    to: &mut Context,
-) -> Result<Vec<Snapshot>, OutOfMemory>
-    requires { All (IsIn from.now) rows.items }
-    ensures within { IfOk result (λ moved. All (IsIn to.new) moved.items) }
-    ensures mean { IfOk result (λ moved.
-        map (meaning to.new) moved.items ≡ map (meaning from.now) rows.items) }
-    ensures grows { Grows to.old to.new }
-{
-    let attributes = moved_attributes(alloc, from, to)?;
-    let nodes = moved_nodes(alloc, from, to, &rows)?;
-    let moved = renumbered_rows(alloc, &attributes, &nodes, rows)?;
-    if !are_in(to, &moved) {
-        return Err(OutOfMemory);
+/// A context, and the numbers in another one of its attributes and of those nodes that were put
+/// there.
+#[derive(Drop)]
+pub(crate) struct Moved {
+    from: Context,
+    attributes: Vec<AttributeNumber>,
+    nodes: Vec<Option<NodeNumber>>,
+}
+
+impl Moved {
+    /// Puts the nodes of keys' paths and all attributes into another context. Each node is put
+    /// there once.
+    pub(crate) fn of(
+        alloc: Global,
+        from: Context,
+        keys: &[GroupKey],
+        to: &mut Context,
+    ) -> Result<Moved, OutOfMemory>
+        ensures from { IfOk result (λ moved. moved.from ≡ from) }
+        ensures moved { IfOk result (IsMoved to.new) }
+        ensures grows { Grows to.old to.new }
+    {
+        let attributes = moved_attributes(alloc, &from, to)?;
+        let nodes = moved_nodes(alloc, &from, to, keys)?;
+        Ok(Moved {
+            from,
+            attributes,
+            nodes,
+        })
     }
-    Ok(moved)
+
+    /// The context from which they are.
+    pub(crate) fn from(&self) -> &Context
+        ensures { result.now ≡ self.now.from }
+    {
+        let _ = &self.nodes;
+        &self.from
+    }
+
+    /// The group that a key means as a snapshot of the other context, in place of the one that is
+    /// there.
+    pub(crate) fn fill(
+        &self,
+        alloc: Global,
+        key: &GroupKey,
+        row: &mut Snapshot,
+    ) -> Result<(), OutOfMemory>
+        ensures { OnOk result ((t : Tree) → IsMoved t self.now
+            → meaning t row.new ≡ key_in self.now.from key.now) }
+    {
+        let mut own = Vec::new(alloc);
+        fill_immediates(alloc, &self.from, key.imms(), &mut own)?;
+        let nodes = renumbered_nodes(alloc, &self.nodes, key.paths())?;
+        let imms = renumbered_imms(alloc, &self.attributes, own)?;
+        row.nodes = nodes;
+        row.imms = imms;
+        Ok(())
+    }
 }
 
 /// The numbers of a context's attributes in another.
@@ -58,21 +99,24 @@ fn moved_attributes(
     Ok(moved)
 }
 
-/// The numbers in another context of the nodes that snapshots have, and of those above them.
+/// The numbers in another context of the nodes that the paths of keys have, and of those above
+/// them. A key that isn't of the context is answered as want of memory is.
 fn moved_nodes(
     alloc: Global,
     from: &Context,
     to: &mut Context,
-    rows: &[Snapshot],
+    keys: &[GroupKey],
 ) -> Result<Vec<Option<NodeNumber>>, OutOfMemory>
-    requires { All (IsIn from.now) rows.now }
     ensures moved { IfOk result (λ moved. AreMovedNodes from.now to.new moved.items) }
     ensures grows { Grows to.old to.new }
 {
     let mut moved = nothing_moved(alloc, from.node_count())?;
     let mut way = Vec::new(alloc);
-    for row in rows {
-        move_nodes(from, to, &row.nodes, &mut moved, &mut way)?;
+    for key in keys {
+        if !are_below_root(from, key.paths()) {
+            return Err(OutOfMemory);
+        }
+        move_nodes(from, to, key.paths(), &mut moved, &mut way)?;
     }
     Ok(moved)
 }
@@ -221,39 +265,6 @@ fn number_in(moved: &[Option<NodeNumber>], node: NodeNumber) -> Option<NodeNumbe
     ensures { (k : ANode) → result ≡ Some k → slice_get moved.now node.0 ≡ Some (Some k) }
 {
     *moved.get(node.0 as usize)?
-}
-
-fn renumbered_rows(
-    alloc: Global,
-    attributes: &[AttributeNumber],
-    nodes: &[Option<NodeNumber>],
-    rows: Vec<Snapshot>,
-) -> Result<Vec<Snapshot>, OutOfMemory>
-    ensures { IfOk result (λ moved. (t u : Tree) → AreMovedAttributes t u attributes.now
-        → AreMovedNodes t u nodes.now → map (meaning u) moved.items ≡ map (meaning t) rows.items) }
-{
-    let mut moved = Vec::with_capacity(alloc, rows.len())?;
-    for row in rows {
-        moved.push(renumbered(alloc, attributes, nodes, row)?)?;
-    }
-    Ok(moved)
-}
-
-/// A snapshot by the numbers of another context.
-fn renumbered(
-    alloc: Global,
-    attributes: &[AttributeNumber],
-    nodes: &[Option<NodeNumber>],
-    row: Snapshot,
-) -> Result<Snapshot, OutOfMemory>
-    ensures { IfOk result (λ moved. (t u : Tree) → AreMovedAttributes t u attributes.now
-        → AreMovedNodes t u nodes.now → meaning u moved ≡ meaning t row) }
-{
-    let Snapshot { nodes: own, imms } = row;
-    Ok(Snapshot {
-        nodes: renumbered_nodes(alloc, nodes, &own)?,
-        imms: renumbered_imms(alloc, attributes, imms)?,
-    })
 }
 
 fn renumbered_nodes(

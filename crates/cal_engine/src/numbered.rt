@@ -1,20 +1,13 @@
-ghost use Rattle.std.specs.Prelude.{◌≡◌, ◌≤◌, [], List, Some, length, map, slice_get, IfOk, IsTrue};
-ghost use Rattle.std.specs.Prelude.{OnOk, OnErr};
+ghost use Rattle.std.specs.Prelude.{◌≡◌, ◌≤◌, [], Some, length, slice_get, slice_index_or};
+ghost use Rattle.std.specs.Prelude.{IfOk, IsTrue, OnOk, OnErr};
 ghost use Rattle.cal_context.specs.Lists.{Interns};
-ghost use Rattle.cal_context.specs.Snapshots.{meaning};
-ghost use Rattle.cal_context.specs.Tree.{Grows};
-ghost use Rattle.cal_value.specs.declared.record.Rec.{Rec as ARecord};
 ghost use Rattle.cal_engine.specs.Folding.{put_parts};
-ghost use Rattle.cal_engine.specs.Groups.{groups_of};
-ghost use Rattle.cal_engine.specs.Numbered.{AreGroups, GathersKey};
-ghost use Rattle.cal_engine.specs.Rows.{row_of as row_by};
+ghost use Rattle.cal_engine.specs.Numbered.{GathersKey};
 
-use crate::group_rows::group_snapshots;
 use crate::groups::merge_into;
 use crate::key::GroupKey;
 use crate::part::Part;
-use cal_context::{Context, Interner, NodeNumber, Snapshot};
-use cal_ql::Query;
+use cal_context::{Interner, NodeNumber};
 use cal_value::{OutOfMemory, Seq, same};
 use std::alloc::Global;
 use std::marker::Model;
@@ -80,21 +73,32 @@ impl NumberedGroups {
         put
     }
 
-    /// The rows of the groups, whose keys lie in a context, as snapshots of it. The attributes of
-    /// results are added to it.
-    pub fn rows(
-        &self,
-        alloc: Global,
-        query: &Query,
-        context: &mut Context,
-    ) -> Result<Vec<Snapshot>, OutOfMemory>
-        ensures rows { IfOk result (λ rows. (rs : List ARecord)
-            → AreGroups context.old query.now rs self.now
-            → map (meaning context.new) rows.items
-            ≡ map (row_by query.now rs) (groups_of query.now.group rs)) }
-        ensures grows { Grows context.old context.new }
+    /// The keys of the groups.
+    pub fn keys(&self) -> &[GroupKey]
+        ensures { result.now ≡ self.now.keys }
     {
-        group_snapshots(alloc, query, context, self.keys.as_slice(), &self.parts)
+        let _ = &self.parts;
+        self.keys.as_slice()
+    }
+
+    /// What is kept of each group.
+    pub fn parts(&self) -> &[Seq<Part>]
+        ensures parts { result.now ≡ self.now.parts }
+        ensures counted { length result.now ≡ length self.now.keys }
+    {
+        let _ = &self.keys;
+        &self.parts
+    }
+
+    /// What is kept of the group of a number.
+    pub fn parts_at(&self, number: usize) -> &[Part]
+        ensures { result.now ≡ slice_index_or self.now.parts number [] }
+    {
+        let _ = &self.keys;
+        match self.parts.get(number) {
+            Some(parts) => parts.as_slice(),
+            None => &[],
+        }
     }
 }
 

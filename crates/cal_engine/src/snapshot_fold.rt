@@ -9,13 +9,14 @@ ghost use Rattle.cal_rowset.specs.Numbers.{rowset_of};
 ghost use Rattle.cal_value.specs.declared.record.Rec.{Rec as ARecord};
 ghost use Rattle.cal_engine.specs.Answers.{answer_of};
 ghost use Rattle.cal_engine.specs.Keys.{room_of};
+ghost use Rattle.cal_engine.specs.Making.{MakesRows};
 ghost use Rattle.cal_engine.specs.Standing.{HasFolded};
 ghost use Rattle.cal_engine.specs.Tallies.{Holds};
 
 use crate::copying::copy_of;
 use crate::fold::is_aggregated;
 use crate::gate::{Gate, copy_into};
-use crate::moving::moved;
+use crate::grouped_rows::GroupedRows;
 use crate::snapshot_columns::snapshot_columns;
 use crate::snapshot_rows::ordered_rows;
 use crate::tally::{TalliedGroups, Tally};
@@ -73,12 +74,12 @@ impl SnapshotFold {
         &self.query
     }
 
-    /// The rows of the answer over the records that were taken, as snapshots of the context that
-    /// they came in, to which the attributes of results and the nodes of groups are added.
-    pub fn rows(self, context: &mut Context) -> Result<Vec<Snapshot>, OutOfMemory>
-        ensures within { IfOk result (λ rows. All (IsIn context.new) rows.items) }
-        ensures rows { IfOk result (λ rows. (rs : List ARecord) → HasFolded self context.old rs
-            → map (meaning context.new) rows.items ≡ (answer_of self.query rs).rows.rows) }
+    /// The rows of the answer over the records that were taken, made one by one as snapshots of the
+    /// context that they came in, to which the attributes of results and the nodes of groups are
+    /// added. It is for an aggregated query without ORDER BY; of another one none are made.
+    pub fn grouped_rows(self, context: &mut Context) -> Result<GroupedRows, OutOfMemory>
+        ensures rows { IfOk result (λ made. (rs : List ARecord) → HasFolded self context.old rs
+            → MakesRows context.new self.query.aggs made (answer_of self.query rs).rows.rows) }
         ensures grows { Grows context.old context.new }
     {
         let SnapshotFold {
@@ -86,17 +87,23 @@ impl SnapshotFold {
             query,
             gate: _,
             tally,
-            rows,
+            rows: _,
             full: _,
         } = self;
-        let TalliedGroups { mut own, groups } = tally.into_groups();
-        if query.group.is_some() {
-            let rows = ordered_rows(alloc, &query, &mut own, groups, rows)?;
-            let moved = moved(alloc, &own, rows, context)?;
-            return Ok(moved);
+        context.has_each_once();
+        if !is_aggregated(&query) {
+            return Err(OutOfMemory);
         }
-        let rows = ordered_rows(alloc, &query, context, groups, rows)?;
-        Ok(rows)
+        if !query.order.is_empty() {
+            return Err(OutOfMemory);
+        }
+        let TalliedGroups { own, groups } = tally.into_groups();
+        if query.group.is_some() {
+            let made = GroupedRows::moved(alloc, &query, own, groups, context)?;
+            return Ok(made);
+        }
+        let made = GroupedRows::new(alloc, &query, groups, context)?;
+        Ok(made)
     }
 
     /// The answer over the records that were taken from a context as it stands. It takes memory and

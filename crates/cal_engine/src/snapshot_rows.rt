@@ -2,12 +2,15 @@ ghost use Rattle.std.specs.Prelude.{◌≡◌, List, map, IfOk};
 ghost use Rattle.std.specs.List.{All};
 ghost use Rattle.cal_context.specs.Snapshots.{IsIn, meaning};
 ghost use Rattle.cal_context.specs.Tree.{Grows};
+ghost use Rattle.cal_ql.specs.declared.query.Agg.{Agg as AnAgg};
 ghost use Rattle.cal_value.specs.declared.record.Rec.{Rec as ARecord};
+ghost use Rattle.cal_engine.specs.Making.{MakesRows};
 ghost use Rattle.cal_engine.specs.Rows.{rows_of};
 ghost use Rattle.cal_engine.specs.Sorting.{sorted_rows};
 ghost use Rattle.cal_engine.specs.Tallies.{HoldsIn};
 
 use crate::fold::is_aggregated;
+use crate::grouped_rows::GroupedRows;
 use crate::numbered::NumberedGroups;
 use crate::snapshot_order::sorted_snapshots;
 use crate::within::are_in;
@@ -55,9 +58,28 @@ fn made_rows(
     ensures grows { Grows context.old context.new }
 {
     if is_aggregated(query) {
-        let made = groups.rows(alloc, query, context)?;
-        return Ok(made);
+        let made = GroupedRows::new(alloc, query, groups, context)?;
+        let rows = all_rows(alloc, &made, context)?;
+        return Ok(rows);
     }
     context.has_each_once();
     Ok(kept)
+}
+
+/// All rows of groups.
+fn all_rows(
+    alloc: Global,
+    made: &GroupedRows,
+    context: &Context,
+) -> Result<Vec<Snapshot>, OutOfMemory>
+    ensures { IfOk result (λ all. (aggs : List AnAgg) (rows : List ARecord)
+        → MakesRows context.now aggs made.now rows → map (meaning context.now) all.items ≡ rows) }
+{
+    let mut all = Vec::with_capacity(alloc, made.count())?;
+    for number in 0..made.count() {
+        let mut row = Snapshot::new(alloc);
+        made.fill(context, number, &mut row)?;
+        all.push(row)?;
+    }
+    Ok(all)
 }

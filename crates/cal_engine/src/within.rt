@@ -10,13 +10,15 @@ pub(crate) fn are_in(context: &Context, rows: &[Snapshot]) -> bool
     rows.iter().all(|row| is_in(context, row))
 }
 
-fn is_in(context: &Context, row: &Snapshot) -> bool
+/// Whether a snapshot is about a context.
+pub(crate) fn is_in(context: &Context, row: &Snapshot) -> bool
     ensures { IsTrue result → IsIn context.now row.now }
 {
     are_below_root(context, &row.nodes) && have_attributes(context, &row.imms)
 }
 
-fn are_below_root(context: &Context, nodes: &[NodeNumber]) -> bool
+/// Whether nodes are those of a context, below its root.
+pub(crate) fn are_below_root(context: &Context, nodes: &[NodeNumber]) -> bool
     ensures { IsTrue result → All (IsBelowRoot context.now) nodes.now }
 {
     nodes.iter().all(|node| is_below_root(context, *node))

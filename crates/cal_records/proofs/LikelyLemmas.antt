@@ -14,10 +14,12 @@ use Rattle.std.proofs.lemmas.List.{get_or_past}
 use Rattle.cal_context.proofs.CallerLemmas.{one_node, root_path, root_within}
 use Rattle.cal_context.specs.Tree.{IsContext, Tree, path_at}
 use Rattle.cal_context.specs.declared.numbers.NodeNumber.{NodeNumber}
+use Rattle.cal_engine.specs.Making.{key_at}
+use Rattle.cal_engine.specs.declared.grouped_rows.GroupedRows.{GroupedRows}
 use Rattle.cal_records.specs.Likely.{likely_key, node_place, place_in}
-use Rattle.cal_records.specs.Ranks.{ranked_cmp, ranked_group}
+use Rattle.cal_records.specs.Ranks.{group_at, numbers_cmp}
 use Rattle.cal_records.specs.declared.likely.Spot.{Spot}
-use Rattle.cal_records.specs.declared.sorting.Ranked.{Ranked}
+use Rattle.cal_records.specs.declared.group_keys.GroupKeys.{GroupKeys}
 use Rattle.cal_value.specs.ExactOrder.{IsExactOrder, nat_exact}
 use Rattle.cal_value.specs.Order.{group_cmp}
 use Rattle.cal_value.specs.OrderLaws.{group_exact}
@@ -117,33 +119,34 @@ module _ (t : Tree) (context : IsContext t) (spots : List Spot) where
       ∙ ap (λ (paths : List (List Entry)). get_or paths i (path_at t root)) same
       ∙ get_or-map (path_at t) ms i root)
 
-  abbrev pub key_of : Ranked → ℕ × ℕ
-  key_of r = likely_key t spots r.row.now.nodes.items
+  module _ (g : GroupedRows) (keys : List GroupKeys) where
+    abbrev pub key_of : ℕ → ℕ × ℕ
+    key_of n = likely_key t spots (key_at g n).paths
 
-  -- rows of one group have one key
-  same-key : (x y : Ranked) → ranked_group t x ≡ ranked_group t y → key_of x ≡ key_of y
-  same-key x y same =
-      let paths = ap (λ (r : Rec). r.paths) same in
-      let at = same-place-in x.row.now.nodes.items y.row.now.nodes.items paths in
-      λ i. (at 0 i, at 1 i)
+    -- rows of one group have one key
+    same-key : (x y : ℕ) → group_at t g keys x ≡ group_at t g keys y → key_of x ≡ key_of y
+    same-key x y same =
+        let paths = ap (λ (r : Rec). r.paths) same in
+        let at = same-place-in (key_at g x).paths (key_at g y).paths paths in
+        λ i. (at 0 i, at 1 i)
 
-  -- so those that tie by their groups tie by their keys
-  tied-keys : (x y : Ranked) → ties (λ a b. is_lt (ranked_cmp t a b)) x y ≡ true
-      → ties (λ a b. is_lt (key_cmp (key_of a) (key_of b))) x y ≡ true
-  tied-keys x y tie =
-      let keys = same-key x y
-      (tied-equal group_cmp group_exact (ranked_group t x) (ranked_group t y) tie) in
-      (λ i. not (is_lt (key_cmp (keys i) (key_of y))) && not (is_lt (key_cmp (key_of y) (keys i))))
-      ∙ ap (λ (o : Ordering). not (is_lt o) && not (is_lt o)) (key-itself (key_of y))
+    -- so those that tie by their groups tie by their keys
+    tied-keys : (x y : ℕ) → ties (λ a b. is_lt (numbers_cmp t g keys a b)) x y ≡ true
+        → ties (λ a b. is_lt (key_cmp (key_of a) (key_of b))) x y ≡ true
+    tied-keys x y tie =
+        let same = same-key x y
+        (tied-equal group_cmp group_exact (group_at t g keys x) (group_at t g keys y) tie) in
+        (λ i. not (is_lt (key_cmp (same i) (key_of y))) && not (is_lt (key_cmp (key_of y) (same i))))
+        ∙ ap (λ (o : Ordering). not (is_lt o) && not (is_lt o)) (key-itself (key_of y))
 
-  -- rows of one group are left in their order by a sort by keys and one behind it
-  pub likely_first : {E : Type 0} {h : Mut E (Bor Ranked × Unit {0}) (ℕ × ℕ)} {e : E}
-      (before mid after : List Ranked) → IsStableByKeyClosure h key_cmp e before mid
-      → ((a : Bor Ranked × Unit {0}) (k : ℕ × ℕ) (e' : E) → Called h e a k e'
-      → (k ≡ key_of a.0.now) × (e' ≡ e))
-      → IsStableBy (λ x y. is_lt (ranked_cmp t x y)) mid after
-      → IsStableBy (λ x y. is_lt (ranked_cmp t x y)) before after
-  likely_first {h = h} {e = e} before mid after stable answers second =
-      stable-behind (λ x y. is_lt (key_cmp (key_of x) (key_of y)))
-      (λ x y. is_lt (ranked_cmp t x y)) tied-keys before mid after
-      (stable key_of (always_returns_same h (λ a k. k ≡ key_of a.0.now) e answers)) second
+    -- rows of one group are left in their order by a sort by keys and one behind it
+    pub likely_first : {E : Type 0} {h : Mut E (Bor ℕ × Unit {0}) (ℕ × ℕ)} {e : E}
+        (before mid after : List ℕ) → IsStableByKeyClosure h key_cmp e before mid
+        → ((a : Bor ℕ × Unit {0}) (k : ℕ × ℕ) (e' : E) → Called h e a k e'
+        → (k ≡ key_of a.0.now) × (e' ≡ e))
+        → IsStableBy (λ x y. is_lt (numbers_cmp t g keys x y)) mid after
+        → IsStableBy (λ x y. is_lt (numbers_cmp t g keys x y)) before after
+    likely_first {h = h} {e = e} before mid after stable answers second =
+        stable-behind (λ x y. is_lt (key_cmp (key_of x) (key_of y)))
+        (λ x y. is_lt (numbers_cmp t g keys x y)) tied-keys before mid after
+        (stable key_of (always_returns_same h (λ a k. k ≡ key_of a.0.now) e answers)) second

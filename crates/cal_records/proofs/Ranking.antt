@@ -1,29 +1,47 @@
--- Rows sorted by what stands beside them are the rows in the order of their groups.
-use Rattle.std.proofs.Common.{◌≡◌, Bool, true, false, List, [], ◌∷◌, ◌++◌, map, refl, sym, ap, ◌∙◌}
-use Rattle.std.proofs.Common.{Bor, ℕ, ◌+◌, ◌<◌, get_or, length, subst, take}
+-- Numbers sorted by what stands beside them are those of the rows in the order of their groups.
+use Rattle.std.proofs.Common.{◌≡◌, Bool, true, false, ◌||◌, List, [], ◌∷◌, ◌++◌, map, refl, sym, ap, ◌∙◌}
+use Rattle.std.proofs.Common.{Bor, ℕ, ◌<◌, Option, None, Some, append-nil, append_assoc, arith, filter}
+use Rattle.std.proofs.Common.{length, not, reverse, subst}
+use Rattle.std.specs.Prelude.{option_map}
 use Rattle.std.specs.Cmp.{IsStrictWeakOrder}
 use Rattle.std.specs.Fn.{Called, Mut}
-use Rattle.std.specs.List.{All, AllByRecursion}
+use Rattle.std.specs.List.{All, AllByRecursion, cons_option, list_any}
 use Rattle.std.specs.List.Sorted.{IsSortedByClosure, IsStableBy, IsStableByClosure}
 use Rattle.std.specs.Ordering.{is_lt}
 use Rattle.std.specs.declared.cmp.Ordering.{Ordering}
 use Rattle.std.proofs.lemmas.Fn.{always_returns_same}
-use Rattle.std.proofs.lemmas.List.{map-append, take_more}
-use Rattle.std.proofs.lemmas.List.Elements.{All-from_recursion, All-push, recursion_from_All}
+use Rattle.std.proofs.lemmas.List.{reverse-append}
+use Rattle.std.proofs.lemmas.List.Elements.{filter-append, recursion_from_All}
+use Rattle.std.proofs.lemmas.List.Folds.{list_any-append}
 use Rattle.std.proofs.lemmas.List.Sorted.{ranks_by}
-use Rattle.std.proofs.lemmas.Simd.{map-map}
-use Rattle.cal_context.specs.Snapshots.{IsIn, meaning}
-use Rattle.cal_context.specs.Tree.{Tree}
-use Rattle.cal_context.specs.declared.snapshot.Snapshot.{Snapshot}
+use Rattle.cal_agg.specs.declared.num.Num.{Num}
+use Rattle.cal_context.specs.Tree.{Tree, path_at}
+use Rattle.cal_engine.proofs.Making.{made-counted, made-row}
 use Rattle.cal_engine.proofs.Sorts.{sorted-unique}
+use Rattle.cal_engine.specs.Finishing.{Lists, entries_of_results, lists_at}
+use Rattle.cal_engine.specs.Kernels.{contributed, result_of}
+use Rattle.cal_engine.specs.Keys.{key_in}
+use Rattle.cal_engine.specs.Making.{MakesRows, group_count, key_at, room_in}
 use Rattle.cal_engine.specs.Sorting.{put_in, sorted}
+use Rattle.cal_engine.specs.declared.grouped_rows.GroupedRows.{GroupedRows}
+use Rattle.cal_filter.specs.Kept.{result_entry}
+use Rattle.cal_filter.specs.Numbers.{value_of_number}
 use Rattle.cal_ql.specs.declared.query.Agg.{Agg}
-use Rattle.cal_records.specs.Groups.{rows_cmp}
-use Rattle.cal_records.specs.Ranks.{AreRanked, IsRanked, ranked_cmp, ranked_group}
-use Rattle.cal_records.specs.declared.sorting.Ranked.{Ranked}
+use Rattle.cal_records.specs.Groups.{group_in, is_result, rows_cmp}
+use Rattle.cal_records.specs.Ranks.{entries_at, group_at, key_entries, numbers_cmp}
+use Rattle.cal_records.specs.declared.group_keys.GroupKeys.{GroupKeys}
+use Rattle.cal_rowset.proofs.Seen.{is_same-refl}
+use Rattle.cal_rowset.specs.Answers.{nth_row}
+use Rattle.cal_rowset.specs.Texts.{is_same}
 use Rattle.cal_value.specs.Order.{group_cmp}
 use Rattle.cal_value.specs.OrderLaws.{group_exact}
+use Rattle.cal_value.specs.declared.attribute.Entry.{Entry}
 use Rattle.cal_value.specs.declared.record.Rec.{Rec}
+use Rattle.cal_value.specs.declared.variant.Variant.{Variant}
+
+or-true : (b : Bool) → (b || true) ≡ true
+or-true true = refl
+or-true false = refl
 
 -- ---- a sort of items is one of what they stand for, where the orders agree
 
@@ -62,68 +80,107 @@ module _ {A B : Type 0} (f : A → B) (R : A → A → Ordering) (S : B → B �
       put_in-map x (sorted R xs) all.0 (sorted-all xs all.1)
       ∙ ap (put_in S (f x)) (sorted-map xs all.1)
 
--- what holds of what items stand for holds of the items
-all-back : {A B : Type 0} (P : B → Type 0) (f : A → B) (xs : List A) → All P (map f xs)
-    → All (λ x. P (f x)) xs
-all-back {A} P f xs all =
-    All-from_recursion (λ x. P (f x)) xs (by xs (recursion_from_All P (map f xs) all))
+-- ---- the immediates of a group
+
+-- the entries of results are results
+no-results : (all front more : List Agg) (lists : Lists) → all ≡ front ++ more
+    → filter (λ e. not (is_result all e)) (entries_of_results more lists) ≡ []
+no-results all front [] lists is = refl
+no-results all front (agg ∷ more) lists is =
+    by (result_of agg.kernel (contributed agg lists.own) (contributed agg lists.all)
+    (contributed agg lists.below)) refl
+    (no-results all (front ++ agg ∷ []) more lists (is ∙ sym (append_assoc front (agg ∷ []) more)))
   where
-    by : (ys : List A) → AllByRecursion P (map f ys) → AllByRecursion (λ x. P (f x)) ys
-    by [] each = tt
-    by (y ∷ ys) each = (each.0, by ys each.1)
+    named : (v : Variant) → is_result all (result_entry agg.name v) ≡ true
+    named v =
+        ap (list_any (λ (a : Agg). is_same a.name agg.name)) is
+        ∙ list_any-append (λ (a : Agg). is_same a.name agg.name) front (agg ∷ more)
+        ∙ ap (λ b. list_any (λ (a : Agg). is_same a.name agg.name) front
+        || (b || list_any (λ (a : Agg). is_same a.name agg.name) more)) (is_same-refl agg.name)
+        ∙ or-true (list_any (λ (a : Agg). is_same a.name agg.name) front)
 
--- ---- ranked rows
+    by : (r : Option Num) → r ≡ result_of agg.kernel (contributed agg lists.own)
+        (contributed agg lists.all) (contributed agg lists.below)
+        → filter (λ e. not (is_result all e)) (entries_of_results more lists) ≡ []
+        → filter (λ e. not (is_result all e)) (cons_option
+        (option_map (λ n. result_entry agg.name (value_of_number n)) r)
+        (entries_of_results more lists)) ≡ []
+    by None e rest = rest
+    by (Some n) e rest = rw (named (value_of_number n)) rest
 
--- one row more
-pub rank-more : (t : Tree) (aggs : List Agg) (rows : List Snapshot) (i : ℕ) (row : Snapshot)
-    (ranked after : List Ranked) (r : Ranked) → after ≡ ranked ++ r ∷ [] → i < length rows
-    → row ≡ get_or rows i row → r.row.now ≡ row → IsRanked t aggs r
-    → AreRanked t aggs (take i rows) ranked → AreRanked t aggs (take (i + 1) rows) after
-rank-more t aggs rows i row ranked after r more below is same keys before =
-    subst (AreRanked t aggs (take (i + 1) rows)) (sym more) (record {
-      are = map-append (λ (x : Ranked). x.row.now) ranked (r ∷ [])
-          ∙ (λ j. before.are j ++ (same ∙ is) j ∷ [])
-          ∙ sym (take_more rows i row below);
-      keys = All-push (IsRanked t aggs) ranked r before.keys keys;
-    })
+-- so a group's own immediates are left of a row's
+without-results : (aggs : List Agg) (lists : Lists) (es : List Entry)
+    → filter (λ e. not (is_result aggs e)) (es ++ entries_of_results aggs lists)
+    ≡ filter (λ e. not (is_result aggs e)) es
+without-results aggs lists es =
+    filter-append (λ e. not (is_result aggs e)) es (entries_of_results aggs lists)
+    ∙ ap (λ ys. filter (λ e. not (is_result aggs e)) es ++ ys)
+    (no-results aggs [] aggs lists refl)
+    ∙ append-nil (filter (λ e. not (is_result aggs e)) es)
 
-module _ (t : Tree) (aggs : List Agg) where
-  abbrev row_of : Ranked → Rec
-  row_of r = meaning t r.row.now
+-- what a test keeps of a path, by what it keeps up to the parent and of the last entry
+pub filtered-up : (p : Entry → Bool) (whole path parent : List Entry) (e : Entry)
+    (old new : List Entry) → path ≡ parent ++ e ∷ [] → whole ≡ filter p path ++ reverse old
+    → new ≡ old ++ filter p (e ∷ []) → whole ≡ filter p parent ++ reverse new
+filtered-up p whole path parent e old new is before more =
+    before
+    ∙ ap (λ es. filter p es ++ reverse old) is
+    ∙ ap (λ es. es ++ reverse old) (filter-append p parent (e ∷ []))
+    ∙ append_assoc (filter p parent) (filter p (e ∷ [])) (reverse old)
+    ∙ ap (λ es. filter p parent ++ es) (sym (ap reverse more ∙ turned (p e) refl))
+  where
+    turned : (b : Bool) → p e ≡ b
+        → reverse (old ++ filter p (e ∷ [])) ≡ filter p (e ∷ []) ++ reverse old
+    turned true kept = rw kept (reverse-append old (e ∷ []))
+    turned false kept = rw kept (ap reverse (append-nil old))
 
-  agrees : (x y : Ranked) → IsRanked t aggs x → IsRanked t aggs y
-      → ranked_cmp t x y ≡ rows_cmp aggs (row_of x) (row_of y)
-  agrees x y one other = λ i. group_cmp (one i) (other i)
+-- ---- the numbers of rows
 
-  ranked_weak : IsStrictWeakOrder (λ x y. is_lt (ranked_cmp t x y))
-  ranked_weak = ranks_by group_exact.total (ranked_group t)
+module _ (t room : Tree) (aggs : List Agg) (g : GroupedRows) (keys : List GroupKeys)
+    (rs : List Rec) (is : room ≡ room_in t g) (made : MakesRows t aggs g rs)
+    (are : (n : ℕ) → n < group_count g → entries_at keys n ≡ key_entries room aggs (key_at g n))
+  where
+    -- the group of a number is that of its row
+    group-is : (n : ℕ) → n < length rs → group_at room g keys n ≡ group_in aggs (nth_row rs n)
+    group-is n within =
+        let key = key_at g n in
+        let counted = made-counted t aggs g rs made in
+        (λ i. record {
+          paths = map (path_at (is i)) key.paths;
+          imms = (are n (omega (arith, within, counted)) ∙ ap (λ r. key_entries r aggs key) is
+              ∙ sym (without-results aggs (lists_at made.lists (key_in (room_in t g) key))
+              (path_at (room_in t g) key.imms))) i;
+        })
+        ∙ ap (group_in aggs) (sym (made-row t aggs g rs made n within))
 
-  -- what the sort leaves
-  pub sorted_by_ranks :
-      {F : Type 0} {g : Mut F (Bor Ranked × (Bor Ranked × Unit {0})) Ordering} {f : F}
-      (rows : List Snapshot) (before mid after : List Ranked) → AreRanked t aggs rows before
-      → (IsStableBy (λ x y. is_lt (ranked_cmp t x y)) mid after
-      → IsStableBy (λ x y. is_lt (ranked_cmp t x y)) before after)
-      → IsSortedByClosure g f after → IsStableByClosure g f mid after
-      → ((a : Bor Ranked × (Bor Ranked × Unit {0})) (r : Ordering) (f' : F) → Called g f a r f'
-      → (r ≡ ranked_cmp t a.0.now a.1.0.now) × (f' ≡ f))
-      → map row_of after ≡ sorted (rows_cmp aggs) (map (meaning t) rows)
-  sorted_by_ranks {g = g} {f = f} rows before mid after are first up stable answers =
-      let lt = λ (x y : Ranked). is_lt (ranked_cmp t x y) in
-      let compares = always_returns_same g
-      (λ a r. is_lt r ≡ is_lt (ranked_cmp t a.0.now a.1.0.now)) f
-      (λ a r f' k. (ap is_lt (answers a r f' k).0, (answers a r f' k).1)) in
-      ap (map row_of)
-      (sorted-unique (ranked_cmp t) ranked_weak before after (up lt ranked_weak compares)
-      (first (stable lt ranked_weak compares)))
-      ∙ sorted-map row_of (ranked_cmp t) (rows_cmp aggs) (IsRanked t aggs) agrees before
-      (recursion_from_All (IsRanked t aggs) before are.keys)
-      ∙ ap (sorted (rows_cmp aggs))
-      (sym (map-map (meaning t) (λ (r : Ranked). r.row.now) before)
-      ∙ ap (map (meaning t)) are.are)
+    agrees : (n m : ℕ) → n < length rs → m < length rs
+        → numbers_cmp room g keys n m ≡ rows_cmp aggs (nth_row rs n) (nth_row rs m)
+    agrees n m one other = λ i. group_cmp (group-is n one i) (group-is m other i)
 
-  -- ranked rows of a context are as they were
-  pub within_ranks : (rows : List Snapshot) (ranked : List Ranked) → AreRanked t aggs rows ranked
-      → All (IsIn t) rows → All (λ (r : Ranked). IsIn t r.row.now) ranked
-  within_ranks rows ranked are all =
-      all-back (IsIn t) (λ (r : Ranked). r.row.now) ranked (subst (All (IsIn t)) (sym are.are) all)
+    numbers_weak : IsStrictWeakOrder (λ x y. is_lt (numbers_cmp room g keys x y))
+    numbers_weak = ranks_by group_exact.total (group_at room g keys)
+
+    -- what the sort leaves
+    pub sorted_numbers :
+        {F : Type 0} {h : Mut F (Bor ℕ × (Bor ℕ × Unit {0})) Ordering} {f : F}
+        (before mid after : List ℕ) → All (λ n. n < group_count g) before
+        → map (nth_row rs) before ≡ rs
+        → (IsStableBy (λ x y. is_lt (numbers_cmp room g keys x y)) mid after
+        → IsStableBy (λ x y. is_lt (numbers_cmp room g keys x y)) before after)
+        → IsSortedByClosure h f after → IsStableByClosure h f mid after
+        → ((a : Bor ℕ × (Bor ℕ × Unit {0})) (r : Ordering) (f' : F) → Called h f a r f'
+        → (r ≡ numbers_cmp room g keys a.0.now a.1.0.now) × (f' ≡ f))
+        → map (nth_row rs) after ≡ sorted (rows_cmp aggs) rs
+    sorted_numbers {h = h} {f = f} before mid after below each first up stable answers =
+        let lt = λ (x y : ℕ). is_lt (numbers_cmp room g keys x y) in
+        let compares = always_returns_same h
+        (λ a r. is_lt r ≡ is_lt (numbers_cmp room g keys a.0.now a.1.0.now)) f
+        (λ a r f' k. (ap is_lt (answers a r f' k).0, (answers a r f' k).1)) in
+        let within : All (λ n. n < length rs) before =
+        subst (λ count. All (λ n. n < count) before) (made-counted t aggs g rs made) below in
+        ap (map (nth_row rs))
+        (sorted-unique (numbers_cmp room g keys) numbers_weak before after
+        (up lt numbers_weak compares) (first (stable lt numbers_weak compares)))
+        ∙ sorted-map (nth_row rs) (numbers_cmp room g keys) (rows_cmp aggs) (λ n. n < length rs)
+        agrees before (recursion_from_All (λ n. n < length rs) before within)
+        ∙ ap (sorted (rows_cmp aggs)) each

@@ -1,15 +1,15 @@
--- Rows beside what is compared of their groups (private).
-use Rattle.std.specs.Prelude.{◌≡◌, List, map}
-use Rattle.std.specs.List.{All}
+-- The groups of rows by their numbers, and the order of such groups (private).
+use Rattle.std.specs.Prelude.{ℕ, List, [], filter, map, not, slice_index_or}
 use Rattle.std.specs.Ordering.{on}
 use Rattle.std.specs.declared.cmp.Ordering.{Ordering}
-use Rattle.cal_context.specs.Snapshots.{meaning}
 use Rattle.cal_context.specs.Tree.{Tree, path_at}
-use Rattle.cal_context.specs.declared.snapshot.Snapshot.{Snapshot}
+use Rattle.cal_engine.specs.Making.{key_at}
+use Rattle.cal_engine.specs.declared.grouped_rows.GroupedRows.{GroupedRows}
+use Rattle.cal_engine.specs.declared.key.GroupKey.{GroupKey}
 use Rattle.cal_ql.specs.declared.query.Agg.{Agg}
-use Rattle.cal_records.specs.Groups.{group_in}
+use Rattle.cal_records.specs.Groups.{is_result}
+use Rattle.cal_records.specs.declared.group_keys.GroupKeys.{GroupKeys}
 use Rattle.cal_records.specs.declared.sorting.Key.{Key}
-use Rattle.cal_records.specs.declared.sorting.Ranked.{Ranked}
 use Rattle.cal_value.specs.Order.{group_cmp}
 use Rattle.cal_value.specs.declared.attribute.Entry.{Entry}
 use Rattle.cal_value.specs.declared.record.Rec.{Rec}
@@ -18,20 +18,21 @@ use Rattle.cal_value.specs.declared.record.Rec.{Rec}
 abbrev pub key_entry : Key → Entry
 key_entry key = record { attr = key.attr.now; value = key.value.now }
 
--- the group of a ranked row, and the order of such groups
-abbrev pub ranked_group : Tree → Ranked → Rec
-ranked_group t r =
-    record { paths = map (path_at t) r.row.now.nodes.items; imms = map key_entry r.keys.items }
+-- the immediates of a group's key that aren't results
+abbrev pub key_entries : Tree → List Agg → GroupKey → List Entry
+key_entries room aggs key = filter (λ e. not (is_result aggs e)) (path_at room key.imms)
 
-abbrev pub ranked_cmp : Tree → Ranked → Ranked → Ordering
-ranked_cmp t = on (ranked_group t) group_cmp
+abbrev pub lent_entries : GroupKeys → List Entry
+lent_entries keys = map key_entry keys.entries.items
 
--- a row has the keys of its group
-abbrev pub IsRanked : Tree → List Agg → Ranked → Type 0
-IsRanked t aggs r = ranked_group t r ≡ group_in aggs (meaning t r.row.now)
+-- those of a number, none behind the end
+abbrev pub entries_at : List GroupKeys → ℕ → List Entry
+entries_at keys n = slice_index_or (map lent_entries keys) n []
 
--- these are the rows, each with the keys of its group
-pub record AreRanked (t : Tree) (aggs : List Agg) (rows : List Snapshot) (ranked : List Ranked)
-    : Type 0 where
-  pub are : map (λ r. r.row.now) ranked ≡ rows
-  pub keys : All (IsRanked t aggs) ranked
+-- the group of a number, and the order of such groups
+abbrev pub group_at : Tree → GroupedRows → List GroupKeys → ℕ → Rec
+group_at room rows keys n =
+    record { paths = map (path_at room) (key_at rows n).paths; imms = entries_at keys n }
+
+abbrev pub numbers_cmp : Tree → GroupedRows → List GroupKeys → ℕ → ℕ → Ordering
+numbers_cmp room rows keys = on (group_at room rows keys) group_cmp

@@ -1,23 +1,25 @@
-ghost use Rattle.std.specs.Prelude.{◌≡◌, map, IfOk, IfSome, OnOk, option_copied};
-ghost use Rattle.std.specs.List.{All};
-ghost use Rattle.cal_context.specs.Snapshots.{IsIn, meaning};
+ghost use Rattle.std.specs.Prelude.{List, map, IfOk, IfSome, OnOk, option_copied};
 ghost use Rattle.cal_context.specs.Taking.{TakesMore};
 ghost use Rattle.cal_context.specs.Tree.{Grows};
 ghost use Rattle.cal_engine.specs.Answers.{answer_of};
+ghost use Rattle.cal_engine.specs.Making.{MakesRows};
 ghost use Rattle.cal_ql.specs.Valid.{IsValidQuery};
+ghost use Rattle.cal_ql.specs.declared.query.Agg.{Agg as AnAgg};
 ghost use Rattle.cal_records.specs.Records.{grouped};
 ghost use Rattle.cal_records.specs.Told.{CountsRefused, told};
+ghost use Rattle.cal_rowset.specs.Answers.{nth_row};
 ghost use Rattle.cal_run.specs.Numbers.{AreNumbered};
 ghost use Rattle.cal_run.specs.Runs.{snapshots};
 ghost use Rattle.cal_run.specs.Seeing.{CanBeRead};
 ghost use Rattle.cal_valid.specs.Valid.{IsRunnable};
+ghost use Rattle.cal_value.specs.declared.record.Rec.{Rec as ARecord};
 
 use crate::query::channel_query;
 use crate::run::take_snapshots;
 use crate::same::same_query;
-use crate::sorting::{Ranked, sorted_by_group};
+use crate::sorting::sorted_by_group;
 use cal_context::{Context, Snapshot, Taker};
-use cal_engine::SnapshotFold;
+use cal_engine::{GroupedRows, SnapshotFold};
 use cal_ql::Query;
 use cal_run::Numbers;
 use cal_script::{Channel, Journal, Script};
@@ -50,12 +52,12 @@ pub(crate) fn take_groups<T: Taker>(
     }
     let query = channel_query(alloc, &channel.query)?;
     let (rows, refused) = group_rows(alloc, script, journal, channel, &query, numbers, context)?;
-    let ranked = sorted_by_group(alloc, context, query.aggs.as_slice(), rows.as_slice())?;
-    take_rows(ranked.as_slice(), context, taker)?;
+    let order = sorted_by_group(alloc, context, query.aggs.as_slice(), &rows)?;
+    take_rows(alloc, &rows, order.as_slice(), context, taker)?;
     Ok(refused)
 }
 
-/// The records of a channel's groups, in the order in which they came up.
+/// The records of a channel's groups, which are made one by one.
 fn group_rows(
     alloc: Global,
     script: &Script,
@@ -64,14 +66,13 @@ fn group_rows(
     query: &Query,
     numbers: &Numbers,
     context: &mut Context,
-) -> Result<(Vec<Snapshot>, Option<u64>), OutOfMemory>
+) -> Result<(GroupedRows, Option<u64>), OutOfMemory>
     requires runnable { IsRunnable script.now }
     requires read { IfSome journal (λ journal. CanBeRead script.now journal.now) }
     requires numbered { AreNumbered context.old script.now numbers.now }
     requires valid { IsValidQuery query.now }
-    ensures within { IfOk result (λ rows. All (IsIn context.new) rows.0.items) }
-    ensures rows { IfOk result (λ rows. map (meaning context.new) rows.0.items
-        ≡ (answer_of query.now (snapshots script.now (told script.now (option_copied journal.entry))
+    ensures rows { IfOk result (λ rows. MakesRows context.new query.now.aggs rows.0
+        (answer_of query.now (snapshots script.now (told script.now (option_copied journal.entry))
         channel.now)).rows.rows) }
     ensures refused { IfOk result (λ rows. CountsRefused script.now rows.1) }
     ensures grows { Grows context.old context.new }
@@ -82,20 +83,28 @@ fn group_rows(
     if !same_query(fold.query(), query) {
         return Err(OutOfMemory);
     }
-    let rows = fold.rows(context)?;
+    let rows = fold.grouped_rows(context)?;
     Ok((rows, refused))
 }
 
-/// Hands rows to a taker.
-fn take_rows<T: Taker>(rows: &[Ranked], context: &Context, taker: &mut T) -> Result<(), OutOfMemory>
-    requires { All (λ r. IsIn context.now r.row.now) rows.now }
-    ensures { OnOk result (TakesMore
+/// Makes the rows of these numbers, and hands each to a taker.
+fn take_rows<T: Taker>(
+    alloc: Global,
+    rows: &GroupedRows,
+    order: &[u32],
+    context: &Context,
+    taker: &mut T,
+) -> Result<(), OutOfMemory>
+    ensures { OnOk result ((aggs : List AnAgg) (rs : List ARecord)
+        → MakesRows context.now aggs rows.now rs → TakesMore
         (T.has_taken taker.old context.now)
         (T.has_taken taker.new context.now)
-        (map (λ r. meaning context.now r.row.now) rows.now)) }
+        (map (nth_row rs) order.now)) }
 {
-    for row in rows {
-        taker.take(context, row.row)?;
+    let mut row = Snapshot::new(alloc);
+    for number in order {
+        rows.fill(context, *number as usize, &mut row)?;
+        taker.take(context, &row)?;
     }
     Ok(())
 }

@@ -8,6 +8,7 @@
 
 mod comparing;
 mod globals;
+mod group_keys;
 mod groups;
 mod likely;
 mod query;

@@ -1,14 +1,19 @@
-ghost use Rattle.std.specs.Prelude.{◌≡◌, ◌<◌, not, filter, length, map, IfOk};
+ghost use Rattle.std.specs.Prelude.{◌≡◌, ◌<◌, List, length, map, IfOk};
 ghost use Rattle.std.specs.List.{All};
-ghost use Rattle.cal_context.specs.Snapshots.{IsIn, entry_of, meaning};
+ghost use Rattle.cal_engine.specs.Making.{MakesRows, key_at};
 ghost use Rattle.cal_engine.specs.Sorting.{sorted};
-ghost use Rattle.cal_records.specs.Groups.{is_result as is_result_of, rows_cmp};
-ghost use Rattle.cal_records.specs.Ranks.{AreRanked, key_entry, ranked_cmp};
+ghost use Rattle.cal_records.specs.Groups.{rows_cmp};
+ghost use Rattle.cal_records.specs.Likely.{likely_key as key_by};
+ghost use Rattle.cal_records.specs.Ranks.{key_entry, numbers_cmp};
+ghost use Rattle.cal_rowset.specs.Answers.{nth_row};
 ghost use Rattle.cal_value.specs.Order.{entry_cmp, path_cmp};
+ghost use Rattle.cal_value.specs.declared.record.Rec.{Rec as ARecord};
 
 use crate::comparing::compare_paths;
-use crate::likely::{likely_key, likely_spots};
-use cal_context::{Context, Immediate, Snapshot};
+use crate::group_keys::{GroupKeys, group_keys, keys_at};
+use crate::likely::{Spot, likely_key, likely_spots};
+use cal_context::Context;
+use cal_engine::GroupedRows;
 use cal_ql::Agg;
 use cal_value::{Attribute, OutOfMemory, Variant};
 use std::alloc::Global;
@@ -21,89 +26,60 @@ pub(crate) struct Key<'a> {
     pub(crate) value: &'a Variant,
 }
 
-/// A row beside the immediates of its group.
-#[derive(Drop)]
-pub(crate) struct Ranked<'a> {
-    pub(crate) row: &'a Snapshot,
-    keys: Vec<Key<'a>>,
+/// The numbers of rows in the order of their groups. It takes memory for a number of each row and a
+/// reference to each immediate of a group, and n log n comparisons of numbers; those that end up
+/// out of order are compared as groups.
+pub(crate) fn sorted_by_group(
+    alloc: Global,
+    context: &Context,
+    aggs: &[Agg],
+    rows: &GroupedRows,
+) -> Result<Vec<u32>, OutOfMemory>
+    ensures { IfOk result (λ numbers. (rs : List ARecord)
+        → MakesRows context.now aggs.now rows.now rs
+        → map (nth_row rs) numbers.items ≡ sorted (rows_cmp aggs.now) rs) }
+{
+    let room = rows.room(context);
+    room.has_each_once();
+    let keys = group_keys(alloc, room, aggs, rows)?;
+    let count = rows.count();
+    let mut numbers = numbers_below(alloc, count)?;
+    let spots = likely_spots(alloc, room, count)?;
+    numbers.sort_by_cached_key(|number| likely_key_of(room, &spots, rows, *number))?;
+    numbers.sort_by(|one, other| compare(room, rows, &keys, *one, *other))?;
+    Ok(numbers)
 }
 
-/// Rows of a context in the order of their groups. It takes memory for a reference to each row and
-/// to each immediate of its group, and n log n comparisons of numbers; those that end up out of
-/// order are compared as groups.
-pub(crate) fn sorted_by_group<'a>(
-    alloc: Global,
-    context: &'a Context,
-    aggs: &[Agg],
-    rows: &'a [Snapshot],
-) -> Result<Vec<Ranked<'a>>, OutOfMemory>
-    requires { All (IsIn context.now) rows.now }
-    ensures within { IfOk result
-        (λ ranked. All (λ r. IsIn context.now r.row.now) ranked.items) }
-    ensures sorted { IfOk result (λ ranked. map (λ r. meaning context.now r.row.now) ranked.items
-        ≡ sorted (rows_cmp aggs.now) (map (meaning context.now) rows.now)) }
+/// The numbers below this one.
+fn numbers_below(alloc: Global, count: usize) -> Result<Vec<u32>, OutOfMemory>
+    ensures below { IfOk result (λ numbers. All (λ n. n < count) numbers.items) }
+    ensures each { IfOk result (λ numbers. (rs : List ARecord) → count ≡ length rs
+        → map (nth_row rs) numbers.items ≡ rs) }
 {
-    context.has_each_once();
-    let mut ranked = ranked_rows(alloc, context, aggs, rows)?;
-    let spots = likely_spots(alloc, context, rows.len())?;
-    ranked.sort_by_cached_key(|row| likely_key(context, &spots, &row.row.nodes))?;
-    ranked.sort_by(|one, other| compare(context, one, other))?;
-    Ok(ranked)
-}
-
-fn ranked_rows<'a>(
-    alloc: Global,
-    context: &'a Context,
-    aggs: &[Agg],
-    rows: &'a [Snapshot],
-) -> Result<Vec<Ranked<'a>>, OutOfMemory>
-    requires { All (IsIn context.now) rows.now }
-    ensures { IfOk result (λ ranked. AreRanked context.now aggs.now rows.now ranked.items) }
-{
-    let mut ranked = Vec::with_capacity(alloc, rows.len())?;
-    for row in rows {
-        let keys = keys_of(alloc, context, aggs, row.imms.as_slice())?;
-        ranked.push(Ranked { row, keys })?;
-    }
-    Ok(ranked)
-}
-
-/// The immediates without the results.
-fn keys_of<'a>(
-    alloc: Global,
-    context: &'a Context,
-    aggs: &[Agg],
-    imms: &'a [Immediate],
-) -> Result<Vec<Key<'a>>, OutOfMemory>
-    requires { All (λ i. i.attribute.0 < length context.now.attributes) imms.now }
-    ensures { IfOk result (λ keys. map key_entry keys.items
-        ≡ filter (λ e. not (is_result_of aggs.now e)) (map (entry_of context.now) imms.now)) }
-{
-    let mut keys = Vec::new(alloc);
-    for imm in imms {
-        let key = Key {
-            attr: context.attribute_at(imm.attribute),
-            value: &imm.value,
+    let mut numbers = Vec::with_capacity(alloc, count)?;
+    for place in 0..count {
+        let Ok(number) = u32::try_from(place) else {
+            return Err(OutOfMemory);
         };
-        if !is_result(aggs, &key) {
-            keys.push(key)?;
-        }
+        numbers.push(number)?;
     }
-    Ok(keys)
+    Ok(numbers)
 }
 
-fn is_result(aggs: &[Agg], key: &Key) -> bool
-    ensures { result ≡ is_result_of aggs.now (key_entry key.now) }
+/// The likely places of the first two nodes of a group.
+fn likely_key_of(room: &Context, spots: &[Spot], rows: &GroupedRows, number: u32) -> (u32, u32)
+    ensures { result ≡ key_by room.now spots.now (key_at rows.now number).paths }
 {
-    aggs.iter()
-        .any(|agg| agg.name.as_str() == key.attr.name.as_str())
+    likely_key(room, spots, rows.nodes(number as usize))
 }
 
-fn compare(context: &Context, one: &Ranked, other: &Ranked) -> Ordering
-    ensures { result ≡ ranked_cmp context.now one.now other.now }
+fn compare(room: &Context, rows: &GroupedRows, keys: &[GroupKeys], one: u32, other: u32) -> Ordering
+    ensures { result ≡ numbers_cmp room.now rows.now keys.now one other }
 {
-    match compare_paths(context, &one.row.nodes, &other.row.nodes) {
-        Ordering::Equal => compare_keys(&one.keys, &other.keys),
+    match compare_paths(room, rows.nodes(one as usize), rows.nodes(other as usize)) {
+        Ordering::Equal => {
+            compare_keys(keys_at(keys, one as usize), keys_at(keys, other as usize))
+        }
         order => order,
     }
 }

@@ -12,7 +12,7 @@ loop-place-preserved c = λ t aggs lists zip kept.
     results_next t aggs c.args.results.now lists c.loop-place.place _ c.args.own.now c.args.all.now c.args.below.now _ _ _
     c.args.imms.now.items c.loop-place.imms.items c.push_some.new.items.items c.result_at-found.result
     zip kept (omega arith) (read_same c.args.results.now c.loop-place.place _ _ (omega arith))
-    c.get.ensures c.get-in-loop-place.ensures c.get-in-loop-place-2.ensures
+    c.part_at-own_part.ensures c.part_at-all_part.ensures c.part_at-below_part.ensures
     (c.loop-place.invariant t aggs lists zip kept) c.in_ok-push_some.ensures (λ agg. c.result_at-found.ensures t agg lists)
 
 pub returns : goal.returns

@@ -5,8 +5,8 @@ use Rattle.cal_engine.proofs.snapshot_rows.made_rows.Goals as goal
 
 pub returns-then-is_aggregated-clause-rows : goal.returns-then-is_aggregated-clause-rows
 returns-then-is_aggregated-clause-rows c = λ ks h.
-    rows_held c.args.context.now c.args.query.now ks (map (meaning c.rows.new.context) c.in_ok-made.made.items) c.args.groups c.args.kept.items
-    (sym c.is_aggregated.ensures ∙ c.if-is_aggregated.true) (c.in_ok-made.ensures.rows ks) h
+    rows_held c.args.context.now c.args.query.now ks (map (meaning c.new.new.context) c.in_ok-rows.rows.items) c.args.groups c.args.kept.items
+    (sym c.is_aggregated.ensures ∙ c.if-is_aggregated.true) (λ groups. c.in_ok-rows.ensures c.args.query.now.aggs _ (c.in_ok-made.ensures.rows ks groups)) h
 
 pub returns-clause-rows : goal.returns-clause-rows
 returns-clause-rows c = λ ks h.

@@ -1,7 +1,8 @@
-use Rattle.std.proofs.Common.{◌≡◌, [], sym, ap, ◌∙◌}
+use Rattle.std.proofs.Common.{◌≡◌, [], sym, subst, ◌∙◌}
 use Rattle.std.specs.Prelude.{option_copied}
 use Rattle.cal_context.proofs.CallerLemmas.{Grows-trans}
 use Rattle.cal_engine.specs.Answers.{answer_of}
+use Rattle.cal_engine.specs.Making.{MakesRows}
 use Rattle.cal_engine.specs.Standing.{HasFolded}
 use Rattle.cal_ql.specs.declared.query.Query.{Query}
 use Rattle.cal_records.specs.Told.{told}
@@ -25,7 +26,7 @@ returns-then-not-same_query-clause-grows c =
 pub returns-in_err-rows-clause-grows : goal.returns-in_err-rows-clause-grows
 returns-in_err-rows-clause-grows c =
     Grows-trans _ _ _ (Grows-trans _ _ _ c.in_ok-fold.ensures.grows c.take_snapshots.ensures.grows)
-    c.rows.ensures.grows
+    c.grouped_rows-rows.ensures.grows
 
 pub returns-clause-grows : goal.returns-clause-grows
 returns-clause-grows c =
@@ -40,5 +41,5 @@ returns-clause-rows c =
     sym c.query.ensures ∙ c.same_query.ensures c.if-not-same_query.false in
     let folded : HasFolded fold c.take_snapshots.new.context taken =
     c.in_ok-refused.ensures.taken [] c.in_ok-fold.ensures.none in
-    c.in_ok-rows.ensures.rows taken folded
-    ∙ ap (λ (q : Query). (answer_of q taken).rows.rows) same
+    subst (λ (q : Query). MakesRows c.grouped_rows-rows.new.context q.aggs c.in_ok-rows.rows
+    (answer_of q taken).rows.rows) same (c.in_ok-rows.ensures.rows taken folded)

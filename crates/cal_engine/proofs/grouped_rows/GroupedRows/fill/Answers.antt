@@ -1,0 +1,25 @@
+use Rattle.std.proofs.Common.{◌++◌, map, ap, ◌∙◌}
+use Rattle.cal_engine.specs.Finishing.{entries_of_results, lists_at}
+use Rattle.cal_engine.specs.Keys.{key_in}
+use Rattle.cal_engine.specs.Making.{below_in, room_in}
+use Rattle.cal_engine.proofs.GroupRows.{mapped_at}
+use Rattle.cal_engine.proofs.Making.{kept_there, row_there}
+use Rattle.cal_engine.proofs.grouped_rows.GroupedRows.fill.Goals as goal
+
+pub returns-clause-row : goal.returns-clause-row
+returns-clause-row c = λ aggs rows h.
+    let t = c.args.context.now in
+    let g = c.args.self.now in
+    let n = c.args.number in
+    let keys = g.groups.keys in
+    let f = key_in (room_in t g) in
+    let key = c.in-Some.key.now in
+    let there = mapped_at f keys n key c.in-Some.ensures.within c.in-Some.ensures.is in
+    let kept = kept_there aggs h.lists (map f keys) g.groups.parts g.others.all (below_in g) n (f key) h.parts there.0 there.1 in
+    let own = c.in_ok-fill_key.ensures h.moved in
+    let added = c.in_ok-add_results.ensures t aggs (lists_at h.lists (f key)) h.results kept in
+    (λ i. record {
+      paths = ap (λ r. r.paths) own i;
+      imms = (added ∙ ap (λ r. r.imms ++ entries_of_results aggs (lists_at h.lists (f key))) own) i;
+    })
+    ∙ row_there aggs h.lists (map f keys) rows n (f key) h.are there.0 there.1

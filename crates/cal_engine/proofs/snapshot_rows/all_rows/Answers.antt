@@ -1,0 +1,22 @@
+use Rattle.std.proofs.Common.{◌<◌, [], ◌∷◌, ◌++◌, length, map, take, sym, ap, ◌∙◌, arith}
+use Rattle.std.proofs.lemmas.List.{map-append, take_all, take_more}
+use Rattle.cal_context.specs.Snapshots.{meaning}
+use Rattle.cal_engine.proofs.Making.{made-counted}
+use Rattle.cal_engine.proofs.snapshot_rows.all_rows.Goals as goal
+
+pub loop-number-preserved : goal.loop-number-preserved
+loop-number-preserved c = λ aggs rows h.
+    let t = c.args.context.now in
+    let n = c.loop-number.number in
+    let row = c.fill.new.row in
+    let counted = made-counted t aggs c.args.made.now rows h in
+    let within : n < length rows = omega (arith, counted) in
+    ap (map (meaning t)) c.in_ok-push.ensures.items
+    ∙ map-append (meaning t) c.loop-number.all.items (row ∷ [])
+    ∙ (λ i. c.loop-number.invariant aggs rows h i ++ c.in_ok-fill.ensures.row aggs rows h i ∷ [])
+    ∙ sym (take_more rows n _ within)
+
+pub returns : goal.returns
+returns c = λ aggs rows h.
+    let counted = made-counted c.args.context.now aggs c.args.made.now rows h in
+    c.loop-number.invariant aggs rows h ∙ take_all c.loop-number.number rows (omega (arith, counted))

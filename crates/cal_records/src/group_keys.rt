@@ -1,0 +1,118 @@
+ghost use Rattle.std.specs.Prelude.{◌≡◌, ℕ, ◌<◌, ◌∷◌, ◌++◌, [], IsTrue, filter, map, not, IfOk, OnOk};
+ghost use Rattle.cal_context.specs.Children.{CanLink};
+ghost use Rattle.cal_context.specs.Tree.{path_at};
+ghost use Rattle.cal_engine.specs.Making.{group_count, key_at};
+ghost use Rattle.cal_records.specs.Forks.{entry_by};
+ghost use Rattle.cal_records.specs.Groups.{is_result as is_result_of};
+ghost use Rattle.cal_records.specs.Ranks.{entries_at, key_entries, key_entry};
+
+use crate::sorting::Key;
+use cal_context::{Context, Link, NodeNumber};
+use cal_engine::GroupedRows;
+use cal_ql::Agg;
+use cal_value::OutOfMemory;
+use std::alloc::Global;
+
+/// The immediates of a group, without those that have the name of a result.
+#[derive(Drop)]
+pub(crate) struct GroupKeys<'a> {
+    entries: Vec<Key<'a>>,
+}
+
+/// The immediates of each group, by its number. Where no group has any there is no list, so that it
+/// takes no memory.
+pub(crate) fn group_keys<'a>(
+    alloc: Global,
+    room: &'a Context,
+    aggs: &[Agg],
+    rows: &GroupedRows,
+) -> Result<Vec<GroupKeys<'a>>, OutOfMemory>
+    ensures { IfOk result (λ keys. (n : ℕ) → n < group_count rows.now
+        → entries_at keys.items n ≡ key_entries room.now aggs.now (key_at rows.now n)) }
+{
+    room.has_each_once();
+    if have_no_immediates(rows) {
+        return Ok(Vec::new(alloc));
+    }
+    let mut keys = Vec::with_capacity(alloc, rows.count())?;
+    for number in 0..rows.count() {
+        let entries = keys_of(alloc, room, aggs, rows.immediates(number))?;
+        keys.push(GroupKeys { entries })?;
+    }
+    Ok(keys)
+}
+
+/// Whether no group has an immediate.
+fn have_no_immediates(rows: &GroupedRows) -> bool
+    ensures { IsTrue result → (n : ℕ) → n < group_count rows.now → (key_at rows.now n).imms.0 ≡ 0 }
+{
+    for number in 0..rows.count() {
+        if rows.immediates(number).0 != 0 {
+            return false;
+        }
+    }
+    true
+}
+
+/// The entries of a node's path, without those that have the name of a result. A node that isn't
+/// one of the context is answered as want of memory is.
+fn keys_of<'a>(
+    alloc: Global,
+    room: &'a Context,
+    aggs: &[Agg],
+    node: NodeNumber,
+) -> Result<Vec<Key<'a>>, OutOfMemory>
+    ensures { IfOk result (λ keys. map key_entry keys.items
+        ≡ filter (λ e. not (is_result_of aggs.now e)) (path_at room.now node)) }
+{
+    if node.0 as usize >= room.node_count() {
+        return Err(OutOfMemory);
+    }
+    let mut keys = Vec::new(alloc);
+    let mut node = node;
+    while let Some(link) = room.link(node) {
+        push_unless(aggs, &mut keys, key_of(room, link))?;
+        node = link.parent;
+    }
+    keys.reverse();
+    Ok(keys)
+}
+
+/// The entry of a link.
+fn key_of(room: &Context, link: Link) -> Key<'_>
+    requires { CanLink room.now link }
+    ensures { key_entry result ≡ entry_by room.now link }
+{
+    Key {
+        attr: room.attribute_at(link.attribute),
+        value: room.value_at(link.value),
+    }
+}
+
+/// Adds an entry, unless it has the name of a result.
+fn push_unless<'a>(aggs: &[Agg], keys: &mut Vec<Key<'a>>, key: Key<'a>) -> Result<(), OutOfMemory>
+    ensures { OnOk result (map key_entry keys.new.items ≡ map key_entry keys.old.items
+        ++ filter (λ e. not (is_result_of aggs.now e)) (key_entry key.entry ∷ [])) }
+{
+    if !is_result(aggs, &key) {
+        keys.push(key)?;
+    }
+    Ok(())
+}
+
+fn is_result(aggs: &[Agg], key: &Key) -> bool
+    ensures { result ≡ is_result_of aggs.now (key_entry key.now) }
+{
+    aggs.iter()
+        .any(|agg| agg.name.as_str() == key.attr.name.as_str())
+}
+
+/// The immediates of the group of a number.
+pub(crate) fn keys_at<'k, 'a>(keys: &'k [GroupKeys<'a>], number: usize) -> &'k [Key<'a>]
+    ensures { map key_entry result.now ≡ entries_at keys.now number }
+{
+    match keys.get(number) {
+        Some(keys) => keys.entries.as_slice(),
+        None => &[],
+    }
+}
