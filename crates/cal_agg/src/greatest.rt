@@ -1,5 +1,7 @@
+ghost use Rattle.std.specs.Prelude.{◌≡◌};
 ghost use Rattle.std.specs.Int.{int_max};
-ghost use Rattle.cal_agg.specs.Numbers.{IsSmall};
+ghost use Rattle.std.specs.Option.{ForSome};
+ghost use Rattle.cal_agg.specs.Numbers.{IsSmall, IsWithin};
 ghost use Rattle.cal_agg.specs.Parts.{IsAny, merged_by, greatest_over};
 ghost use Rattle.cal_agg.specs.Results.{greatest_of};
 ghost use Rattle.cal_agg.specs.Joins.{greatest_joins, merged_assoc, merged_comm};
@@ -29,6 +31,16 @@ impl Model for Greatest {
     ghost invariant = { λ s. ForSome s.whole (IsWithin 86) };
 
     ghost inverse = { λ parts. record { whole = parts.whole; fixed = parts.fixed } };
+}
+
+impl Greatest {
+    /// The greatest of whole numbers, and that of fixed ones.
+    pub fn of_parts(whole: Option<i128>, fixed: Option<i128>) -> Greatest
+        requires { ForSome whole (IsWithin 86) }
+        ensures { result ≡ record { whole = whole; fixed = fixed } }
+    {
+        Greatest { whole, fixed }
+    }
 }
 
 impl Kernel for Greatest {

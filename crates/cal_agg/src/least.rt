@@ -1,5 +1,7 @@
+ghost use Rattle.std.specs.Prelude.{◌≡◌};
 ghost use Rattle.std.specs.Int.{int_min};
-ghost use Rattle.cal_agg.specs.Numbers.{IsSmall};
+ghost use Rattle.std.specs.Option.{ForSome};
+ghost use Rattle.cal_agg.specs.Numbers.{IsSmall, IsWithin};
 ghost use Rattle.cal_agg.specs.Parts.{IsAny, merged_by, least_over};
 ghost use Rattle.cal_agg.specs.Results.{least_of};
 ghost use Rattle.cal_agg.specs.Joins.{least_joins, merged_assoc, merged_comm};
@@ -29,6 +31,16 @@ impl Model for Least {
     ghost invariant = { λ s. ForSome s.whole (IsWithin 86) };
 
     ghost inverse = { λ parts. record { whole = parts.whole; fixed = parts.fixed } };
+}
+
+impl Least {
+    /// The least of whole numbers, and that of fixed ones.
+    pub fn of_parts(whole: Option<i128>, fixed: Option<i128>) -> Least
+        requires { ForSome whole (IsWithin 86) }
+        ensures { result ≡ record { whole = whole; fixed = fixed } }
+    {
+        Least { whole, fixed }
+    }
 }
 
 impl Kernel for Least {

@@ -1,4 +1,4 @@
-ghost use Rattle.std.specs.Prelude.{◌+ℤ◌};
+ghost use Rattle.std.specs.Prelude.{◌≡◌, ◌+ℤ◌};
 ghost use Rattle.cal_agg.specs.Numbers.{IsSmall};
 ghost use Rattle.cal_agg.specs.Parts.{AreWithin, merged_by, sum_over};
 ghost use Rattle.cal_agg.specs.Results.{sum_of};
@@ -28,6 +28,16 @@ impl Model for Sum {
     ghost invariant = { λ s. AreWithin 126 (record { whole = s.whole; fixed = s.fixed }) };
 
     ghost inverse = { λ parts. record { whole = parts.whole; fixed = parts.fixed } };
+}
+
+impl Sum {
+    /// The sum of whole numbers, and that of fixed ones.
+    pub fn of_parts(whole: Option<i128>, fixed: Option<i128>) -> Sum
+        requires { AreWithin 126 (record { whole = whole; fixed = fixed }) }
+        ensures { result ≡ record { whole = whole; fixed = fixed } }
+    {
+        Sum { whole, fixed }
+    }
 }
 
 impl Kernel for Sum {

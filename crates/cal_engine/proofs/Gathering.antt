@@ -1,9 +1,9 @@
 -- One more record in a fold of groups.
-use Rattle.std.proofs.Common.{◌≡◌, ℕ, zero, suc, ◌<◌, Bool, true, false, ◌||◌, List, [], ◌∷◌, ◌++◌, inl, inr, length, filter, map, slice_get, Some, refl, sym, ap, subst, ◌∙◌, arith, true≢false, Contains}
-use Rattle.std.specs.Prelude.{slice_set, slice_index_or}
+use Rattle.std.proofs.Common.{◌≡◌, ℕ, zero, suc, ◌<◌, Bool, true, false, ◌||◌, List, [], ◌∷◌, ◌++◌, inl, inr, length, filter, map, slice_get, Some, refl, sym, ap, subst, ◌∙◌, arith, true≢false, Contains, Result, Ok, Err}
+use Rattle.std.specs.Prelude.{slice_set, slice_index_or, max, ◌+◌, OnOk, is_err}
 use Rattle.std.specs.Cmp.{IsEquivalence}
 use Rattle.std.specs.List.{list_any}
-use Rattle.std.proofs.lemmas.List.{length-map, map-append}
+use Rattle.std.proofs.lemmas.List.{length-append, length-map, map-append}
 use Rattle.std.proofs.lemmas.Map.Views.{Contains-from_any}
 use Rattle.std.proofs.lemmas.List.Elements.{filter-append}
 use Rattle.cal_value.specs.ExactOrder.{exact_equiv, exact_tells}
@@ -177,6 +177,20 @@ put_long {A} old x new n parts now fresh h long is = by (placed old x new n h)
         length-push : (xs : List A) (y : A) → length (xs ++ y ∷ []) ≡ suc (length xs)
         length-push [] y = refl
         length-push (z ∷ zs) y = ap suc (length-push zs y)
+
+-- the same of as many places as one more may need
+pub place_long : {A : Type 0} (old : List A) (x : A) (new : List A) (n : ℕ) (parts now : List (List Gathered))
+    → Interns old x new n → length parts ≡ length old → length now ≡ max (length parts) (n + 1) → length now ≡ length new
+place_long {A} old x new n parts now h long is = by (placed old x new n h)
+  where
+    by : IsPlaced old x new n → length now ≡ length new
+    by (inl p) = let kept = ap length p.1 in omega (arith, is, long, p.0, kept)
+    by (inr p) = let more = ap length p.1 ∙ length-append old (x ∷ []) in omega (arith, is, long, p.0, more)
+
+-- what holds where a call succeeds
+pub when_ok : {T E : Type 0} (P : Type 0) (r : Result T E) → is_err r ≡ false → OnOk r P → P
+when_ok P (Ok v) e h = h
+when_ok P (Err x) e h = absurd (true≢false e)
 
 -- what `put` and `gather` rest on
 pub ruleset of_putting = (put_parts_set, put_parts_end)

@@ -2,6 +2,7 @@ pub mod Firsts
 pub mod Places
 pub mod Rooms
 pub mod Merging
+pub mod Adding
 pub mod Partitions
 pub mod Sorts
 pub mod Gathering

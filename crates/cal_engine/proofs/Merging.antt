@@ -1,6 +1,6 @@
 -- What is kept of records is merged from what is kept of the parts of their list, in any order.
-use Rattle.std.proofs.Common.{◌≡◌, List, [], ◌∷◌, ◌++◌, length, refl, sym, ap, ◌∙◌, add_comm}
-use Rattle.std.proofs.lemmas.List.{length-append}
+use Rattle.std.proofs.Common.{◌≡◌, ℕ, ◌+◌, ◌<◌, List, [], ◌∷◌, ◌++◌, length, get_or, take, refl, sym, ap, ◌∙◌, add_comm}
+use Rattle.std.proofs.lemmas.List.{length-append, take_more}
 use Rattle.std.proofs.lemmas.Grind.{flat_map-append}
 use Rattle.cal_agg.specs.declared.num.Num.{Num}
 use Rattle.cal_agg.specs.Parts.{greatest_over, least_over, sum_over}
@@ -11,7 +11,7 @@ use Rattle.cal_ql.specs.declared.query.Agg.{Agg}
 use Rattle.cal_value.specs.declared.record.Rec.{Rec}
 use Rattle.cal_engine.specs.declared.part.Held.TheVariants as held
 use Rattle.cal_engine.specs.Kernels.{contributions, contributed}
-use Rattle.cal_engine.specs.Parts.{held_over, merged_held, merged_part, merged_parts, part_over, parts_over}
+use Rattle.cal_engine.specs.Parts.{Gathered, held_over, merged_held, merged_part, merged_parts, part_over, parts_over}
 
 held_over-append : (k : kernels.KernelName) (ns ms : List Num) → held_over k (ns ++ ms) ≡ merged_held (held_over k ns) (held_over k ms)
 held_over-append kernel.Min ns ms = ap held.Least (parts_by-append least_joins ns ms)
@@ -25,6 +25,15 @@ held_over-append kernel.Percent ns ms = ap held.Sum (parts_by-append sum_joins n
 -- adding a concatenation is merging
 pub part_over-append : (k : kernels.KernelName) (ns ms : List Num) → part_over k (ns ++ ms) ≡ merged_part (part_over k ns) (part_over k ms)
 part_over-append k ns ms = λ i. record { many = length-append ns ms i; held = held_over-append k ns ms i }
+
+-- one number of a list more
+pub part_over-more : (k : kernels.KernelName) (ns : List Num) (i : ℕ) (n : Num) (before after : Gathered) → i < length ns
+    → after ≡ merged_part before (part_over k (get_or ns i n ∷ [])) → before ≡ part_over k (take i ns) → after ≡ part_over k (take (i + 1) ns)
+part_over-more k ns i n before after short adds is =
+    adds
+    ∙ ap (λ p. merged_part p (part_over k (get_or ns i n ∷ []))) is
+    ∙ sym (part_over-append k (take i ns) (get_or ns i n ∷ []))
+    ∙ ap (part_over k) (sym (take_more ns i n short))
 
 pub contributed-append : (agg : Agg) (rs ss : List Rec) → contributed agg (rs ++ ss) ≡ contributed agg rs ++ contributed agg ss
 contributed-append agg rs ss = flat_map-append (contributions agg.kernel agg.attr) rs ss

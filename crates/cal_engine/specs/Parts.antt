@@ -1,9 +1,11 @@
 -- What is kept of the numbers that contributed to a kernel, so that groups can be added up.
-use Rattle.std.specs.Prelude.{ℕ, ◌+◌, ◌*◌, ◌^◌, ◌≤◌, ◌+ℤ◌, unsigned_abs, List, [], ◌∷◌}
+use Rattle.std.specs.Prelude.{ℕ, ◌+◌, ◌*◌, ◌^◌, ◌≤◌, ℤ, ◌+ℤ◌, unsigned_abs, Bool, true, false}
+use Rattle.std.specs.Prelude.{List, [], ◌∷◌}
 use Rattle.std.specs.Prelude.{length, map, slice_get, drop, Option, None, Some, ⊤}
 use Rattle.std.specs.Int.{int_min, int_max}
 use Rattle.std.specs.Option.{ForSome}
 use Rattle.cal_agg.specs.Parts as gathered
+use Rattle.cal_agg.specs.Numbers.{IsWithin}
 use Rattle.cal_agg.specs.declared.num.Num.{Num}
 use Rattle.cal_ql.specs.declared.names.KernelName as kernels
 use Rattle.cal_ql.specs.declared.names.KernelName.TheVariants as kernel
@@ -11,6 +13,8 @@ use Rattle.cal_ql.specs.declared.query.Agg.{Agg}
 use Rattle.cal_value.specs.declared.record.Rec.{Rec}
 use Rattle.cal_engine.specs.declared.part.Held as holds
 use Rattle.cal_engine.specs.declared.part.Held.TheVariants as held
+use Rattle.cal_engine.specs.declared.part.Way as ways
+use Rattle.cal_engine.specs.declared.part.Way.TheVariants as way
 use Rattle.cal_engine.specs.Kernels.{contributed}
 
 -- how many numbers contributed, and what is held of them
@@ -23,6 +27,40 @@ abbrev pub held_over : kernels.KernelName → List Num → holds.Held
 held_over kernel.Min ns = held.Least (gathered.least_over ns)
 held_over kernel.Max ns = held.Greatest (gathered.greatest_over ns)
 held_over _ ns = held.Sum (gathered.sum_over ns)
+
+-- how a kernel takes numbers together
+abbrev pub way_of : kernels.KernelName → ways.Way
+way_of kernel.Min = way.Least
+way_of kernel.Max = way.Greatest
+way_of _ = way.Sum
+
+-- two numbers taken together
+abbrev pub joined_by : ways.Way → ℤ → ℤ → ℤ
+joined_by way.Sum = ◌+ℤ◌
+joined_by way.Least = int_min
+joined_by way.Greatest = int_max
+
+-- a number that is there, or isn't
+abbrev pub given : Bool → ℤ → Option ℤ
+given true n = Some n
+given false n = None
+
+-- what is held where numbers are taken together so
+abbrev pub held_by : ways.Way → gathered.Parts → holds.Held
+held_by way.Sum parts = held.Sum parts
+held_by way.Least parts = held.Least parts
+held_by way.Greatest parts = held.Greatest parts
+
+-- how numbers are taken together in what is held, and what they came to
+abbrev pub way_in : holds.Held → ways.Way
+way_in (held.Sum parts) = way.Sum
+way_in (held.Least parts) = way.Least
+way_in (held.Greatest parts) = way.Greatest
+
+abbrev pub parts_in : holds.Held → gathered.Parts
+parts_in (held.Sum parts) = parts
+parts_in (held.Least parts) = parts
+parts_in (held.Greatest parts) = parts
 
 abbrev pub part_over : kernels.KernelName → List Num → Gathered
 part_over k ns = record { many = length ns; held = held_over k ns }
@@ -61,13 +99,14 @@ pub record AreBelow (many : ℕ) (parts : gathered.Parts) : Type 0 where
   pub whole : ForSome parts.whole (λ z. unsigned_abs z ≤ many * 2 ^ 86)
   pub fixed : ForSome parts.fixed (λ z. unsigned_abs z ≤ many * 2 ^ 86)
 
+-- The whole numbers of which an end is held are at most 2^86 in magnitude.
 abbrev pub HasRoom : ℕ → holds.Held → Type 0
 HasRoom many (held.Sum sum) = AreBelow many sum
-HasRoom many (held.Least end) = ⊤
-HasRoom many (held.Greatest end) = ⊤
+HasRoom many (held.Least end) = ForSome end.whole (IsWithin 86)
+HasRoom many (held.Greatest end) = ForSome end.whole (IsWithin 86)
 
--- a sum is within the limits of its kernel
-abbrev pub IsHeld : holds.Held → Type 0
-IsHeld (held.Sum sum) = gathered.AreWithin 126 sum
-IsHeld (held.Least end) = ⊤
-IsHeld (held.Greatest end) = ⊤
+-- a number that numbers come to is within the limits of the kernel
+abbrev pub IsWithinWay : ways.Way → Option ℤ → Type 0
+IsWithinWay way.Sum n = ForSome n (IsWithin 126)
+IsWithinWay way.Least n = ⊤
+IsWithinWay way.Greatest n = ⊤

@@ -1,5 +1,6 @@
 ghost use Rattle.std.specs.Prelude.{◌≡◌, [], ◌∷◌, List, codes, map, option_and_then, IfOk, OnOk};
 ghost use Rattle.std.specs.List.{All, AllZip, filter_map};
+ghost use Rattle.std.specs.Option.{option_to_list};
 ghost use Rattle.cal_context.specs.Snapshots.{IsIn, meaning};
 ghost use Rattle.cal_context.specs.Tree.{Tree};
 ghost use Rattle.cal_filter.specs.Known.{Knows, KnowsAll, sought};
@@ -9,11 +10,12 @@ ghost use Rattle.cal_value.specs.Flat.{flat};
 ghost use Rattle.cal_engine.specs.Counters.{CounterCatchesUp, IsCounter, IsReadyCounter};
 ghost use Rattle.cal_engine.specs.Counters.{sought_for};
 ghost use Rattle.cal_engine.specs.Kernels.{number_sought as sought_in, weight as weight_of};
+ghost use Rattle.cal_engine.specs.Parts.{merged_part, merged_parts, part_over};
 ghost use Rattle.cal_engine.specs.Readings.{part_of as part_by, parts_of as parts_by};
 ghost use Rattle.cal_engine.specs.declared.reading.Reading.{Reading as AReading};
 
 use crate::part::Part;
-use crate::reading::{Reading, number_sought, push_some};
+use crate::reading::{Reading, number_sought};
 use cal_agg::Num;
 use cal_context::{Context, Snapshot};
 use cal_filter::{Seeker, catch_up_all};
@@ -47,25 +49,22 @@ impl Counter {
         catch_up_all(&mut self.seekers, context)
     }
 
-    /// What is kept of one record. `numbers` is room to work in.
-    fn part_of(
+    /// Adds what is read of one record to a part.
+    fn add_to(
         &self,
         context: &Context,
         snapshot: &Snapshot,
-        numbers: &mut Vec<Num>,
-    ) -> Result<Part, OutOfMemory>
+        part: &mut Part,
+    ) -> Result<(), OutOfMemory>
         requires { IsIn context.now snapshot.now }
-        ensures { IfOk result (λ part. (r : AReading) → IsReadyCounter context.now r self.now
-            → part ≡ part_by r (meaning context.now snapshot.now)) }
+        ensures { OnOk result ((r : AReading) → IsReadyCounter context.now r self.now
+            → part.new ≡ merged_part part.old (part_by r (meaning context.now snapshot.now))) }
     {
         match self.kernel {
             KernelName::Count => {
-                Part::of(self.kernel, &[weight(&self.seekers, context, snapshot)])
+                part.add(self.kernel, &weight(&self.seekers, context, snapshot))
             }
-            _ => {
-                fill_numbers(&self.seekers, context, snapshot, numbers)?;
-                Part::of(self.kernel, numbers)
-            }
+            _ => add_numbers(self.kernel, &self.seekers, context, snapshot, part),
         }
     }
 }
@@ -120,23 +119,34 @@ fn weight(seekers: &[Seeker], context: &Context, snapshot: &Snapshot) -> Num
     }
 }
 
-/// The numbers that seekers find, in place of those that are there.
-fn fill_numbers(
+/// Adds the numbers that seekers find to the part of a kernel.
+fn add_numbers(
+    kernel: KernelName,
     seekers: &[Seeker],
     context: &Context,
     snapshot: &Snapshot,
-    numbers: &mut Vec<Num>,
+    part: &mut Part,
 ) -> Result<(), OutOfMemory>
     requires { IsIn context.now snapshot.now }
-    ensures { OnOk result (All (KnowsAll context.now) seekers.now → numbers.new.items
-        ≡ filter_map (λ s. number_found_by (sought s) (flat (meaning context.now snapshot.now)))
-        seekers.now) }
+    ensures { OnOk result (All (KnowsAll context.now) seekers.now
+        → part.new ≡ merged_part part.old (part_over kernel (filter_map
+        (λ s. number_found_by (sought s) (flat (meaning context.now snapshot.now))) seekers.now))) }
 {
-    numbers.clear();
     for seeker in seekers {
-        push_some(numbers, number_found(false, seeker, context, snapshot))?;
+        add_some(kernel, number_found(false, seeker, context, snapshot), part)?;
     }
     Ok(())
+}
+
+/// Adds a number to the part of a kernel, if there is one.
+fn add_some(kernel: KernelName, number: Option<Num>, part: &mut Part) -> Result<(), OutOfMemory>
+    ensures { OnOk result
+        (part.new ≡ merged_part part.old (part_over kernel (option_to_list number))) }
+{
+    match number {
+        Some(number) => part.add(kernel, &number),
+        None => Ok(()),
+    }
 }
 
 fn number_found(whole: bool, seeker: &Seeker, context: &Context, snapshot: &Snapshot) -> Option<Num>
@@ -170,22 +180,37 @@ pub(crate) fn know_all(counters: &mut [Counter], context: &Context) -> Result<()
     Ok(())
 }
 
-/// The parts of one record, in place of those that are there. `numbers` is room to work in.
-pub(crate) fn fill_parts(
+/// Adds what is read of one record to the parts of a group, place by place. As many parts as there
+/// are counters belong to a group; others are answered as want of memory is.
+pub(crate) fn add_record(
     counters: &[Counter],
     context: &Context,
     snapshot: &Snapshot,
-    numbers: &mut Vec<Num>,
     parts: &mut Vec<Part>,
 ) -> Result<(), OutOfMemory>
     requires { IsIn context.now snapshot.now }
     ensures { OnOk result ((rs : List AReading)
         → AllZip (IsReadyCounter context.now) rs counters.now
-        → parts.new.items ≡ parts_by rs (meaning context.now snapshot.now)) }
+        → parts.new.items
+        ≡ merged_parts parts.old.items (parts_by rs (meaning context.now snapshot.now))) }
 {
-    parts.clear();
-    for counter in counters {
-        parts.push(counter.part_of(context, snapshot, numbers)?)?;
+    if parts.len() != counters.len() {
+        return Err(OutOfMemory);
+    }
+    for (place, counter) in counters.iter().enumerate() {
+        counter.add_to(context, snapshot, &mut parts[place])?;
     }
     Ok(())
+}
+
+/// The parts of a group that has no record.
+pub(crate) fn no_parts_for(alloc: Global, counters: &[Counter]) -> Result<Vec<Part>, OutOfMemory>
+    ensures { IfOk result (λ parts.
+        parts.items ≡ map (λ counter. part_over counter.kernel []) counters.now) }
+{
+    let mut parts = Vec::with_capacity(alloc, counters.len())?;
+    for counter in counters {
+        parts.push(Part::none(counter.kernel))?;
+    }
+    Ok(parts)
 }

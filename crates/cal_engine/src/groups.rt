@@ -164,7 +164,7 @@ fn merge_all(parts: &mut Vec<Part>, fresh: &[Part]) -> Result<(), OutOfMemory>
         if place < parts.len() {
             parts[place].merge(part)?;
         } else {
-            parts.push(*part)?;
+            parts.push(part.twin())?;
         }
     }
     Ok(())
@@ -190,9 +190,9 @@ fn merged_part(part: Option<&Part>, fresh: &Part) -> Result<Part, OutOfMemory>
     ensures { IfOk result (λ merged. merged ≡ behind (option_copied part.entry) fresh.now) }
 {
     match part {
-        None => Ok(*fresh),
+        None => Ok(fresh.twin()),
         Some(part) => {
-            let mut merged = *part;
+            let mut merged = part.twin();
             merged.merge(fresh)?;
             Ok(merged)
         }

@@ -48,6 +48,14 @@ impl GroupKey {
         Some(first_of(self.paths.as_slice()))
     }
 
+    /// The node of its first path, or else that of its immediates.
+    pub(crate) fn first(&self) -> NodeNumber {
+        match self.paths.as_slice().first() {
+            Some(node) => *node,
+            None => self.imms,
+        }
+    }
+
     /// The room that its paths take.
     pub(crate) fn into_room(self) -> Vec<NodeNumber> {
         self.paths.into_vec()

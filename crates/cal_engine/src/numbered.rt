@@ -1,24 +1,33 @@
-ghost use Rattle.std.specs.Prelude.{◌≡◌, ◌≤◌, [], Some, length, slice_get, slice_index_or};
-ghost use Rattle.std.specs.Prelude.{IfOk, IsTrue, OnOk, OnErr};
+ghost use Rattle.std.specs.Prelude.{◌≡◌, ◌+◌, ◌≤◌, [], List, Some, length, max, slice_get};
+ghost use Rattle.std.specs.Prelude.{slice_index_or, IfOk, IsTrue, OnOk, OnErr};
+ghost use Rattle.std.specs.List.{AllZip};
 ghost use Rattle.cal_context.specs.Lists.{Interns};
+ghost use Rattle.cal_context.specs.Snapshots.{IsIn, meaning};
+ghost use Rattle.cal_engine.specs.Counters.{IsReadyCounter};
 ghost use Rattle.cal_engine.specs.Folding.{put_parts};
 ghost use Rattle.cal_engine.specs.Numbered.{GathersKey};
+ghost use Rattle.cal_engine.specs.Parts.{merged_parts};
+ghost use Rattle.cal_engine.specs.Readings.{parts_of as parts_by};
+ghost use Rattle.cal_engine.specs.declared.reading.Reading.{Reading as AReading};
 
-use crate::groups::merge_into;
+use crate::counter::{Counter, add_record, no_parts_for};
 use crate::key::GroupKey;
 use crate::part::Part;
-use cal_context::{Interner, NodeNumber};
+use cal_context::{Context, Interner, NodeNumber, Snapshot};
 use cal_value::{OutOfMemory, Seq, same};
 use std::alloc::Global;
 use std::marker::Model;
+use std::mem;
 
 /// Groups by numbers whose keys are numbers too, in first-seen order, and what is kept of each.
 #[derive(Drop)]
 pub(crate) struct NumberedGroups {
     keys: Interner<GroupKey>,
     parts: Vec<Seq<Part>>,
-    // the group that was last gathered, if any: the next record's is often the same
+    // the group that was last gathered, if any
     last: usize,
+    // of nodes that stand first in keys: the group that was last gathered there
+    hints: Vec<u32>,
 }
 
 impl Model for NumberedGroups {
@@ -41,6 +50,7 @@ impl NumberedGroups {
             keys: Interner::new(alloc),
             parts: Vec::new(alloc),
             last: 0,
+            hints: Vec::new(alloc),
         }
     }
 
@@ -52,21 +62,26 @@ impl NumberedGroups {
         }
     }
 
-    /// Puts what is kept of a record to its group, behind what is there. A key that is new is
-    /// copied.
+    /// Adds a record to its group. A key that is new is copied.
     #[tactic(auto, using(crate::proofs::Gathering::of_gathering))]
     pub fn gather(
         &mut self,
         alloc: Global,
         key: &GroupKey,
-        fresh: &[Part],
+        counters: &[Counter],
+        context: &Context,
+        snapshot: &Snapshot,
     ) -> Result<(), OutOfMemory>
-        ensures { OnOk result (GathersKey self.old key.now fresh.now self.new) }
+        requires { IsIn context.now snapshot.now }
+        ensures { OnOk result ((rs : List AReading)
+            → AllZip (IsReadyCounter context.now) rs counters.now → GathersKey self.old key.now
+            (parts_by rs (meaning context.now snapshot.now)) self.new) }
     {
         let count = self.keys.as_slice().len();
-        let number = intern_near(&mut self.keys, self.last, key)?;
+        let number = intern_near(&mut self.keys, hint_at(&self.hints, key.first()), key)?;
         self.last = number;
-        let put = put_into(alloc, &mut self.parts, number, fresh);
+        keep_hint(&mut self.hints, key.first(), number);
+        let put = put_record(alloc, counters, context, snapshot, &mut self.parts, number);
         if put.is_err() {
             self.keys.truncate(count);
         }
@@ -102,6 +117,28 @@ impl NumberedGroups {
     }
 }
 
+/// The group that was last gathered at a node, or any other.
+fn hint_at(hints: &[u32], node: NodeNumber) -> usize {
+    match hints.get(node.0 as usize) {
+        Some(number) => *number as usize,
+        None => 0,
+    }
+}
+
+/// Keeps the group of a node, where there is memory for it.
+fn keep_hint(hints: &mut Vec<u32>, node: NodeNumber, number: usize) {
+    let Ok(number) = u32::try_from(number) else {
+        return;
+    };
+    let place = node.0 as usize;
+    if place >= hints.len() && hints.resize(place + 1, 0).is_err() {
+        return;
+    }
+    if place < hints.len() {
+        hints[place] = number;
+    }
+}
+
 /// The number of a key, which is copied where it is new. It may be `last`, which saves a look-up
 /// then.
 fn intern_near(
@@ -129,22 +166,50 @@ fn has_at(keys: &[GroupKey], place: usize, key: &GroupKey) -> bool
     }
 }
 
-/// Merges parts into those of a number, or adds them at the end.
+/// Adds a record to the parts of a number, or to new ones at the end.
 #[tactic(auto, using(crate::proofs::Gathering::of_putting))]
-fn put_into(
+fn put_record(
     alloc: Global,
+    counters: &[Counter],
+    context: &Context,
+    snapshot: &Snapshot,
     parts: &mut Vec<Seq<Part>>,
     number: usize,
-    fresh: &[Part],
 ) -> Result<(), OutOfMemory>
-    requires { number ≤ length parts.old.items }
-    ensures ok { OnOk result (parts.new.items ≡ put_parts parts.old.items number fresh.now) }
+    requires within { IsIn context.now snapshot.now }
+    requires number { number ≤ length parts.old.items }
+    ensures ok { OnOk result ((rs : List AReading)
+        → AllZip (IsReadyCounter context.now) rs counters.now → parts.new.items
+        ≡ put_parts parts.old.items number (parts_by rs (meaning context.now snapshot.now))) }
+    ensures long { OnOk result
+        (length parts.new.items ≡ max (length parts.old.items) (number + 1)) }
     ensures err { OnErr result (length parts.new.items ≡ length parts.old.items) }
 {
     if number < parts.len() {
-        merge_into(alloc, &mut parts[number], fresh)?;
+        add_to_group(alloc, counters, context, snapshot, &mut parts[number])?;
     } else {
-        parts.push(Seq::from_vec(Vec::from_slice(alloc, fresh)?))?;
+        let mut fresh = no_parts_for(alloc, counters)?;
+        add_record(counters, context, snapshot, &mut fresh)?;
+        parts.push(Seq::from_vec(fresh))?;
     }
+    Ok(())
+}
+
+/// Adds a record to the parts of a group. What is left of them after an `Err` isn't promised.
+fn add_to_group(
+    alloc: Global,
+    counters: &[Counter],
+    context: &Context,
+    snapshot: &Snapshot,
+    parts: &mut Seq<Part>,
+) -> Result<(), OutOfMemory>
+    requires { IsIn context.now snapshot.now }
+    ensures { OnOk result ((rs : List AReading)
+        → AllZip (IsReadyCounter context.now) rs counters.now
+        → parts.new ≡ merged_parts parts.old (parts_by rs (meaning context.now snapshot.now))) }
+{
+    let mut held = mem::replace(parts, Seq::new(alloc)).into_vec();
+    add_record(counters, context, snapshot, &mut held)?;
+    *parts = Seq::from_vec(held);
     Ok(())
 }

@@ -8,14 +8,12 @@ ghost use Rattle.cal_engine.specs.Keys.{names_in};
 ghost use Rattle.cal_engine.specs.Sieves.{AreSieves};
 ghost use Rattle.cal_engine.specs.Tallies.{FindsKey, IsTally};
 
-use crate::counter::{Counter, counters_of, fill_parts, know_all};
+use crate::counter::{Counter, counters_of, know_all};
 use crate::key::{GroupKey, key_by_names, key_by_nodes};
 use crate::numbered::NumberedGroups;
-use crate::part::Part;
 use crate::reading::readings_of;
 use crate::sieve::Sieve;
 use crate::sieves::{know_nodes, sieves_for};
-use cal_agg::Num;
 use cal_context::{Context, NodeNumber, Snapshot};
 use cal_ql::Query;
 use cal_value::OutOfMemory;
@@ -32,8 +30,6 @@ pub(crate) struct Tally {
     groups: NumberedGroups,
     // room to work in
     nodes: Vec<NodeNumber>,
-    numbers: Vec<Num>,
-    parts: Vec<Part>,
 }
 
 impl Tally {
@@ -50,8 +46,6 @@ impl Tally {
             own: Context::new(alloc),
             groups: NumberedGroups::new(alloc),
             nodes: Vec::new(alloc),
-            numbers: Vec::new(alloc),
-            parts: Vec::new(alloc),
         })
     }
 
@@ -70,13 +64,6 @@ impl Tally {
     {
         context.has_each_once();
         know_all(&mut self.counters, context)?;
-        fill_parts(
-            &self.counters,
-            context,
-            snapshot,
-            &mut self.numbers,
-            &mut self.parts,
-        )?;
         let key = key_of(
             alloc,
             by_name,
@@ -88,7 +75,8 @@ impl Tally {
             mem::replace(&mut self.nodes, Vec::new(alloc)),
         )?;
         self.own.has_each_once();
-        self.groups.gather(alloc, &key, &self.parts)?;
+        self.groups
+            .gather(alloc, &key, &self.counters, context, snapshot)?;
         self.nodes = key.into_room();
         Ok(())
     }

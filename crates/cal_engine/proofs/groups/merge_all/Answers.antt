@@ -1,4 +1,4 @@
-use Rattle.std.proofs.Common.{length, ap, ◌∙◌, arith}
+use Rattle.std.proofs.Common.{◌++◌, [], ◌∷◌, length, ap, ◌∙◌, arith}
 use Rattle.cal_engine.proofs.InPlace.{merged_beyond, merged_there, merged_whole}
 use Rattle.cal_engine.proofs.groups.merge_all.Goals as goal
 use Rattle.cal_engine.proofs.groups.merge_all.Goals.{then-place-len+in_ok-merge, else-place-len+in_ok-push}
@@ -18,6 +18,7 @@ loop-place-preserved c =
       | else-place-len+in_ok-push w ↦
           ap (λ v. v.items) w.parts-is
           ∙ w.in_ok-push.ensures.items
+          ∙ ap (λ x. now ++ x ∷ []) w.twin.ensures
           ∙ merged_beyond old fresh now n part (omega arith) c.index-fresh-place.is c.loop-place.invariant
           (omega (arith, c.len.ensures, w.if-place-len.false))
     ]
