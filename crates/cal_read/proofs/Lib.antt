@@ -9,6 +9,7 @@ mod ColumnLemmas
 mod BuiltInLemmas
 mod StepLemmas
 mod SiteLemmas
+mod KnownValueLemmas
 mod ReadLemmas
 mod StreamLemmas
 mod RecordLemmas

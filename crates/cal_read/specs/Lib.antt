@@ -11,6 +11,7 @@ pub mod Shared
 pub mod InTurn
 pub mod Held
 pub mod Sites
+pub mod KnownValues
 pub mod Columns
 pub mod Standing
 pub mod Cuts

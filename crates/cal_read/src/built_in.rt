@@ -11,7 +11,6 @@ use crate::node_line::{Site, held_there};
 use crate::node_texts::NodeIds;
 use crate::nodes::{Held, Nodes};
 use crate::place::root;
-use crate::recent::Recent;
 use cal_context::Context;
 use cal_value::{Attribute, Kind, OutOfMemory, Props, Text, Variant};
 use std::alloc::Global;
@@ -130,15 +129,7 @@ fn held_kind(alloc: Global, kind: Kind, context: &mut Context) -> Result<Held, O
         attribute: BuiltIn::OfKinds.id(),
         parent: None,
     };
-    let mut recent = Recent::new(alloc);
-    held_there(
-        alloc,
-        &mut recent,
-        &ids,
-        &site,
-        &Variant::Kind(kind),
-        context,
-    )
+    held_there(alloc, &ids, &site, &Variant::Kind(kind), context)
 }
 
 /// What is held of the node of a built-in attribute.
@@ -161,6 +152,5 @@ fn held_built_in(
         parent: Some(attribute.kind().node()),
     };
     let name = Variant::Text(Text::from_str(alloc, attribute.name())?);
-    let mut recent = Recent::new(alloc);
-    held_there(alloc, &mut recent, &ids, &site, &name, context)
+    held_there(alloc, &ids, &site, &name, context)
 }

@@ -8,6 +8,7 @@ mod in_turn;
 mod keys;
 mod kind;
 mod known;
+mod known_value;
 mod lately;
 mod laws;
 mod line;

@@ -14,6 +14,7 @@ ghost use Rattle.cal_read.specs.Steps.{Answers, AnswersFor};
 use crate::StreamKind;
 use crate::built_in::BuiltIn;
 use crate::end::LineEnd;
+use crate::known_value::{known_value, put_known};
 use crate::node_texts::{NodeIds, ids_of, texts_of};
 use crate::nodes::{Held, Nodes, Place};
 use crate::place::{misfit, number_of, place_below, props_in, root};
@@ -64,11 +65,24 @@ pub(crate) fn add_node(
         → AnswersFor (λ _. AreHeld context.new nodes.new) result (with_ids named ids.now text.now) }
 {
     let site = site_of(nodes, ids, context)?;
+    match known_value(nodes, recent, ids, &site, text, context) {
+        Some(number) => return put_known(nodes, ids, &site, number, context),
+        None => {}
+    }
     let value = node_value(alloc, context, ids.attribute, site.attribute, text)?;
     if let Some(kind) = misfit(ids.attribute, &site.above) {
         return Err(LineEnd::Bad(kind));
     }
-    put_node(alloc, nodes, recent, ids, &site, &value, context)
+    let result = put_node(alloc, nodes, ids, &site, &value, context);
+    note_value(nodes, recent, ids.id, text, context);
+    result
+}
+
+/// Keeps the number of a node's value. Where memory runs out, it isn't kept.
+fn note_value(nodes: &Nodes, recent: &mut Recent, id: u64, text: &str, context: &Context) {
+    if let Some(node) = nodes.node(id) {
+        let _ = recent.note(context, node, text);
+    }
 }
 
 /// The attribute and the place above, of these ids.
@@ -124,7 +138,6 @@ fn node_value(
 fn put_node(
     alloc: Global,
     nodes: &mut Nodes,
-    recent: &mut Recent,
     ids: &NodeIds,
     site: &Site,
     value: &Variant,
@@ -149,7 +162,7 @@ fn put_node(
             }
         }
         None => {
-            let held = held_there(alloc, recent, ids, site, value, context)?;
+            let held = held_there(alloc, ids, site, value, context)?;
             nodes.insert(ids.id, held)?;
             Ok(())
         }
@@ -190,7 +203,6 @@ fn has_value(old: &Held, value: &Variant, context: &Context) -> bool
 /// What is held of a new node.
 pub(crate) fn held_there(
     alloc: Global,
-    recent: &mut Recent,
     ids: &NodeIds,
     site: &Site,
     value: &Variant,
@@ -203,7 +215,7 @@ pub(crate) fn held_there(
     ensures held { IfOk result (λ held. (n : Node)
         → IsToBe context.old ids.now site.now value.now n → IsHeld context.new held n) }
 {
-    let node = recent.child(context, site.above.node, site.attribute, value)?;
+    let node = context.child(site.above.node, site.attribute, value)?;
     let number = number_of(alloc, ids.attribute, value, &site.above, context)?;
     Ok(Held {
         place: place_below(&site.above, ids.attribute, value, node),
