@@ -127,6 +127,15 @@ impl GroupedRows {
         }
     }
 
+    /// About how many immediates a row has, so that one that is kept has no room to spare.
+    pub(crate) fn width(&self, number: usize) -> usize {
+        let results = self.results.len();
+        if self.immediates(number) == NodeNumber::ROOT {
+            return results;
+        }
+        results.saturating_add(1)
+    }
+
     /// Makes the row of a number, in place of the one that is there.
     pub fn fill(
         &self,

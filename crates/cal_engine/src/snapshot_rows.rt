@@ -77,7 +77,10 @@ fn all_rows(
 {
     let mut all = Vec::with_capacity(alloc, made.count())?;
     for number in 0..made.count() {
-        let mut row = Snapshot::new(alloc);
+        let mut row = Snapshot {
+            nodes: Vec::new(alloc),
+            imms: Vec::with_capacity(alloc, made.width(number))?,
+        };
         made.fill(context, number, &mut row)?;
         all.push(row)?;
     }
