@@ -19,7 +19,7 @@ use Rattle.cal_engine.specs.declared.grouped_rows.GroupedRows.{GroupedRows}
 use Rattle.cal_records.specs.Likely.{likely_key, node_place, place_in}
 use Rattle.cal_records.specs.Ranks.{group_at, numbers_cmp}
 use Rattle.cal_records.specs.declared.likely.Spot.{Spot}
-use Rattle.cal_records.specs.declared.group_keys.GroupKeys.{GroupKeys}
+use Rattle.cal_records.specs.declared.group_keys.AllKeys.{AllKeys}
 use Rattle.cal_value.specs.ExactOrder.{IsExactOrder, nat_exact}
 use Rattle.cal_value.specs.Order.{group_cmp}
 use Rattle.cal_value.specs.OrderLaws.{group_exact}
@@ -119,7 +119,7 @@ module _ (t : Tree) (context : IsContext t) (spots : List Spot) where
       ∙ ap (λ (paths : List (List Entry)). get_or paths i (path_at t root)) same
       ∙ get_or-map (path_at t) ms i root)
 
-  module _ (g : GroupedRows) (keys : List GroupKeys) where
+  module _ (g : GroupedRows) (keys : AllKeys) where
     abbrev pub key_of : ℕ → ℕ × ℕ
     key_of n = likely_key t spots (key_at g n).paths
 

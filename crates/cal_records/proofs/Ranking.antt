@@ -10,7 +10,7 @@ use Rattle.std.specs.List.Sorted.{IsSortedByClosure, IsStableBy, IsStableByClosu
 use Rattle.std.specs.Ordering.{is_lt}
 use Rattle.std.specs.declared.cmp.Ordering.{Ordering}
 use Rattle.std.proofs.lemmas.Fn.{always_returns_same}
-use Rattle.std.proofs.lemmas.List.{reverse-append}
+use Rattle.std.proofs.lemmas.List.{map-append, reverse-append}
 use Rattle.std.proofs.lemmas.List.Elements.{filter-append, recursion_from_All}
 use Rattle.std.proofs.lemmas.List.Folds.{list_any-append}
 use Rattle.std.proofs.lemmas.List.Sorted.{ranks_by}
@@ -29,7 +29,7 @@ use Rattle.cal_filter.specs.Numbers.{value_of_number}
 use Rattle.cal_ql.specs.declared.query.Agg.{Agg}
 use Rattle.cal_records.specs.Groups.{group_in, is_result, rows_cmp}
 use Rattle.cal_records.specs.Ranks.{entries_at, group_at, key_entries, numbers_cmp}
-use Rattle.cal_records.specs.declared.group_keys.GroupKeys.{GroupKeys}
+use Rattle.cal_records.specs.declared.group_keys.AllKeys.{AllKeys}
 use Rattle.cal_rowset.proofs.Seen.{is_same-refl}
 use Rattle.cal_rowset.specs.Answers.{nth_row}
 use Rattle.cal_rowset.specs.Texts.{is_same}
@@ -134,9 +134,19 @@ filtered-up p whole path parent e old new is before more =
     turned true kept = rw kept (reverse-append old (e ∷ []))
     turned false kept = rw kept (ap reverse (append-nil old))
 
+-- items are turned round before or after they are read
+pub map-reversed : {A B : Type 0} (f : A → B) (xs : List A)
+    → map f (reverse xs) ≡ reverse (map f xs)
+map-reversed f [] = refl
+map-reversed f (x ∷ xs) =
+    ap (map f) (reverse-append (x ∷ []) xs)
+    ∙ map-append f (reverse xs) (x ∷ [])
+    ∙ ap (λ ys. ys ++ f x ∷ []) (map-reversed f xs)
+    ∙ sym (reverse-append (f x ∷ []) (map f xs))
+
 -- ---- the numbers of rows
 
-module _ (t room : Tree) (aggs : List Agg) (g : GroupedRows) (keys : List GroupKeys)
+module _ (t room : Tree) (aggs : List Agg) (g : GroupedRows) (keys : AllKeys)
     (rs : List Rec) (is : room ≡ room_in t g) (made : MakesRows t aggs g rs)
     (are : (n : ℕ) → n < group_count g → entries_at keys n ≡ key_entries room aggs (key_at g n))
   where

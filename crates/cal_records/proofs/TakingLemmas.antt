@@ -1,9 +1,9 @@
 -- What is taken in several steps.
-use Rattle.std.proofs.Common.{◌≡◌, ℕ, ◌+◌, ◌<◌, List, [], ◌∷◌, ◌++◌, length, get_or, take, map, sym}
+use Rattle.std.proofs.Common.{◌≡◌, ℕ, ◌+◌, ◌<◌, List, [], ◌∷◌, ◌++◌, length, get_or, take, sym}
 use Rattle.std.proofs.Common.{ap, subst, ◌∙◌, append-nil}
 use Rattle.std.specs.List.{flat_map}
 use Rattle.std.proofs.lemmas.Grind.{flat_map-append}
-use Rattle.std.proofs.lemmas.List.{map_more, take_more}
+use Rattle.std.proofs.lemmas.List.{take_more}
 use Rattle.cal_context.proofs.CallerLemmas.{TakesMore-trans}
 use Rattle.cal_context.specs.Taking.{TakesMore}
 use Rattle.cal_value.specs.declared.record.Rec.{Rec}
@@ -23,13 +23,3 @@ taken-more f had then has xs i x below is so_far next =
     ∙ flat_map-append f (take i xs) (x ∷ [])
     ∙ ap (λ ys. flat_map f (take i xs) ++ ys) (append-nil (f x)) in
     subst (TakesMore had has) (sym more) (TakesMore-trans had then has _ _ so_far next)
-
--- what the items of a list so far stand for was taken, and so was what the next one stands for
-pub mapped-more : {A : Type 0} (f : A → Rec) (had then has : List Rec → Type 0) (xs : List A)
-    (i : ℕ) (x : A) → i < length xs → x ≡ get_or xs i x
-    → TakesMore had then (map f (take i xs)) → TakesMore then has (f x ∷ [])
-    → TakesMore had has (map f (take (i + 1) xs))
-mapped-more f had then has xs i x below is so_far next =
-    let all : map f (take (i + 1) xs) ≡ map f (take i xs) ++ f x ∷ [] = map_more f xs i x below
-    ∙ ap (λ y. map f (take i xs) ++ f y ∷ []) (sym is) in
-    subst (TakesMore had has) (sym all) (TakesMore-trans had then has _ _ so_far next)

@@ -1,5 +1,5 @@
 -- The groups of rows by their numbers, and the order of such groups (private).
-use Rattle.std.specs.Prelude.{ℕ, List, [], filter, map, not, slice_index_or}
+use Rattle.std.specs.Prelude.{ℕ, List, filter, map, not, slice_index_or}
 use Rattle.std.specs.Ordering.{on}
 use Rattle.std.specs.declared.cmp.Ordering.{Ordering}
 use Rattle.cal_context.specs.Tree.{Tree, path_at}
@@ -8,6 +8,7 @@ use Rattle.cal_engine.specs.declared.grouped_rows.GroupedRows.{GroupedRows}
 use Rattle.cal_engine.specs.declared.key.GroupKey.{GroupKey}
 use Rattle.cal_ql.specs.declared.query.Agg.{Agg}
 use Rattle.cal_records.specs.Groups.{is_result}
+use Rattle.cal_records.specs.declared.group_keys.AllKeys.{AllKeys}
 use Rattle.cal_records.specs.declared.group_keys.GroupKeys.{GroupKeys}
 use Rattle.cal_records.specs.declared.sorting.Key.{Key}
 use Rattle.cal_value.specs.Order.{group_cmp}
@@ -25,14 +26,15 @@ key_entries room aggs key = filter (λ e. not (is_result aggs e)) (path_at room 
 abbrev pub lent_entries : GroupKeys → List Entry
 lent_entries keys = map key_entry keys.entries.items
 
--- those of a number, none behind the end
-abbrev pub entries_at : List GroupKeys → ℕ → List Entry
-entries_at keys n = slice_index_or (map lent_entries keys) n []
+-- those of a number
+abbrev pub entries_at : AllKeys → ℕ → List Entry
+entries_at keys n =
+    slice_index_or (map lent_entries keys.each.items) n (map key_entry keys.none.items)
 
 -- the group of a number, and the order of such groups
-abbrev pub group_at : Tree → GroupedRows → List GroupKeys → ℕ → Rec
+abbrev pub group_at : Tree → GroupedRows → AllKeys → ℕ → Rec
 group_at room rows keys n =
     record { paths = map (path_at room) (key_at rows n).paths; imms = entries_at keys n }
 
-abbrev pub numbers_cmp : Tree → GroupedRows → List GroupKeys → ℕ → ℕ → Ordering
+abbrev pub numbers_cmp : Tree → GroupedRows → AllKeys → ℕ → ℕ → Ordering
 numbers_cmp room rows keys = on (group_at room rows keys) group_cmp

@@ -19,27 +19,47 @@ pub(crate) struct GroupKeys<'a> {
     entries: Vec<Key<'a>>,
 }
 
-/// The immediates of each group, by its number. Where no group has any there is no list, so that it
-/// takes no memory.
+/// The immediates of each group, by its number, and none behind the last.
+#[derive(Drop)]
+pub(crate) struct AllKeys<'a> {
+    none: Vec<Key<'a>>,
+    each: Vec<GroupKeys<'a>>,
+}
+
+impl<'a> AllKeys<'a> {
+    /// The immediates of the group of a number.
+    pub(crate) fn at(&self, number: usize) -> &[Key<'a>]
+        ensures { map key_entry result.now ≡ entries_at self.now number }
+    {
+        match self.each.get(number) {
+            Some(own) => own.entries.as_slice(),
+            None => self.none.as_slice(),
+        }
+    }
+}
+
+/// The immediates of groups. Where no group has any it takes no memory.
 pub(crate) fn group_keys<'a>(
     alloc: Global,
     room: &'a Context,
     aggs: &[Agg],
     rows: &GroupedRows,
-) -> Result<Vec<GroupKeys<'a>>, OutOfMemory>
+) -> Result<AllKeys<'a>, OutOfMemory>
     ensures { IfOk result (λ keys. (n : ℕ) → n < group_count rows.now
-        → entries_at keys.items n ≡ key_entries room.now aggs.now (key_at rows.now n)) }
+        → entries_at keys n ≡ key_entries room.now aggs.now (key_at rows.now n)) }
 {
     room.has_each_once();
+    let none = Vec::new(alloc);
     if have_no_immediates(rows) {
-        return Ok(Vec::new(alloc));
+        let each = Vec::new(alloc);
+        return Ok(AllKeys { none, each });
     }
-    let mut keys = Vec::with_capacity(alloc, rows.count())?;
+    let mut each = Vec::with_capacity(alloc, rows.count())?;
     for number in 0..rows.count() {
         let entries = keys_of(alloc, room, aggs, rows.immediates(number))?;
-        keys.push(GroupKeys { entries })?;
+        each.push(GroupKeys { entries })?;
     }
-    Ok(keys)
+    Ok(AllKeys { none, each })
 }
 
 /// Whether no group has an immediate.
@@ -105,14 +125,4 @@ fn is_result(aggs: &[Agg], key: &Key) -> bool
 {
     aggs.iter()
         .any(|agg| agg.name.as_str() == key.attr.name.as_str())
-}
-
-/// The immediates of the group of a number.
-pub(crate) fn keys_at<'k, 'a>(keys: &'k [GroupKeys<'a>], number: usize) -> &'k [Key<'a>]
-    ensures { map key_entry result.now ≡ entries_at keys.now number }
-{
-    match keys.get(number) {
-        Some(keys) => keys.entries.as_slice(),
-        None => &[],
-    }
 }

@@ -10,7 +10,7 @@ ghost use Rattle.cal_value.specs.Order.{entry_cmp, path_cmp};
 ghost use Rattle.cal_value.specs.declared.record.Rec.{Rec as ARecord};
 
 use crate::comparing::compare_paths;
-use crate::group_keys::{GroupKeys, group_keys, keys_at};
+use crate::group_keys::{AllKeys, group_keys};
 use crate::likely::{Spot, likely_key, likely_spots};
 use cal_context::Context;
 use cal_engine::GroupedRows;
@@ -73,13 +73,11 @@ fn likely_key_of(room: &Context, spots: &[Spot], rows: &GroupedRows, number: u32
     likely_key(room, spots, rows.nodes(number as usize))
 }
 
-fn compare(room: &Context, rows: &GroupedRows, keys: &[GroupKeys], one: u32, other: u32) -> Ordering
+fn compare(room: &Context, rows: &GroupedRows, keys: &AllKeys, one: u32, other: u32) -> Ordering
     ensures { result ≡ numbers_cmp room.now rows.now keys.now one other }
 {
     match compare_paths(room, rows.nodes(one as usize), rows.nodes(other as usize)) {
-        Ordering::Equal => {
-            compare_keys(keys_at(keys, one as usize), keys_at(keys, other as usize))
-        }
+        Ordering::Equal => compare_keys(keys.at(one as usize), keys.at(other as usize)),
         order => order,
     }
 }

@@ -1,9 +1,10 @@
-use Rattle.std.proofs.Common.{ℕ, List, [], ◌∷◌, map, subst}
-use Rattle.std.proofs.lemmas.List.{take_all}
+use Rattle.std.proofs.Common.{ℕ, List, [], ◌∷◌, map, subst, sym}
+use Rattle.std.proofs.lemmas.List.{map_more, take_all}
+use Rattle.cal_context.proofs.CallerLemmas.{TakesMore-trans}
 use Rattle.cal_context.specs.Taking.{TakesMore}
 use Rattle.cal_rowset.specs.Answers.{nth_row}
 use Rattle.cal_value.specs.declared.record.Rec.{Rec}
-use Rattle.cal_records.proofs.TakingLemmas.{mapped-more, takes-none}
+use Rattle.cal_records.proofs.TakingLemmas.{takes-none}
 use Rattle.cal_records.proofs.groups.take_rows.Goals as goal
 
 pub loop-number-init : goal.loop-number-init
@@ -16,11 +17,13 @@ loop-number-preserved g c = λ aggs rs made.
     let t = c.args.context.now in
     let then = has_taken c.loop-number.taker t in
     let has = has_taken c.take.new.self t in
-    mapped-more (nth_row rs) (has_taken c.args.taker.now t) then has c.args.order.now
-    c.loop-number.number-index c.number-item.result c.loop-number-test.true c.number-item.is
+    subst (TakesMore (has_taken c.args.taker.now t) has)
+    (sym (map_more (nth_row rs) c.args.order.now c.loop-number.number-index 0
+    c.loop-number-test.true))
+    (TakesMore-trans (has_taken c.args.taker.now t) then has _ _
     (c.loop-number.invariant aggs rs made)
     (subst (λ (r : Rec). TakesMore then has (r ∷ [])) (c.in_ok-fill.ensures.row aggs rs made)
-    c.in_ok-take.ensures)
+    c.in_ok-take.ensures))
 
 pub returns : goal.returns
 returns g c = λ aggs rs made.

@@ -10,7 +10,7 @@ returns c = λ rs made.
     let t = c.args.context.now in
     let room = c.room-room.result.now in
     let g = c.args.rows.now in
-    let keys = c.in_ok-keys.keys.items in
+    let keys = c.in_ok-keys.keys in
     sorted_numbers t room c.args.aggs.now g keys rs c.room-room.ensures made c.in_ok-keys.ensures
     c.in_ok-numbers.numbers.items _ _
     (subst (λ count. All (λ n. n < count) c.in_ok-numbers.numbers.items) c.count-count.ensures
