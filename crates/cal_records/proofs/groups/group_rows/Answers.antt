@@ -26,7 +26,7 @@ returns-then-not-same_query-clause-grows c =
 pub returns-in_err-rows-clause-grows : goal.returns-in_err-rows-clause-grows
 returns-in_err-rows-clause-grows c =
     Grows-trans _ _ _ (Grows-trans _ _ _ c.in_ok-fold.ensures.grows c.take_snapshots.ensures.grows)
-    c.grouped_rows-rows.ensures.grows
+    c.grouped_rows.ensures.grows
 
 pub returns-clause-grows : goal.returns-clause-grows
 returns-clause-grows c =
@@ -41,5 +41,5 @@ returns-clause-rows c =
     sym c.query.ensures ∙ c.same_query.ensures c.if-not-same_query.false in
     let folded : HasFolded fold c.take_snapshots.new.context taken =
     c.in_ok-refused.ensures.taken [] c.in_ok-fold.ensures.none in
-    subst (λ (q : Query). MakesRows c.grouped_rows-rows.new.context q.aggs c.in_ok-rows.rows
+    subst (λ (q : Query). MakesRows c.grouped_rows.new.context q.aggs c.in_ok-rows.rows
     (answer_of q taken).rows.rows) same (c.in_ok-rows.ensures.rows taken folded)

@@ -25,7 +25,7 @@ returns-clause-taken g c =
     let q = c.in_ok-query.query in
     let rs = (answer_of q taken).rows.rows in
     let aggs = c.as_slice.result.now in
-    let made = subst (λ (a : List Agg). MakesRows t a c.in_ok-rows.field-0 rs)
+    let made = subst (λ (a : List Agg). MakesRows t a c.in_ok-rows.rows rs)
     (sym c.as_slice.ensures) c.in_ok-rows.ensures.rows in
     let groups : map (nth_row rs) c.as_slice-2.result.now ≡ grouped script journal channel =
     ap (map (nth_row rs)) c.as_slice-2.ensures.value
