@@ -11,6 +11,7 @@ pub struct AttrRef {
 
 impl AttrRef {
     /// The number of the slot in which its values stand.
+    #[inline(always)]
     pub(crate) fn slot(self) -> u64
         ensures { result ≡ slot_number self }
     {

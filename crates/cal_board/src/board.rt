@@ -66,6 +66,7 @@ impl<N> Board<N> {
     }
 
     /// What the board replies to such a line, which it isn't told of.
+    #[inline(always)]
     pub fn check(&self, code: OpCode, attr: AttrRef) -> BoardReply
         ensures { result ≡ reply_to self.now code attr }
     {
@@ -84,6 +85,7 @@ impl<N> Board<N> {
 
     /// Opens a value, by one call of the maker where its slot is a reference slot. A refusal
     /// changes nothing.
+    #[inline(always)]
     pub fn begin<V: Drop, M: NodeMaker<V, N>>(
         &mut self,
         alloc: Global,
@@ -111,6 +113,7 @@ impl<N> Board<N> {
 
     /// Puts a value in the place of the slot's last one where that has the attribute, and else
     /// opens it. A refusal changes nothing.
+    #[inline(always)]
     pub fn set<V: Drop, M: NodeMaker<V, N>>(
         &mut self,
         alloc: Global,
@@ -136,6 +139,7 @@ impl<N> Board<N> {
     }
 
     /// Closes the slot's last value. A refusal changes nothing.
+    #[inline(always)]
     pub fn end(&mut self, attr: AttrRef) -> BoardReply
     where
         N: Drop,
@@ -154,6 +158,7 @@ impl<N> Board<N> {
     }
 
     /// The last nodes of the reference slots, in the order of the slots. An `Err` leaves the list.
+    #[inline(always)]
     pub fn refs(&self, out: &mut Vec<N>) -> Result<(), OutOfMemory>
     where
         N: Copy,
@@ -174,6 +179,7 @@ impl<N> Board<N> {
 
     /// The last values of the as-value slots, in the order of the slots, each copied under the
     /// number of its attribute. An `Err` leaves the list.
+    #[inline(always)]
     pub fn immediates(&self, alloc: Global, out: &mut Vec<Immediate>) -> Result<(), OutOfMemory>
         ensures ok { OnOk result (out.new.items ≡ out.old.items ++ last_immediates self.now) }
         ensures err { OnErr result (out.new.items ≡ out.old.items) }
@@ -202,6 +208,7 @@ impl<N> Board<N> {
     }
 
     /// What stands for the last value in the reference slot of an attribute.
+    #[inline(always)]
     pub fn last_node(&self, attr: AttrRef) -> Option<&N>
         ensures { option_copied result
             ≡ last_value (opened_in (slot_number attr) self.now.references) }
@@ -210,6 +217,7 @@ impl<N> Board<N> {
     }
 
     /// The last value in the as-value slot of an attribute.
+    #[inline(always)]
     pub fn last_immediate(&self, attr: AttrRef) -> Option<&Variant>
         ensures { option_copied result
             ≡ last_value (opened_in (slot_number attr) self.now.as_values) }
@@ -231,6 +239,7 @@ impl<N> Board<N> {
         self.as_values.as_slice()
     }
 
+    #[inline(always)]
     fn begin_reply(&self, attr: AttrRef) -> BoardReply
         ensures { result ≡ begin_reply self.now attr }
     {
@@ -247,6 +256,7 @@ impl<N> Board<N> {
     }
 
     /// The number of values in the attribute's slot.
+    #[inline(always)]
     fn depth(&self, attr: AttrRef) -> usize
         ensures { result ≡ depth_at self.now attr }
     {
@@ -258,6 +268,7 @@ impl<N> Board<N> {
     }
 
     /// The attribute of the slot's last value.
+    #[inline(always)]
     fn top(&self, attr: AttrRef) -> Option<u32>
         ensures { result ≡ top_at self.now attr }
     {
@@ -347,6 +358,7 @@ impl Board<Variant> {
 }
 
 /// Adds a copy of an open value. An `Err` leaves the list.
+#[inline(always)]
 fn push_immediate(
     alloc: Global,
     opened: &Opened<Variant>,
@@ -379,6 +391,7 @@ fn add_depths<V>(slots: &[Slot<V>], out: &mut [u32; 65], from: usize) -> usize
 }
 
 /// The reply to the closing of an attribute's value, where the slot's last value has this one.
+#[inline(always)]
 fn end_reply(top: Option<u32>, attribute: u32) -> BoardReply
     ensures { result ≡ end_reply top attribute }
 {
@@ -389,6 +402,7 @@ fn end_reply(top: Option<u32>, attribute: u32) -> BoardReply
     }
 }
 
+#[inline(always)]
 fn is_top(top: Option<u32>, attribute: u32) -> bool
     ensures { result ≡ is_top top attribute }
 {
@@ -398,6 +412,7 @@ fn is_top(top: Option<u32>, attribute: u32) -> bool
     }
 }
 
+#[inline(always)]
 fn last_attribute<V>(opened: &[Opened<V>]) -> Option<u32>
     ensures { result ≡ last_attribute opened.now }
 {
@@ -407,6 +422,7 @@ fn last_attribute<V>(opened: &[Opened<V>]) -> Option<u32>
     }
 }
 
+#[inline(always)]
 fn last_value<V>(opened: &[Opened<V>]) -> Option<&V>
     ensures { option_copied result ≡ last_value opened.now }
 {

@@ -39,6 +39,7 @@ impl Readings {
 
     /// Follows an operation that a board accepted, whose line has this reading. An `Err` leaves all
     /// as it was.
+    #[inline(always)]
     pub fn follow(&mut self, code: OpCode, attr: AttrRef, reading: u64) -> Result<(), OutOfMemory>
         ensures after { OnOk result (self.new ≡ readings_after self.old code attr reading) }
         ensures err { OnErr result (self.new ≡ self.old) }
@@ -72,6 +73,7 @@ impl Readings {
 
     /// The reading of the line that put the last value of an attribute's slot there, and 0 where the
     /// slot holds none.
+    #[inline(always)]
     pub fn last(&self, attr: AttrRef) -> u64
         ensures { result ≡ last_reading self.now attr }
     {

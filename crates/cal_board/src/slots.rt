@@ -45,6 +45,7 @@ impl<V> Slots<V> {
     }
 
     /// The slots that hold values, in the order of their numbers.
+    #[inline(always)]
     pub fn as_slice(&self) -> &[Slot<V>]
         ensures { result.now ≡ self.now }
     {
@@ -52,6 +53,7 @@ impl<V> Slots<V> {
     }
 
     /// The open values of a slot, the outermost first.
+    #[inline(always)]
     pub fn opened(&self, number: u64) -> &[Opened<V>]
         ensures { result.now ≡ opened_in number self.now }
     {
@@ -116,6 +118,7 @@ impl<V> Slots<V> {
     }
 }
 
+#[inline(always)]
 fn drop_last<T: Drop>(list: &mut Seq<T>)
     ensures { list.new ≡ front list.old }
 {
@@ -139,6 +142,7 @@ fn keep<T: Drop>(spare: &mut Vec<Vec<T>>, mut values: Vec<T>) {
 }
 
 /// The place of a slot, or else the place to which it would go.
+#[inline(always)]
 fn find<V>(slots: &[Slot<V>], number: u64) -> Result<usize, usize>
     ensures { MatchResult result (IsAt slots.now number) (IsGap slots.now number) }
 {

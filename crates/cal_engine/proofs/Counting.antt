@@ -8,17 +8,18 @@ use Rattle.std.proofs.lemmas.List.Elements.{All-push, All-weaker}
 use Rattle.cal_agg.specs.declared.num.Num.{Num}
 use Rattle.cal_agg.specs.declared.num.Num.TheVariants.{Whole}
 use Rattle.cal_context.specs.Tree.{Tree, Grows}
-use Rattle.cal_filter.specs.Known.{Knows, KnowsAll, sought}
+use Rattle.cal_filter.specs.Known.{Covers, Knows, KnowsAll, KnowsSoMany, sought}
 use Rattle.cal_filter.specs.Named.{is_named, last_number}
 use Rattle.cal_filter.specs.Numbers.{number_in, whole_in}
 use Rattle.cal_filter.specs.Replaced.{CatchesUp}
 use Rattle.cal_filter.specs.Sought as seeking
 use Rattle.cal_filter.specs.Sought.{Sought, last_sought, number_of, seeks, value_sought, whole_of}
+use Rattle.cal_filter.specs.declared.counts.Counts.{Counts}
 use Rattle.cal_filter.specs.declared.seeker.Seeker.{Seeker}
 use Rattle.cal_filter.specs.declared.wanted.Wanted.TheVariants as wanted
 use Rattle.cal_filter.proofs.Growing.{knows-Grows}
 use Rattle.cal_filter.proofs.OperandLemmas.{filter_map_sought, number_sought_is}
-use Rattle.cal_filter.proofs.ReadyLemmas.{all_know, same_sought}
+use Rattle.cal_filter.proofs.ReadyLemmas.{all_know, all_of_zip, knows_counted, knows_covered, same_sought, zip_and}
 use Rattle.cal_filter.proofs.Zips.{zip_then, zip_weaker}
 use Rattle.cal_ql.specs.declared.names.KernelName as kernels
 use Rattle.cal_ql.specs.declared.names.KernelName.TheVariants as kernel
@@ -129,6 +130,22 @@ ready_counters t rs cs h =
       counts = k.counts;
       knows = All-weaker (KnowsAll t) (Knows t) (λ s x. x.knows) c.seekers.items k.knows;
     }) rs cs h
+
+-- counters that know as much as a context has, and the other way
+pub counters_covered : (t : Tree) (n : Counts) → Covers t n → (rs : List Reading) (cs : List Counter)
+    → All (λ (c : Counter). All (KnowsSoMany n) c.seekers.items) cs → AllZip (IsCounter t) rs cs → AllZip (IsReadyCounter t) rs cs
+counters_covered t n covers rs cs many h =
+    zip_and (IsCounter t) (IsReadyCounter t) (λ (c : Counter). All (KnowsSoMany n) c.seekers.items)
+    (λ r c is so. record {
+      counts = is.counts;
+      knows = λ i x short. knows_covered t n covers _ (so i x short) (is.knows i x short);
+    }) rs cs h many
+
+pub counters_counted : (t : Tree) (n : Counts) → n.attributes ≡ length t.attributes → n.nodes ≡ length t.paths → (rs : List Reading)
+    (cs : List Counter) → AllZip (IsReadyCounter t) rs cs → All (λ (c : Counter). All (KnowsSoMany n) c.seekers.items) cs
+counters_counted t n attributes nodes rs cs h =
+    all_of_zip (IsReadyCounter t) (λ (c : Counter). All (KnowsSoMany n) c.seekers.items)
+    (λ r c is i x short. knows_counted t n attributes nodes _ (is.knows i x short)) rs cs h
 
 -- one name more has its seeker
 pub seekers_next : (names : List (List ℕ)) (i : ℕ) (name : List ℕ) (seekers now : List Seeker) (s : Seeker) → i < length names → name ≡ get_or names i name

@@ -9,15 +9,18 @@ use Rattle.std.proofs.lemmas.List.Elements.{All-cons, All-head, All-nil, All-tai
 use Rattle.cal_context.specs.Children.{IsLinked}
 use Rattle.cal_context.specs.Snapshots.{IsBelowRoot, entry_of}
 use Rattle.cal_context.specs.Tree.{Tree, Grows, IsContext, attribute_at, path_at, value_at}
+use Rattle.cal_context.specs.declared.numbers.AttributeNumber.{AttributeNumber}
 use Rattle.cal_context.specs.declared.numbers.Link.{Link}
 use Rattle.cal_context.specs.declared.numbers.NodeNumber.{NodeNumber}
 use Rattle.cal_context.specs.declared.snapshot.Immediate.{Immediate}
 use Rattle.cal_context.proofs.CallerLemmas.{Grows-trans, path_at-Grows, within_paths}
+use Rattle.cal_filter.specs.Known.{Covers}
+use Rattle.cal_filter.specs.declared.counts.Counts.{Counts}
 use Rattle.cal_filter.proofs.Zips.{Replacing, zip_weaker}
 use Rattle.cal_value.specs.Flat.{joined}
 use Rattle.cal_value.specs.declared.attribute.Entry.{Entry}
-use Rattle.cal_engine.specs.Choices.{Choice, choices_of, chooses}
-use Rattle.cal_engine.specs.Sieves.{AreSieves, AreReadySieves, IsSifted, Sifts, SiftsAll, beside_paths, choice_of, in_paths, part_at}
+use Rattle.cal_engine.specs.Choices.{Choice, choices_of, chooses, chooses_attribute}
+use Rattle.cal_engine.specs.Sieves.{AreSieves, AreReadySieves, ChoosesAll, IsChosen, IsSifted, Sifts, SiftsAll, SiftsSoMany, beside_paths, choice_of, in_paths, part_at}
 use Rattle.cal_engine.specs.Totals.{IsStep, Leads}
 use Rattle.cal_engine.specs.declared.sieve.Sieve.{Sieve}
 use Rattle.cal_engine.proofs.Reaching.{Leads-Grows, leads-none}
@@ -78,9 +81,16 @@ IsSifted-Grows t {own} {new} grows s s' same n part h = record {
 
 -- one node more
 pub sifts_next : (t own new : Tree) (s s' : Sieve) (n part : NodeNumber) → Grows own new → choice_of s' ≡ choice_of s
-    → s'.nodes ≡ s.nodes ++ part ∷ [] → n.0 ≡ length s.nodes → IsSifted t new s n part → Sifts t own s → Sifts t new s'
-sifts_next t own new s s' n part grows same more next found h = record {
+    → s'.nodes ≡ s.nodes ++ part ∷ [] → s'.chosen ≡ s.chosen → n.0 ≡ length s.nodes → IsSifted t new s n part
+    → Sifts t own s → Sifts t new s'
+sifts_next t own new s s' n part grows same more attributes next found h = record {
   nodes = λ x l. by x (cases_lt x.0 (length s.nodes)) l;
+  attributes = λ a l.
+      let old = h.attributes a (rw (sym attributes) l) in
+      record {
+        within = old.within;
+        is = ap (λ xs. get_or xs a.0 false) attributes ∙ old.is ∙ ap (λ c. chooses_attribute false c (attribute_at t a)) (sym same);
+      };
 }
   where
     by : (x : NodeNumber) → ((x.0 < length s.nodes) ⊎ (length s.nodes ≤ x.0)) → x.0 < length s'.nodes
@@ -102,6 +112,60 @@ sifts_next t own new s s' n part grows same more next found h = record {
           within = found.within;
           leads = subst (λ c. Leads new (filter (chooses true c) (path_at t n)) part) (sym same) found.leads;
         }))
+
+-- one attribute more
+pub chosen_next : (t own : Tree) (s s' : Sieve) (a : AttributeNumber) (b : Bool) → choice_of s' ≡ choice_of s → s'.nodes ≡ s.nodes
+    → s'.chosen ≡ s.chosen ++ b ∷ [] → a.0 ≡ length s.chosen → a.0 < length t.attributes
+    → b ≡ chooses_attribute false (choice_of s) (attribute_at t a) → Sifts t own s → Sifts t own s'
+chosen_next t own s s' a b same nodes more next within is h = record {
+  nodes = λ n l.
+      let old = h.nodes n (rw (sym nodes) l) in
+      subst (IsSifted t own s' n) (sym (ap (λ xs. get_or xs n.0 root) nodes))
+      (record {
+        within = old.within;
+        leads = subst (λ c. Leads own (filter (chooses true c) (path_at t n)) (part_at s n)) (sym same) old.leads;
+      });
+  attributes = λ x l. by x (cases_lt x.0 (length s.chosen)) l;
+}
+  where
+    by : (x : AttributeNumber) → ((x.0 < length s.chosen) ⊎ (length s.chosen ≤ x.0)) → x.0 < length s'.chosen → IsChosen t s' x
+    by x (inl short) l =
+        let old = h.attributes x short in
+        record {
+          within = old.within;
+          is = ap (λ xs. get_or xs x.0 false) more ∙ get_or_append_left s.chosen (b ∷ []) false x.0 short ∙ old.is
+              ∙ ap (λ c. chooses_attribute false c (attribute_at t x)) (sym same);
+        }
+    by x (inr long) l =
+        let counted : length s'.chosen ≡ length s.chosen + 1 = ap length more ∙ length-append s.chosen (b ∷ []) in
+        let e : x.0 ≡ length s.chosen = omega arith in
+        let at : x ≡ a = λ i. record { 0 = (e ∙ sym next) i } in
+        record {
+          within = omega arith;
+          is = ap (λ xs. get_or xs x.0 false) more
+              ∙ ap (λ i. get_or (s.chosen ++ b ∷ []) i false) e
+              ∙ get_or_push s.chosen b false (length s.chosen) refl ∙ is
+              ∙ ap (λ y. chooses_attribute false (choice_of s) (attribute_at t y)) (sym at)
+              ∙ ap (λ c. chooses_attribute false c (attribute_at t x)) (sym same);
+        }
+
+-- a sieve that knows the whole context chooses right among its attributes
+pub chooses_all : (t own : Tree) (s : Sieve) → SiftsAll t own s → ChoosesAll t s
+chooses_all t own s h = record { attributes = λ a l. h.knows.attributes a (omega (arith, l, h.attributes)) }
+
+-- where no attribute is chosen, nothing is taken beside paths
+pub chooses_none : (t : Tree) (s : Sieve) → ChoosesAll t s → ((n : ℕ) → get_or s.chosen n false ≡ false)
+    → (imms : List Immediate) → All (λ (i : Immediate). i.attribute.0 < length t.attributes) imms → beside_paths s (map (entry_of t) imms) ≡ []
+chooses_none t s right none [] within = refl
+chooses_none t s right none (x ∷ imms) within =
+    let isnt : chooses false (choice_of s) (entry_of t x) ≡ false =
+    sym (right.attributes x.attribute (within 0 x (omega arith))).is ∙ none x.attribute.0 in
+    ap (λ b. if b then entry_of t x ∷ beside_paths s (map (entry_of t) imms) else beside_paths s (map (entry_of t) imms)) isnt
+    ∙ chooses_none t s right none imms (All-tail (λ (i : Immediate). i.attribute.0 < length t.attributes) x imms within)
+
+pub added_nothing : (t own : Tree) (s : Sieve) (imms : List Immediate) (es : List Entry) (from : NodeNumber)
+    → beside_paths s (map (entry_of t) imms) ≡ [] → Leads own es from → Leads own (es ++ beside_paths s (map (entry_of t) imms)) from
+added_nothing t own s imms es from none h = subst (λ p. Leads own p from) (sym (append-nil es) ∙ ap (λ p. es ++ p) (sym none)) h
 
 -- one node's path more
 pub joined_next : (t : Tree) (nodes : List NodeNumber) (i : ℕ) (n : NodeNumber) → i < length nodes → n ≡ get_or nodes i n
@@ -184,10 +248,13 @@ pub record CatchesUp (t own new : Tree) (s s' : Sieve) : Type 0 where
   pub sifts : Sifts t own s → SiftsAll t new s'
 
 pub Sifts-Grows : (t : Tree) {own new : Tree} → Grows own new → (s : Sieve) → Sifts t own s → Sifts t new s
-Sifts-Grows t grows s h = record { nodes = λ n l. IsSifted-Grows t grows s s refl n (part_at s n) (h.nodes n l) }
+Sifts-Grows t grows s h = record {
+  nodes = λ n l. IsSifted-Grows t grows s s refl n (part_at s n) (h.nodes n l);
+  attributes = h.attributes;
+}
 
 pub SiftsAll-Grows : (t : Tree) {own new : Tree} → Grows own new → (s : Sieve) → SiftsAll t own s → SiftsAll t new s
-SiftsAll-Grows t grows s h = record { knows = Sifts-Grows t grows s h.knows; nodes = h.nodes }
+SiftsAll-Grows t grows s h = record { knows = Sifts-Grows t grows s h.knows; attributes = h.attributes; nodes = h.nodes }
 
 pub replacing_grows : (t own mid new : Tree) (old now : List Sieve) (i : ℕ) → Grows mid new → Replacing (CatchesUp t own mid) old i now
     → Replacing (CatchesUp t own new) old i now
@@ -232,3 +299,22 @@ ready_stays t {own} {new} grows names sieves h = record {
 -- no names have no sieves
 pub no_sieves : (t own : Tree) → AreSieves t own [] []
 no_sieves t own = record { choices = refl; sift = All-nil (Sifts t own) }
+
+-- sieves that know as much as a context has, and the other way
+pub sieves_covered : (t own : Tree) (n : Counts) → Covers t n → (names : List (List ℕ)) (sieves : List Sieve) → All (SiftsSoMany n) sieves
+    → AreSieves t own names sieves → AreReadySieves t own names sieves
+sieves_covered t own n covers names sieves many h = record {
+  choices = h.choices;
+  sift = λ i d short. let so = many i d short in record {
+    knows = h.sift i d short;
+    attributes = omega (arith, covers.attributes, so.attributes);
+    nodes = omega (arith, covers.nodes, so.nodes);
+  };
+}
+
+pub sieves_counted : (t own : Tree) (n : Counts) → n.attributes ≡ length t.attributes → n.nodes ≡ length t.paths → (names : List (List ℕ))
+    (sieves : List Sieve) → AreReadySieves t own names sieves → All (SiftsSoMany n) sieves
+sieves_counted t own n attributes nodes names sieves h = λ i d short. let all = h.sift i d short in record {
+  attributes = omega (arith, attributes, all.attributes);
+  nodes = omega (arith, nodes, all.nodes);
+}

@@ -2,12 +2,12 @@
 use Rattle.std.proofs.Common.{◌≡◌, List, [], ◌∷◌, ◌++◌, Some, None, true, false, Bool, length, refl, sym, ◌∙◌, ap, subst, arith, append-nil, if◌then◌else◌}
 use Rattle.std.specs.List.{filter_map}
 use Rattle.cal_context.specs.Tree.{Tree, Grows}
-use Rattle.cal_context.specs.declared.snapshot.Snapshot.{Snapshot}
 use Rattle.cal_filter.specs.Filtered.{IsFiltered}
 use Rattle.cal_filter.specs.Kept.{kept, with_lets}
 use Rattle.cal_filter.specs.Conditions.{where_holds}
 use Rattle.cal_ql.specs.declared.query.Let.{Let}
 use Rattle.cal_ql.specs.declared.query.Query.{Query}
+use Rattle.cal_rowset.specs.NumberedRows.{NumberedRow}
 use Rattle.cal_value.specs.declared.record.Rec.{Rec}
 use Rattle.cal_engine.specs.Standing.{HasFolded}
 use Rattle.cal_engine.specs.Tallies.{Holds}
@@ -34,11 +34,11 @@ filtered_plain q r keeps none is = record { lets = by q.lets none; kept = is }
     by (l ∷ ls) e = absurd (omega (arith, e))
 
 -- a record more is held where it is kept
-pub stands_kept : (t : Tree) (q : Query) (rs : List Rec) (r full : Rec) (y : Tally) (rows : List Snapshot) → Some full ≡ kept q r
+pub stands_kept : (t : Tree) (q : Query) (rs : List Rec) (r full : Rec) (y : Tally) (rows : List NumberedRow) → Some full ≡ kept q r
     → Holds t q (filter_map (kept q) rs ++ full ∷ []) y rows → Holds t q (filter_map (kept q) (rs ++ r ∷ [])) y rows
 stands_kept t q rs r full y rows is h = subst (λ ks. Holds t q ks y rows) (sym (kept_more q rs r (Some full) is)) h
 
-pub stands_dropped : (t : Tree) (q : Query) (rs : List Rec) (r : Rec) (y : Tally) (rows : List Snapshot) → None ≡ kept q r
+pub stands_dropped : (t : Tree) (q : Query) (rs : List Rec) (r : Rec) (y : Tally) (rows : List NumberedRow) → None ≡ kept q r
     → Holds t q (filter_map (kept q) rs) y rows → Holds t q (filter_map (kept q) (rs ++ r ∷ [])) y rows
 stands_dropped t q rs r y rows is h =
     subst (λ ks. Holds t q ks y rows) (sym (kept_more q rs r None is ∙ append-nil (filter_map (kept q) rs))) h

@@ -10,7 +10,9 @@ use Rattle.cal_context.specs.declared.numbers.NodeNumber.{NodeNumber}
 use Rattle.cal_context.specs.declared.snapshot.Immediate.{Immediate}
 use Rattle.cal_context.specs.declared.snapshot.Snapshot.{Snapshot}
 use Rattle.cal_context.proofs.CallerLemmas.{Grows-refl}
+use Rattle.cal_filter.specs.Known.{Covers}
 use Rattle.cal_ql.specs.declared.query.Query.{Query}
+use Rattle.cal_rowset.specs.NumberedRows.{IsWithin, NumberedRow, meant, numbered}
 use Rattle.cal_value.specs.declared.record.Rec.{Rec}
 use Rattle.cal_engine.specs.Counters.{AreReadyCounters}
 use Rattle.cal_engine.specs.Folding.{Gathers, groups_over}
@@ -22,26 +24,29 @@ use Rattle.cal_engine.specs.Readings.{parts_of, reading_of}
 use Rattle.cal_engine.specs.Rows.{is_aggregated, row_of, rows_of}
 use Rattle.cal_engine.specs.Sieves.{AreReadySieves, AreSieves}
 use Rattle.cal_engine.specs.SnapshotRows.{AreRows}
-use Rattle.cal_engine.specs.Tallies.{FindsKey, Holds, HoldsIn, IsTally}
+use Rattle.cal_engine.specs.Tallies.{AllKnowSoMany, Holds, HoldsIn, IsReadyTally, IsTally}
 use Rattle.cal_engine.specs.declared.key.GroupKey.{GroupKey}
 use Rattle.cal_engine.specs.declared.sieve.Sieve.{Sieve}
 use Rattle.cal_engine.specs.declared.tally.Tally.{Tally}
 use Rattle.cal_engine.specs.FoldGrows.{grouped_in-Grows, keys-Grows, room_grows}
-use Rattle.cal_engine.proofs.Counting.{ready_counters}
+use Rattle.cal_engine.proofs.Counting.{counters_counted, counters_covered, ready_counters}
 use Rattle.cal_engine.proofs.Folds.{parts_of_one}
 use Rattle.cal_engine.proofs.Gathering.{groups_over-Gathers}
 use Rattle.cal_engine.proofs.KeyLemmas.{gathered_within, gathers_in, room_context}
-use Rattle.cal_engine.proofs.Sifting.{ready_stays}
+use Rattle.cal_engine.proofs.Sifting.{ready_stays, sieves_counted, sieves_covered}
 
 pub tallied : (t : Tree) (q : Query) (rs : List Rec) (r : Rec) (old new : Tally) (parts : List Gathered) (key : GroupKey)
     → IsContext t → IsContext new.own → Grows old.own new.own → AreReadyCounters t q.aggs new.counters.items
-    → parts ≡ parts_of (map reading_of q.aggs) r → FindsKey t new.own q r new.sieves.items key
-    → GathersKey old.groups key parts new.groups → IsTally t q rs old → IsTally t q (rs ++ r ∷ []) new
-tallied t q rs r old new parts key context own_context grows counters read found gathers h = record {
+    → AreSieves t new.own (names_in q.group) new.sieves.items → parts ≡ parts_of (map reading_of q.aggs) r
+    → IsKeyOf (room_of q.group t new.own) (group_of q.group r) key
+    → GathersKey old.groups key parts new.groups → AllKnowSoMany new.known new.counters.items new.sieves.items
+    → IsTally t q rs old → IsTally t q (rs ++ r ∷ []) new
+tallied t q rs r old new parts key context own_context grows counters sieves read found gathers known h = record {
   counters = ready_counters t (map reading_of q.aggs) new.counters.items counters;
-  sieves = found.sieves;
-  keys = gathered_within (room_of q.group t new.own) old.groups new.groups key parts before found.key.within gathers;
+  sieves = sieves;
+  keys = gathered_within (room_of q.group t new.own) old.groups new.groups key parts before found.within gathers;
   groups = groups_over-Gathers q rs r (grouped_in (room_of q.group t new.own) old.groups) (grouped_in (room_of q.group t new.own) new.groups) was to_group;
+  known = known;
 }
   where
     room_has_grown : Grows (room_of q.group t old.own) (room_of q.group t new.own)
@@ -56,15 +61,45 @@ tallied t q rs r old new parts key context own_context grows counters read found
     to_key : Gathers (grouped_in (room_of q.group t new.own) old.groups) (key_in (room_of q.group t new.own) key) parts
         (grouped_in (room_of q.group t new.own) new.groups)
     to_key = gathers_in (room_of q.group t new.own) (room_context q.group t new.own context own_context) old.groups new.groups key parts before
-        found.key.within gathers
+        found.within gathers
 
     to_group : Gathers (grouped_in (room_of q.group t new.own) old.groups) (group_of q.group r) (parts_over q.aggs (r ∷ []))
         (grouped_in (room_of q.group t new.own) new.groups)
     to_group =
         subst (λ k. Gathers (grouped_in (room_of q.group t new.own) old.groups) k (parts_over q.aggs (r ∷ [])) (grouped_in (room_of q.group t new.own) new.groups))
-        found.key.is
+        found.is
         (subst (λ ps. Gathers (grouped_in (room_of q.group t new.own) old.groups) (key_in (room_of q.group t new.own) key) ps (grouped_in (room_of q.group t new.own) new.groups))
         (read ∙ parts_of_one q.aggs r) to_key)
+
+-- a tally that knows as much as the context has
+pub tally_covered : (t : Tree) (q : Query) (rs : List Rec) (y : Tally) → Covers t y.known → IsTally t q rs y → IsReadyTally t q rs y
+tally_covered t q rs y covers h = record {
+  is = h;
+  counters = counters_covered t y.known covers (map reading_of q.aggs) y.counters.items h.known.counters h.counters;
+  sieves = sieves_covered t y.own y.known covers (names_in q.group) y.sieves.items h.known.sieves h.sieves;
+}
+
+-- and one whose counters and sieves got to know it
+pub tally_caught_up : (t : Tree) (q : Query) (rs : List Rec) (old new : Tally) → Grows old.own new.own → new.groups ≡ old.groups
+    → new.known.attributes ≡ length t.attributes → new.known.nodes ≡ length t.paths → AreReadyCounters t q.aggs new.counters.items
+    → AreReadySieves t new.own (names_in q.group) new.sieves.items → IsTally t q rs old → IsReadyTally t q rs new
+tally_caught_up t q rs old new grows same attributes nodes counters sieves h = record {
+  is = record {
+    counters = ready_counters t (map reading_of q.aggs) new.counters.items counters;
+    sieves = ready_stays t (Grows-refl new.own) (names_in q.group) new.sieves.items sieves;
+    keys = subst (λ (g : Numbered). All (IsKeyIn (room_of q.group t new.own)) g.keys) (sym same) (keys-Grows rooms old.groups.keys h.keys);
+    groups = ap (grouped_in (room_of q.group t new.own)) same ∙ grouped_in-Grows rooms old.groups h.keys ∙ h.groups;
+    known = record {
+      counters = counters_counted t new.known attributes nodes (map reading_of q.aggs) new.counters.items counters;
+      sieves = sieves_counted t new.own new.known attributes nodes (names_in q.group) new.sieves.items sieves;
+    };
+  };
+  counters = counters;
+  sieves = sieves;
+}
+  where
+    rooms : Grows (room_of q.group t old.own) (room_of q.group t new.own)
+    rooms = room_grows q.group (Grows-refl t) grows
 
 -- no groups yet
 pub no_keys : (room : Tree) (g : Numbered) → g ≡ record { keys = []; parts = [] } → All (IsKeyIn room) g.keys
@@ -73,10 +108,10 @@ no_keys room g e = subst (λ (n : Numbered). All (IsKeyIn room) n.keys) (sym e) 
 pub no_groups_in : (room : Tree) (q : Query) (g : Numbered) → g ≡ record { keys = []; parts = [] } → grouped_in room g ≡ groups_over q []
 no_groups_in room q g e = ap (grouped_in room) e
 
-pub no_rows : (t : Tree) (rows : List Snapshot) → rows ≡ [] → AreRows t rows []
+pub no_rows : (t : Tree) (rows : List NumberedRow) → rows ≡ [] → AreRows t rows []
 no_rows t rows e = record {
-  within = subst (λ (ss : List Snapshot). All (IsIn t) ss) (sym e) (All-nil (IsIn t));
-  mean = ap (map (meaning t)) e;
+  within = subst (λ (ss : List NumberedRow). All (IsWithin t) ss) (sym e) (All-nil (IsWithin t));
+  mean = ap (map (meant t)) e;
 }
 
 -- the tree of the keys
@@ -89,33 +124,24 @@ room_by_nodes None t own e = refl
 room_by_nodes (Some names) t own e = absurd (true≢false e)
 
 -- the key of a record, without GROUP BY and with it
-pub finds_by_nodes : (t own : Tree) (q : Query) (r : Rec) (sieves : List Sieve) (key : GroupKey) → is_some q.group ≡ false
-    → AreSieves t own (names_in q.group) sieves → IsKeyOf t (group_of None r) key → FindsKey t own q r sieves key
-finds_by_nodes t own q r sieves key none are h = record { sieves = are; key = by q.group none }
-  where
-    by : (names : Option (List (List ℕ))) → is_some names ≡ false → IsKeyOf (room_of names t own) (group_of names r) key
-    by None e = h
-    by (Some ns) e = absurd (true≢false e)
+pub key_found_by_nodes : (t own : Tree) (names : Option (List (List ℕ))) (r : Rec) (key : GroupKey) → is_some names ≡ false
+    → IsKeyOf t (group_of None r) key → IsKeyOf (room_of names t own) (group_of names r) key
+key_found_by_nodes t own None r key e h = h
+key_found_by_nodes t own (Some names) r key e h = absurd (true≢false e)
 
-pub finds_by_names : (t mid own : Tree) (q : Query) (r : Rec) (sieves : List Sieve) (key : GroupKey) → is_some q.group ≡ true → Grows mid own
-    → AreReadySieves t mid (names_in q.group) sieves
-    → ((ns : List (List ℕ)) → AreReadySieves t mid ns sieves → IsKeyOf own (group_of (Some ns) r) key) → FindsKey t own q r sieves key
-finds_by_names t mid own q r sieves key some grows ready finds = record {
-  sieves = ready_stays t grows (names_in q.group) sieves ready;
-  key = by q.group some ready;
-}
-  where
-    by : (names : Option (List (List ℕ))) → is_some names ≡ true → AreReadySieves t mid (names_in names) sieves
-        → IsKeyOf (room_of names t own) (group_of names r) key
-    by None e k = absurd (true≢false (sym e))
-    by (Some ns) e k = finds ns k
+pub key_found_by_names : (t mid own : Tree) (names : Option (List (List ℕ))) (r : Rec) (sieves : List Sieve) (key : GroupKey) → is_some names ≡ true
+    → AreReadySieves t mid (names_in names) sieves
+    → ((ns : List (List ℕ)) → AreReadySieves t mid ns sieves → IsKeyOf own (group_of (Some ns) r) key)
+    → IsKeyOf (room_of names t own) (group_of names r) key
+key_found_by_names t mid own None r sieves key e ready finds = absurd (true≢false (sym e))
+key_found_by_names t mid own (Some names) r sieves key e ready finds = finds names ready
 
 -- what is held, in the tree of the keys
 either_false : (a b : Bool) → (a || b) ≡ false → a ≡ false
 either_false true b e = absurd (true≢false e)
 either_false false b e = refl
 
-pub holds_in : (t : Tree) (q : Query) (ks : List Rec) (y : Tally) (made : List Snapshot) (room : Tree) (g : Numbered) → room ≡ room_of q.group t y.own
+pub holds_in : (t : Tree) (q : Query) (ks : List Rec) (y : Tally) (made : List NumberedRow) (room : Tree) (g : Numbered) → room ≡ room_of q.group t y.own
     → g ≡ y.groups → Holds t q ks y made → HoldsIn room q ks g made
 holds_in t q ks y made room g is same h = record {
   groups = λ agg. subst (λ (n : Numbered). AreGroups room q ks n) (sym same)
@@ -125,39 +151,31 @@ holds_in t q ks y made room g is same h = record {
 }
 
 -- the rows of what is held
-pub rows_held : (t : Tree) (q : Query) (ks made : List Rec) (g : Numbered) (rows : List Snapshot) → is_aggregated q ≡ true
+pub rows_held : (t : Tree) (q : Query) (ks made : List Rec) (g : Numbered) (rows : List NumberedRow) → is_aggregated q ≡ true
     → (AreGroups t q ks g → made ≡ map (row_of q ks) (groups_of q.group ks)) → HoldsIn t q ks g rows → made ≡ rows_of q ks
 rows_held t q ks made g rows agg makes h =
     makes (h.groups agg) ∙ sym (ap (λ b. if b then map (row_of q ks) (groups_of q.group ks) else ks) agg)
 
-pub rows_plain : (t : Tree) (q : Query) (ks : List Rec) (g : Numbered) (rows : List Snapshot) → is_aggregated q ≡ false → HoldsIn t q ks g rows
-    → map (meaning t) rows ≡ rows_of q ks
+pub rows_plain : (t : Tree) (q : Query) (ks : List Rec) (g : Numbered) (rows : List NumberedRow) → is_aggregated q ≡ false → HoldsIn t q ks g rows
+    → map (meant t) rows ≡ rows_of q ks
 rows_plain t q ks g rows plain h =
     (h.rows plain).mean ∙ sym (ap (λ b. if b then map (row_of q ks) (groups_of q.group ks) else ks) plain)
 
 -- one more record that is held
-pub holds_group : (t : Tree) (q : Query) (ks : List Rec) (r : Rec) (y z : Tally) (rows now : List Snapshot) → is_aggregated q ≡ true
+pub holds_group : (t : Tree) (q : Query) (ks : List Rec) (r : Rec) (y z : Tally) (rows now : List NumberedRow) → is_aggregated q ≡ true
     → (IsTally t q ks y → IsTally t q (ks ++ r ∷ []) z) → Holds t q ks y rows → Holds t q (ks ++ r ∷ []) z now
 holds_group t q ks r y z rows now agg takes h = record {
   groups = λ is. takes (h.groups is);
   rows = λ isnt. absurd (true≢false (sym agg ∙ isnt));
 }
 
-pub holds_row : (t : Tree) (q : Query) (ks : List Rec) (row copy : Snapshot) (y z : Tally) (rows now : List Snapshot) → is_aggregated q ≡ false
-    → now ≡ rows ++ copy ∷ [] → copy.nodes.items ≡ row.nodes.items → copy.imms.items ≡ row.imms.items → IsIn t row
-    → Holds t q ks y rows → Holds t q (ks ++ meaning t row ∷ []) z now
-holds_row t q ks row copy y z rows now agg more nodes imms within h = record {
+pub holds_row : (t : Tree) (q : Query) (ks : List Rec) (row : Snapshot) (y z : Tally) (rows now : List NumberedRow) → is_aggregated q ≡ false
+    → now ≡ rows ++ numbered row ∷ [] → IsIn t row → Holds t q ks y rows → Holds t q (ks ++ meaning t row ∷ []) z now
+holds_row t q ks row y z rows now agg more within h = record {
   groups = λ so. absurd (true≢false (sym so ∙ agg));
   rows = λ isnt. let are = h.rows isnt in record {
-    within = subst (λ (ss : List Snapshot). All (IsIn t) ss) (sym more) (All-push (IsIn t) rows copy are.within copied);
-    mean =
-        ap (map (meaning t)) more ∙ map-append (meaning t) rows (copy ∷ [])
-        ∙ (λ i. are.mean i ++ record { paths = map (path_at t) (nodes i); imms = map (entry_of t) (imms i) } ∷ []);
+    within = subst (λ (ss : List NumberedRow). All (IsWithin t) ss) (sym more)
+        (All-push (IsWithin t) rows (numbered row) are.within (record { nodes = within.nodes; imms = within.imms }));
+    mean = ap (map (meant t)) more ∙ map-append (meant t) rows (numbered row ∷ []) ∙ ap (λ rs. rs ++ meaning t row ∷ []) are.mean;
   };
 }
-  where
-    copied : IsIn t copy
-    copied = record {
-      nodes = subst (λ (ns : List NodeNumber). All (IsBelowRoot t) ns) (sym nodes) within.nodes;
-      imms = subst (λ (is : List Immediate). All (λ i. i.attribute.0 < length t.attributes) is) (sym imms) within.imms;
-    }

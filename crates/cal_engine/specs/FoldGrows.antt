@@ -1,28 +1,30 @@
 -- What a fold over snapshots has taken stays while the context grows.
-use Rattle.std.specs.Prelude.{◌≡◌, ℕ, ◌<◌, List, Option, None, Some, length, map, filter}
+use Rattle.std.specs.Prelude.{◌≡◌, ℕ, ◌<◌, false, List, Option, None, Some, length, map, filter}
 use Rattle.std.specs.Prelude.{slice_index_or as get_or}
 use Rattle.std.specs.List.{All, AllZip, filter_map}
 use Rattle.std.proofs.Common.{refl, sym, ap, subst, ◌∙◌}
 use Rattle.std.proofs.lemmas.List.Elements.{All-weaker}
-use Rattle.cal_context.specs.Snapshots.{IsBelowRoot, IsIn, meaning}
+use Rattle.cal_context.specs.Snapshots.{IsBelowRoot, entry_of}
 use Rattle.cal_context.specs.Tree.{Tree, Grows, path_at}
-use Rattle.cal_context.specs.declared.snapshot.Snapshot.{Snapshot}
-use Rattle.cal_context.proofs.CallerLemmas.{Grows-refl, IsIn-Grows, meaning-Grows}
-use Rattle.cal_context.proofs.CallerLemmas.{path_at-Grows, within_paths}
+use Rattle.cal_context.specs.declared.snapshot.Immediate.{Immediate}
+use Rattle.cal_context.proofs.CallerLemmas.{Grows-refl, attribute_at-Grows}
+use Rattle.cal_context.proofs.CallerLemmas.{path_at-Grows, within_attributes, within_paths}
 use Rattle.cal_context.proofs.ListLemmas.{map-alike}
 use Rattle.cal_filter.specs.Kept.{kept}
 use Rattle.cal_filter.specs.Known.{Knows}
 use Rattle.cal_filter.proofs.Growing.{filter-Grows, knows-Grows}
 use Rattle.cal_filter.proofs.Zips.{zip_weaker}
 use Rattle.cal_ql.specs.declared.query.Query.{Query}
+use Rattle.cal_rowset.specs.NumberedRows.{IsWithin, NumberedRow, meant}
 use Rattle.cal_value.specs.Reading.{IsSmall}
 use Rattle.cal_value.specs.declared.record.Rec.{Rec}
+use Rattle.cal_engine.specs.Choices.{chooses_attribute}
 use Rattle.cal_engine.specs.Counters.{IsCounter}
 use Rattle.cal_engine.specs.Gates.{IsGate}
 use Rattle.cal_engine.specs.Keys.{IsKeyIn, key_in, names_in, room_of}
 use Rattle.cal_engine.specs.Numbered.{Numbered, grouped_in}
 use Rattle.cal_engine.specs.Readings.{reading_of}
-use Rattle.cal_engine.specs.Sieves.{AreSieves, Sifts, in_paths, part_at}
+use Rattle.cal_engine.specs.Sieves.{AreSieves, Sifts, choice_of, in_paths, part_at}
 use Rattle.cal_engine.specs.SnapshotRows.{AreRows}
 use Rattle.cal_engine.specs.Standing.{HasFolded}
 use Rattle.cal_engine.specs.Tallies.{IsTally}
@@ -93,6 +95,11 @@ sieves-Grows {t} {u} grows own names sieves h = record {
         leads = subst (λ p. Leads own (in_paths s p) (part_at s n))
             (sym (path_at-Grows grows n old.within)) old.leads;
       };
+      attributes = λ a l. let old = k.attributes a l in record {
+        within = within_attributes grows a.0 old.within;
+        is = old.is ∙ ap (chooses_attribute false (choice_of s))
+            (sym (attribute_at-Grows grows a old.within));
+      };
     }
 
 pub gate-Grows : {old new : Tree} → Grows old new → (q : Query) (g : Gate) → IsGate old q g
@@ -117,16 +124,39 @@ tally-Grows {t} {u} grows q rs y h =
       sieves = sieves-Grows grows y.own _ y.sieves.items h.sieves;
       keys = keys-Grows rooms y.groups.keys h.keys;
       groups = grouped_in-Grows rooms y.groups h.keys ∙ h.groups;
+      known = h.known;
     }
 
 -- rows by number mean the same records
-pub rows-Grows : {t u : Tree} → Grows t u → (rows : List Snapshot) (rs : List Rec)
+row-Grows : {t u : Tree} → Grows t u → (row : NumberedRow) → IsWithin t row → IsWithin u row
+row-Grows {t} {u} grows row h = record {
+  nodes = All-weaker (IsBelowRoot t) (IsBelowRoot u)
+      (λ n b. record { below = b.below; within = within_paths grows n.0 b.within })
+      row.nodes h.nodes;
+  imms = All-weaker (λ (i : Immediate). i.attribute.0 < length t.attributes)
+      (λ (i : Immediate). i.attribute.0 < length u.attributes)
+      (λ i l. within_attributes grows i.attribute.0 l) row.imms h.imms;
+}
+
+meant-Grows : {t u : Tree} → Grows t u → (row : NumberedRow) → IsWithin t row
+    → meant u row ≡ meant t row
+meant-Grows {t} {u} grows row h = λ i. record {
+  paths = map-alike (path_at u) (path_at t) row.nodes
+      (λ n d l. path_at-Grows grows (get_or row.nodes n d) (h.nodes n d l).within) i;
+  imms = map-alike (entry_of u) (entry_of t) row.imms
+      (λ n d l j. record {
+        attr = attribute_at-Grows grows (get_or row.imms n d).attribute (h.imms n d l) j;
+        value = (get_or row.imms n d).value;
+      }) i;
+}
+
+pub rows-Grows : {t u : Tree} → Grows t u → (rows : List NumberedRow) (rs : List Rec)
     → AreRows t rows rs → AreRows u rows rs
 rows-Grows {t} {u} grows rows rs h = record {
-  within = All-weaker (IsIn t) (IsIn u) (IsIn-Grows grows) rows h.within;
+  within = All-weaker (IsWithin t) (IsWithin u) (row-Grows grows) rows h.within;
   mean =
-      map-alike (meaning u) (meaning t) rows
-      (λ n d l. meaning-Grows grows (get_or rows n d) (h.within n d l))
+      map-alike (meant u) (meant t) rows
+      (λ n d l. meant-Grows grows (get_or rows n d) (h.within n d l))
       ∙ h.mean;
 }
 
@@ -138,6 +168,6 @@ HasFolded-stays fold old new rs h grows = record {
   holds = record {
     groups = λ is. tally-Grows grows fold.query (filter_map (kept fold.query) rs) fold.tally
         (h.holds.groups is);
-    rows = λ isnt. rows-Grows grows fold.rows.items _ (h.holds.rows isnt);
+    rows = λ isnt. rows-Grows grows fold.rows _ (h.holds.rows isnt);
   };
 }

@@ -14,4 +14,4 @@ use Rattle.cal_engine.specs.declared.snapshot_fold.SnapshotFold.{SnapshotFold}
 pub record HasFolded (fold : SnapshotFold) (t : Tree) (rs : List Rec) : Type 0 where
   pub valid : IsValidQuery fold.query
   pub gate : IsGate t fold.query fold.gate
-  pub holds : Holds t fold.query (filter_map (kept fold.query) rs) fold.tally fold.rows.items
+  pub holds : Holds t fold.query (filter_map (kept fold.query) rs) fold.tally fold.rows

@@ -3,21 +3,29 @@ use Rattle.std.specs.Prelude.{◌≡◌, ℕ, Bool, true, false, ◌<◌, List, 
 use Rattle.std.specs.List.{All}
 use Rattle.cal_context.specs.Lists.{AreApart, Interns}
 use Rattle.cal_context.specs.Tree.{Tree}
-use Rattle.cal_context.specs.declared.snapshot.Snapshot.{Snapshot}
+use Rattle.cal_filter.specs.Known.{KnowsSoMany}
+use Rattle.cal_filter.specs.declared.counts.Counts.{Counts}
 use Rattle.cal_ql.specs.declared.query.Query.{Query}
+use Rattle.cal_rowset.specs.NumberedRows.{NumberedRow}
 use Rattle.cal_value.specs.declared.record.Rec.{Rec}
-use Rattle.cal_engine.specs.Counters.{AreCounters}
+use Rattle.cal_engine.specs.Counters.{AreCounters, AreReadyCounters}
 use Rattle.cal_engine.specs.Folding.{Grouped, groups_over, put_parts}
 use Rattle.cal_engine.specs.Groups.{group_of}
 use Rattle.cal_engine.specs.Keys.{IsKeyIn, IsKeyOf, key_in, names_in, room_of}
 use Rattle.cal_engine.specs.Numbered.{AreGroups, Numbered, grouped_in}
 use Rattle.cal_engine.specs.Parts.{Gathered}
 use Rattle.cal_engine.specs.Rows.{is_aggregated}
-use Rattle.cal_engine.specs.Sieves.{AreSieves}
+use Rattle.cal_engine.specs.Sieves.{AreReadySieves, AreSieves, SiftsSoMany}
 use Rattle.cal_engine.specs.SnapshotRows.{AreRows}
+use Rattle.cal_engine.specs.declared.counter.Counter.{Counter}
 use Rattle.cal_engine.specs.declared.key.GroupKey.{GroupKey}
 use Rattle.cal_engine.specs.declared.sieve.Sieve.{Sieve}
 use Rattle.cal_engine.specs.declared.tally.Tally.{Tally}
+
+-- all counters and sieves know at least so many attributes and nodes
+pub record AllKnowSoMany (n : Counts) (cs : List Counter) (ss : List Sieve) : Type 0 where
+  pub counters : All (λ (c : Counter). All (KnowsSoMany n) c.seekers.items) cs
+  pub sieves : All (SiftsSoMany n) ss
 
 -- The groups by numbers are those of these records, and what is kept beside numbers is right.
 pub record IsTally (t : Tree) (q : Query) (rs : List Rec) (y : Tally) : Type 0 where
@@ -25,21 +33,22 @@ pub record IsTally (t : Tree) (q : Query) (rs : List Rec) (y : Tally) : Type 0 w
   pub sieves : AreSieves t y.own (names_in q.group) y.sieves.items
   pub keys : All (IsKeyIn (room_of q.group t y.own)) y.groups.keys
   pub groups : grouped_in (room_of q.group t y.own) y.groups ≡ groups_over q rs
+  pub known : AllKnowSoMany y.known y.counters.items y.sieves.items
 
--- the key of a record was found
-pub record FindsKey (t own : Tree) (q : Query) (r : Rec) (known : List Sieve) (found : GroupKey)
-    : Type 0 where
-  pub sieves : AreSieves t own (names_in q.group) known
-  pub key : IsKeyOf (room_of q.group t own) (group_of q.group r) found
+-- and its counters and sieves know the whole context
+pub record IsReadyTally (t : Tree) (q : Query) (rs : List Rec) (y : Tally) : Type 0 where
+  pub is : IsTally t q rs y
+  pub counters : AreReadyCounters t q.aggs y.counters.items
+  pub sieves : AreReadySieves t y.own (names_in q.group) y.sieves.items
 
 -- A query's rows or groups are those of the kept records.
-pub record Holds (t : Tree) (q : Query) (ks : List Rec) (y : Tally) (made : List Snapshot)
+pub record Holds (t : Tree) (q : Query) (ks : List Rec) (y : Tally) (made : List NumberedRow)
     : Type 0 where
   pub groups : is_aggregated q ≡ true → IsTally t q ks y
   pub rows : is_aggregated q ≡ false → AreRows t made ks
 
 -- The same in the tree in which the keys of groups lie.
-pub record HoldsIn (t : Tree) (q : Query) (ks : List Rec) (g : Numbered) (made : List Snapshot)
+pub record HoldsIn (t : Tree) (q : Query) (ks : List Rec) (g : Numbered) (made : List NumberedRow)
     : Type 0 where
   pub groups : is_aggregated q ≡ true → AreGroups t q ks g
   pub rows : is_aggregated q ≡ false → AreRows t made ks

@@ -127,10 +127,10 @@ impl GroupedRows {
         }
     }
 
-    /// About how many immediates a row has, so that one that is kept has no room to spare.
-    pub(crate) fn width(&self, number: usize) -> usize {
+    /// About how many immediates a row has, so that room for all is made at once.
+    pub(crate) fn width(&self) -> usize {
         let results = self.results.len();
-        if self.immediates(number) == NodeNumber::ROOT {
+        if self.immediates(0) == NodeNumber::ROOT {
             return results;
         }
         results.saturating_add(1)

@@ -9,7 +9,6 @@
 mod answering;
 mod below;
 mod columns;
-mod copying;
 mod counter;
 mod filtering;
 mod finishing;

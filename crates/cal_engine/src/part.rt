@@ -127,7 +127,11 @@ impl Part {
         if !number.is_small() {
             return Err(OutOfMemory);
         }
-        self.merge(&Part::one(kernel, *number))
+        // each kind of number on its own, so that no part of one number is made at run time
+        match number {
+            Num::Whole(whole) => self.merge(&Part::one(kernel, Num::Whole(*whole))),
+            Num::Fixed(fixed) => self.merge(&Part::one(kernel, Num::Fixed(*fixed))),
+        }
     }
 
     /// Takes another part of its kernel in behind this one. An `Err`, after 2^32 numbers or at a

@@ -6,14 +6,15 @@ ghost use Rattle.cal_value.specs.Flat.{joined as joined_paths};
 ghost use Rattle.cal_value.specs.declared.attribute.Entry.{Entry as AnEntry};
 ghost use Rattle.cal_engine.specs.Choices.{chooses_attribute};
 ghost use Rattle.cal_engine.specs.Groups.{takes_attribute};
-ghost use Rattle.cal_engine.specs.Sieves.{IsSifted, Sifts, SiftsAll, beside_paths, choice_of};
+ghost use Rattle.cal_engine.specs.Sieves.{ChoosesAll, IsSifted, Sifts, SiftsAll, SiftsAttributes};
+ghost use Rattle.cal_engine.specs.Sieves.{beside_paths, choice_of};
 ghost use Rattle.cal_engine.specs.Sieves.{in_paths, part_at};
 ghost use Rattle.cal_engine.specs.Totals.{Leads};
 
 use crate::grouping::takes;
 use crate::stepping::{joined, step, step_near};
-use cal_context::{Context, Immediate, NodeNumber};
-use cal_filter::NodeMemo;
+use cal_context::{AttributeNumber, Context, Immediate, NodeNumber};
+use cal_filter::{AttributeMemo, NodeMemo};
 use cal_value::{Attribute, OutOfMemory, Seq, Text};
 use std::alloc::Global;
 
@@ -26,6 +27,8 @@ pub(crate) struct Sieve {
     name: Text,
     // of each node: the node of what is taken of its path, in the tree of groups
     nodes: NodeMemo,
+    // of each attribute: whether its immediates are taken
+    chosen: AttributeMemo,
 }
 
 impl Sieve {
@@ -38,10 +41,11 @@ impl Sieve {
             earlier,
             name,
             nodes: NodeMemo::new(alloc),
+            chosen: AttributeMemo::new(alloc),
         }
     }
 
-    /// Gets to know the nodes that are new in a context.
+    /// Gets to know what is new in a context.
     pub(crate) fn catch_up(
         &mut self,
         context: &Context,
@@ -49,6 +53,35 @@ impl Sieve {
     ) -> Result<(), OutOfMemory>
         ensures sifts { OnOk result
             (Sifts context.now own.old self.old → SiftsAll context.now own.new self.new) }
+        ensures same { OnOk result (choice_of self.new ≡ choice_of self.old) }
+        ensures grows { OnOk result (Grows own.old own.new) }
+    {
+        self.know_attributes(context)?;
+        self.know_nodes(context, own)
+    }
+
+    /// Gets to know the attributes that are new in a context.
+    fn know_attributes(&mut self, context: &Context) -> Result<(), OutOfMemory>
+        ensures sifts { OnOk result ((own : Tree)
+            → Sifts context.now own self.old → SiftsAttributes context.now own self.new) }
+        ensures same { OnOk result (choice_of self.new ≡ choice_of self.old) }
+    {
+        for place in self.chosen.len()..context.attribute_count() {
+            let Ok(number) = u32::try_from(place) else {
+                return Err(OutOfMemory);
+            };
+            let attribute = context.attribute_at(AttributeNumber(number));
+            let chosen = self.chooses(false, attribute);
+            self.chosen.push(chosen)?;
+        }
+        Ok(())
+    }
+
+    /// Gets to know the nodes that are new in a context.
+    fn know_nodes(&mut self, context: &Context, own: &mut Context) -> Result<(), OutOfMemory>
+        ensures sifts { OnOk result
+            (SiftsAttributes context.now own.old self.old
+            → SiftsAll context.now own.new self.new) }
         ensures same { OnOk result (choice_of self.new ≡ choice_of self.old) }
         ensures grows { OnOk result (Grows own.old own.new) }
     {
@@ -133,11 +166,14 @@ impl Sieve {
         near: NodeNumber,
     ) -> Result<NodeNumber, OutOfMemory>
         requires { All (λ i. i.attribute.0 < length context.now.attributes) imms.now }
-        ensures leads { IfOk result (λ n. (es : List AnEntry) → Leads own.old es from
-            → Leads own.new
+        ensures leads { IfOk result (λ n. ChoosesAll context.now self.now
+            → (es : List AnEntry) → Leads own.old es from → Leads own.new
             (es ++ beside_paths self.now (map (entry_of context.now) imms.now)) n) }
         ensures grows { OnOk result (Grows own.old own.new) }
     {
+        if self.chosen.is_none() {
+            return Ok(from);
+        }
         let mut node = from;
         for imm in imms {
             node = self.add_one(context, own, node, imm, near)?;
@@ -154,14 +190,15 @@ impl Sieve {
         near: NodeNumber,
     ) -> Result<NodeNumber, OutOfMemory>
         requires { imm.now.attribute.0 < length context.now.attributes }
-        ensures leads { IfOk result (λ n. (es : List AnEntry) → Leads own.old es from
+        ensures leads { IfOk result (λ n. ChoosesAll context.now self.now
+            → (es : List AnEntry) → Leads own.old es from
             → Leads own.new (es ++ beside_paths self.now (entry_of context.now imm.now ∷ [])) n) }
         ensures grows { OnOk result (Grows own.old own.new) }
     {
-        let attribute = context.attribute_at(imm.attribute);
-        if !self.chooses(false, attribute) {
+        if !self.chosen.get(imm.attribute) {
             return Ok(from);
         }
+        let attribute = context.attribute_at(imm.attribute);
         let node = step_near(own, from, attribute, &imm.value, near)?;
         Ok(node)
     }

@@ -6,7 +6,7 @@ ghost use Rattle.cal_value.specs.Flat.{joined as joined_paths};
 ghost use Rattle.cal_engine.specs.Choices.{choices_of};
 ghost use Rattle.cal_engine.specs.Groups.{has_entries};
 ghost use Rattle.cal_engine.specs.Keys.{ArePaths, names_in, with_node};
-ghost use Rattle.cal_engine.specs.Sieves.{AreSieves, AreReadySieves, Sifts, SiftsAll};
+ghost use Rattle.cal_engine.specs.Sieves.{AreSieves, AreReadySieves, ChoosesAll, Sifts, SiftsAll};
 ghost use Rattle.cal_engine.specs.Sieves.{beside_paths, choice_of, in_paths};
 ghost use Rattle.cal_engine.specs.Totals.{Leads};
 
@@ -52,7 +52,7 @@ fn copies(alloc: Global, names: &[Text]) -> Result<Seq<Text>, OutOfMemory>
     Ok(Seq::from_vec(copies))
 }
 
-/// Lets each sieve know the nodes that are new in a context.
+/// Lets each sieve know what is new in a context.
 pub(crate) fn know_nodes(
     sieves: &mut [Sieve],
     context: &Context,
@@ -112,8 +112,9 @@ pub(crate) fn key_imms(
     near: NodeNumber,
 ) -> Result<NodeNumber, OutOfMemory>
     requires { All (λ i. i.attribute.0 < length context.now.attributes) imms.now }
-    ensures leads { IfOk result (Leads own.new (joined_paths
-        (map (λ s. beside_paths s (map (entry_of context.now) imms.now)) sieves.now))) }
+    ensures leads { IfOk result (λ n. All (ChoosesAll context.now) sieves.now
+        → Leads own.new (joined_paths
+        (map (λ s. beside_paths s (map (entry_of context.now) imms.now)) sieves.now)) n) }
     ensures grows { OnOk result (Grows own.old own.new) }
 {
     own.has_each_once();

@@ -13,16 +13,15 @@ ghost use Rattle.cal_engine.specs.Making.{MakesRows};
 ghost use Rattle.cal_engine.specs.Standing.{HasFolded};
 ghost use Rattle.cal_engine.specs.Tallies.{Holds};
 
-use crate::copying::copy_of;
 use crate::fold::is_aggregated;
 use crate::gate::{Gate, copy_into};
 use crate::grouped_rows::GroupedRows;
 use crate::snapshot_columns::snapshot_columns;
-use crate::snapshot_rows::ordered_rows;
+use crate::snapshot_rows::{OrderedRows, ordered_rows};
 use crate::tally::{TalliedGroups, Tally};
 use cal_context::{Context, Snapshot, Taker};
 use cal_ql::Query;
-use cal_rowset::SnapshotRowset;
+use cal_rowset::{SnapshotList, SnapshotRowset};
 use cal_value::{OutOfMemory, TryCopy};
 use std::alloc::Global;
 
@@ -35,7 +34,7 @@ pub struct SnapshotFold {
     query: Query,
     gate: Gate,
     tally: Tally,
-    rows: Vec<Snapshot>,
+    rows: SnapshotList,
     // room for a record with LET's immediates
     full: Snapshot,
 }
@@ -60,7 +59,7 @@ impl SnapshotFold {
             query: query.copy(alloc)?,
             gate,
             tally,
-            rows: Vec::new(alloc),
+            rows: SnapshotList::new(alloc),
             full: Snapshot::new(alloc),
         })
     }
@@ -122,10 +121,10 @@ impl SnapshotFold {
         } = self;
         let TalliedGroups { own, groups } = tally.into_groups();
         let mut room = room(query.group.is_some(), context, own);
-        let rows = ordered_rows(alloc, &query, &mut room, groups, rows)?;
-        let columns = snapshot_columns(alloc, &query, &room, &rows)?;
+        let OrderedRows { rows, order } = ordered_rows(alloc, &query, &mut room, groups, rows)?;
+        let columns = snapshot_columns(alloc, &query, &room, &rows, &order)?;
         let all = query.select.is_none();
-        Ok(SnapshotRowset::new(room, rows, columns, all))
+        Ok(SnapshotRowset::new(room, rows, order, columns, all))
     }
 }
 
@@ -204,18 +203,18 @@ fn take_kept(
     context: &Context,
     snapshot: &Snapshot,
     tally: &mut Tally,
-    rows: &mut Vec<Snapshot>,
+    rows: &mut SnapshotList,
 ) -> Result<(), OutOfMemory>
     requires { IsIn context.now snapshot.now }
     ensures { OnOk result ((ks : List ARecord) → Holds context.now query.now ks tally.old
-        rows.old.items → Holds context.now query.now (ks ++ meaning context.now snapshot.now ∷ [])
-        tally.new rows.new.items) }
+        rows.old → Holds context.now query.now (ks ++ meaning context.now snapshot.now ∷ [])
+        tally.new rows.new) }
 {
     if is_aggregated(query) {
         tally.take(alloc, query.group.is_some(), context, snapshot)?;
         return Ok(());
     }
-    rows.push(copy_of(alloc, snapshot)?)?;
+    rows.push(alloc, snapshot)?;
     Ok(())
 }
 

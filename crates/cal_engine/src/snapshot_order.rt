@@ -1,48 +1,86 @@
-ghost use Rattle.std.specs.Prelude.{◌≡◌, map, IfOk};
+ghost use Rattle.std.specs.Prelude.{◌≡◌, ◌∷◌, map, IfOk};
 ghost use Rattle.std.specs.List.{All};
-ghost use Rattle.cal_context.specs.Snapshots.{IsIn, meaning};
+ghost use Rattle.std.specs.Option.{option_copied};
 ghost use Rattle.cal_filter.specs.Known.{KnowsAll, sought};
 ghost use Rattle.cal_filter.specs.Sought.{any_of, value_sought};
+ghost use Rattle.cal_rowset.specs.NumberedRows.{IsWithin, in_order, meant, nth_numbered};
 ghost use Rattle.cal_value.specs.Flat.{flat};
-ghost use Rattle.cal_engine.specs.SnapshotRanks.{rank_by};
+ghost use Rattle.cal_engine.specs.Ranks.{value_in, values_cmp};
+ghost use Rattle.cal_engine.specs.SnapshotRanks.{AreRanked, others_in, ranked_values};
 ghost use Rattle.cal_engine.specs.Sorting.{sorted_rows};
 
-use crate::sorting::{compare, copied};
-use cal_context::{Context, Snapshot};
+use crate::sorting::{compare_values, directed};
+use cal_context::Context;
 use cal_filter::Seeker;
 use cal_ql::OrderKey;
+use cal_rowset::SnapshotList;
 use cal_value::{OutOfMemory, Seq, TryCopy, Variant};
 use std::alloc::Global;
+use std::cmp::Ordering;
 
-/// A row by number beside the values by which it is ordered, one for each key.
+/// The place of a row beside the values by which it is ordered: that of the first key, and those of
+/// the others, if there are any.
 #[derive(Drop)]
-pub(crate) struct RankedSnapshot {
-    values: Seq<Option<Variant>>,
-    row: Snapshot,
+pub(crate) struct RankedPlace<'a> {
+    first: Option<&'a Variant>,
+    others: Vec<Option<&'a Variant>>,
+    place: usize,
 }
 
-/// Rows by number sorted stably. It takes memory for their values and for the nodes of the context,
-/// and n log n comparisons of the values.
-pub(crate) fn sorted_snapshots(
+/// The places of rows by number, sorted stably. It takes memory for their places and for the nodes
+/// of the context, and n log n comparisons of their values; no value is copied.
+pub(crate) fn sorted_places(
     alloc: Global,
     order: &Seq<OrderKey>,
     context: &Context,
-    rows: Vec<Snapshot>,
-) -> Result<Vec<Snapshot>, OutOfMemory>
-    requires { All (IsIn context.now) rows.items }
-    ensures within { IfOk result (λ sorted. All (IsIn context.now) sorted.items) }
-    ensures sorted { IfOk result (λ sorted. map (meaning context.now) sorted.items
-        ≡ sorted_rows order.now (map (meaning context.now) rows.items)) }
+    rows: &SnapshotList,
+) -> Result<Vec<usize>, OutOfMemory>
+    requires { All (IsWithin context.now) rows.now }
+    ensures { IfOk result (λ places. map (meant context.now) (in_order rows.now places.items)
+        ≡ sorted_rows order.now (map (meant context.now) rows.now)) }
 {
-    if order.is_empty() {
-        return Ok(rows);
-    }
     let order = order.as_slice();
     let seekers = seekers_of(alloc, order, context)?;
-    let mut ranked = ranked_snapshots(alloc, &seekers, context, rows)?;
-    ranked.sort_by(|one, other| compare(order, &one.values, &other.values))?;
-    let sorted = snapshots_of(alloc, ranked)?;
-    Ok(sorted)
+    let Some((first, others)) = seekers.split_first() else {
+        let places = all_places(alloc, rows)?;
+        return Ok(places);
+    };
+    let places = sorted_by(alloc, order, first, others, context, rows)?;
+    Ok(places)
+}
+
+/// The places of rows, sorted by the values that the seekers of the keys find.
+fn sorted_by(
+    alloc: Global,
+    order: &[OrderKey],
+    first: &Seeker,
+    others: &[Seeker],
+    context: &Context,
+    rows: &SnapshotList,
+) -> Result<Vec<usize>, OutOfMemory>
+    requires sought { map sought (first.now ∷ others.now)
+        ≡ map (λ key. any_of key.name) order.now }
+    requires first { KnowsAll context.now first.now }
+    requires others { All (KnowsAll context.now) others.now }
+    requires rows { All (IsWithin context.now) rows.now }
+    ensures { IfOk result (λ places. map (meant context.now) (in_order rows.now places.items)
+        ≡ sorted_rows order.now (map (meant context.now) rows.now)) }
+{
+    let mut ranked = ranked_places(alloc, first, others, context, rows)?;
+    ranked.sort_by(|one, other| compare_ranked(order, one, other))?;
+    let places = places_of(alloc, &ranked)?;
+    Ok(places)
+}
+
+/// The places of all rows, as they lie.
+fn all_places(alloc: Global, rows: &SnapshotList) -> Result<Vec<usize>, OutOfMemory>
+    ensures { IfOk result (λ places. in_order rows.now places.items ≡ rows.now) }
+{
+    let mut places = Vec::with_capacity(alloc, rows.len())?;
+    for place in 0..rows.len() {
+        places.push(place)?;
+    }
+    Ok(places)
 }
 
 /// Who looks for the values of keys, and knows the context.
@@ -64,49 +102,110 @@ fn seekers_of(
     Ok(seekers)
 }
 
-fn ranked_snapshots(
+/// The places of all rows beside their values.
+fn ranked_places<'a>(
     alloc: Global,
-    seekers: &[Seeker],
-    context: &Context,
-    rows: Vec<Snapshot>,
-) -> Result<Vec<RankedSnapshot>, OutOfMemory>
-    requires knows { All (KnowsAll context.now) seekers.now }
-    requires rows { All (IsIn context.now) rows.items }
-    ensures { IfOk result (λ ranked.
-        ranked.items ≡ map (rank_by context.now seekers.now) rows.items) }
+    first: &Seeker,
+    others: &[Seeker],
+    context: &'a Context,
+    rows: &'a SnapshotList,
+) -> Result<Vec<RankedPlace<'a>>, OutOfMemory>
+    requires first { KnowsAll context.now first.now }
+    requires others { All (KnowsAll context.now) others.now }
+    requires rows { All (IsWithin context.now) rows.now }
+    ensures { IfOk result (λ ranked. AreRanked context.now first.now others.now rows.now
+        rows.now ranked.items) }
 {
     let mut ranked = Vec::with_capacity(alloc, rows.len())?;
-    for row in rows {
-        let values = values_by(alloc, seekers, context, &row)?;
-        ranked.push(RankedSnapshot { values, row })?;
+    for place in 0..rows.len() {
+        ranked.push(RankedPlace {
+            first: value_at(first, context, rows, place),
+            others: values_at(alloc, others, context, rows, place)?,
+            place,
+        })?;
     }
     Ok(ranked)
 }
 
-fn values_by(
-    alloc: Global,
-    seekers: &[Seeker],
-    context: &Context,
-    row: &Snapshot,
-) -> Result<Seq<Option<Variant>>, OutOfMemory>
-    requires knows { All (KnowsAll context.now) seekers.now }
-    requires row { IsIn context.now row.now }
-    ensures { IfOk result (λ values. values
-        ≡ map (λ s. value_sought (sought s) (flat (meaning context.now row.now))) seekers.now) }
+/// The value of the row at a place that is sought.
+fn value_at<'a>(
+    seeker: &Seeker,
+    context: &'a Context,
+    rows: &'a SnapshotList,
+    place: usize,
+) -> Option<&'a Variant>
+    requires knows { KnowsAll context.now seeker.now }
+    requires rows { All (IsWithin context.now) rows.now }
+    ensures { option_copied result ≡ value_sought (sought seeker.now)
+        (flat (meant context.now (nth_numbered rows.now place))) }
 {
-    let mut values = Vec::with_capacity(alloc, seekers.len())?;
-    for seeker in seekers {
-        values.push(copied(alloc, seeker.find(context, row))?)?;
-    }
-    Ok(Seq::from_vec(values))
+    seeker.find_among(context, rows.nodes(place), rows.imms(place))
 }
 
-fn snapshots_of(alloc: Global, ranked: Vec<RankedSnapshot>) -> Result<Vec<Snapshot>, OutOfMemory>
-    ensures { IfOk result (λ rows. rows.items ≡ map (λ r. r.row) ranked.items) }
+fn values_at<'a>(
+    alloc: Global,
+    seekers: &[Seeker],
+    context: &'a Context,
+    rows: &'a SnapshotList,
+    place: usize,
+) -> Result<Vec<Option<&'a Variant>>, OutOfMemory>
+    requires knows { All (KnowsAll context.now) seekers.now }
+    requires rows { All (IsWithin context.now) rows.now }
+    ensures { IfOk result (λ values. map option_copied values.items
+        ≡ map (λ s. value_sought (sought s)
+        (flat (meant context.now (nth_numbered rows.now place)))) seekers.now) }
 {
-    let mut rows = Vec::with_capacity(alloc, ranked.len())?;
-    for RankedSnapshot { values: _, row } in ranked {
-        rows.push(row)?;
+    let mut values = Vec::new(alloc);
+    for seeker in seekers {
+        values.push(value_at(seeker, context, rows, place))?;
     }
-    Ok(rows)
+    Ok(values)
+}
+
+fn places_of(alloc: Global, ranked: &[RankedPlace<'_>]) -> Result<Vec<usize>, OutOfMemory>
+    ensures { IfOk result (λ places. places.items ≡ map (λ r. r.place) ranked.now) }
+{
+    let mut places = Vec::with_capacity(alloc, ranked.len())?;
+    for row in ranked {
+        places.push(row.place)?;
+    }
+    Ok(places)
+}
+
+/// The order of two rows by their values.
+fn compare_ranked(order: &[OrderKey], one: &RankedPlace<'_>, other: &RankedPlace<'_>) -> Ordering
+    ensures { result
+        ≡ values_cmp order.now (ranked_values one.now) (ranked_values other.now) }
+{
+    let Some((key, keys)) = order.split_first() else {
+        return Ordering::Equal;
+    };
+    let answer = compare_values(one.first, other.first);
+    if answer != Ordering::Equal {
+        return directed(key.down, answer);
+    }
+    compare_others(keys, &one.others, &other.others)
+}
+
+/// The order of two rows by their values of the keys behind the first one.
+fn compare_others(
+    order: &[OrderKey],
+    one: &[Option<&Variant>],
+    other: &[Option<&Variant>],
+) -> Ordering
+    ensures { result ≡ values_cmp order.now (others_in one.now) (others_in other.now) }
+{
+    for (place, key) in order.iter().enumerate() {
+        let answer = compare_values(value_of(one, place), value_of(other, place));
+        if answer != Ordering::Equal {
+            return directed(key.down, answer);
+        }
+    }
+    Ordering::Equal
+}
+
+fn value_of<'a>(values: &[Option<&'a Variant>], place: usize) -> Option<&'a Variant>
+    ensures { option_copied result ≡ value_in (others_in values.now) place }
+{
+    *values.get(place)?
 }

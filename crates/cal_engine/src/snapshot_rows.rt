@@ -1,8 +1,8 @@
 ghost use Rattle.std.specs.Prelude.{◌≡◌, List, map, IfOk};
 ghost use Rattle.std.specs.List.{All};
-ghost use Rattle.cal_context.specs.Snapshots.{IsIn, meaning};
 ghost use Rattle.cal_context.specs.Tree.{Grows};
 ghost use Rattle.cal_ql.specs.declared.query.Agg.{Agg as AnAgg};
+ghost use Rattle.cal_rowset.specs.NumberedRows.{IsWithin, in_order, meant};
 ghost use Rattle.cal_value.specs.declared.record.Rec.{Rec as ARecord};
 ghost use Rattle.cal_engine.specs.Making.{MakesRows};
 ghost use Rattle.cal_engine.specs.Rows.{rows_of};
@@ -12,12 +12,20 @@ ghost use Rattle.cal_engine.specs.Tallies.{HoldsIn};
 use crate::fold::is_aggregated;
 use crate::grouped_rows::GroupedRows;
 use crate::numbered::NumberedGroups;
-use crate::snapshot_order::sorted_snapshots;
+use crate::snapshot_order::sorted_places;
 use crate::within::are_in;
 use cal_context::{Context, Snapshot};
 use cal_ql::Query;
+use cal_rowset::SnapshotList;
 use cal_value::OutOfMemory;
 use std::alloc::Global;
+
+/// Rows by number, and their places in the order of an answer.
+#[derive(Drop)]
+pub(crate) struct OrderedRows {
+    pub(crate) rows: SnapshotList,
+    pub(crate) order: Vec<usize>,
+}
 
 /// The rows of an answer in their order, as snapshots of the context in which the keys of groups
 /// lie, or the kept records. The attributes of results are added to it. Rows that aren't about the
@@ -27,12 +35,12 @@ pub(crate) fn ordered_rows(
     query: &Query,
     context: &mut Context,
     groups: NumberedGroups,
-    kept: Vec<Snapshot>,
-) -> Result<Vec<Snapshot>, OutOfMemory>
-    ensures within { IfOk result (λ rows. All (IsIn context.new) rows.items) }
-    ensures rows { IfOk result (λ rows. (ks : List ARecord)
-        → HoldsIn context.old query.now ks groups kept.items
-        → map (meaning context.new) rows.items
+    kept: SnapshotList,
+) -> Result<OrderedRows, OutOfMemory>
+    ensures within { IfOk result (λ made. All (IsWithin context.new) made.rows) }
+    ensures rows { IfOk result (λ made. (ks : List ARecord)
+        → HoldsIn context.old query.now ks groups kept
+        → map (meant context.new) (in_order made.rows made.order.items)
         ≡ sorted_rows query.now.order (rows_of query.now ks)) }
     ensures grows { Grows context.old context.new }
 {
@@ -40,8 +48,8 @@ pub(crate) fn ordered_rows(
     if !are_in(context, &rows) {
         return Err(OutOfMemory);
     }
-    let sorted = sorted_snapshots(alloc, &query.order, context, rows)?;
-    Ok(sorted)
+    let order = sorted_places(alloc, &query.order, context, &rows)?;
+    Ok(OrderedRows { rows, order })
 }
 
 /// The rows of an answer before they are ordered.
@@ -50,11 +58,11 @@ fn made_rows(
     query: &Query,
     context: &mut Context,
     groups: NumberedGroups,
-    kept: Vec<Snapshot>,
-) -> Result<Vec<Snapshot>, OutOfMemory>
+    kept: SnapshotList,
+) -> Result<SnapshotList, OutOfMemory>
     ensures rows { IfOk result (λ rows. (ks : List ARecord)
-        → HoldsIn context.old query.now ks groups kept.items
-        → map (meaning context.new) rows.items ≡ rows_of query.now ks) }
+        → HoldsIn context.old query.now ks groups kept
+        → map (meant context.new) rows ≡ rows_of query.now ks) }
     ensures grows { Grows context.old context.new }
 {
     if is_aggregated(query) {
@@ -71,18 +79,15 @@ fn all_rows(
     alloc: Global,
     made: &GroupedRows,
     context: &Context,
-) -> Result<Vec<Snapshot>, OutOfMemory>
+) -> Result<SnapshotList, OutOfMemory>
     ensures { IfOk result (λ all. (aggs : List AnAgg) (rows : List ARecord)
-        → MakesRows context.now aggs made.now rows → map (meaning context.now) all.items ≡ rows) }
+        → MakesRows context.now aggs made.now rows → map (meant context.now) all ≡ rows) }
 {
-    let mut all = Vec::with_capacity(alloc, made.count())?;
+    let mut all = SnapshotList::with_room(alloc, made.count(), made.width())?;
+    let mut row = Snapshot::new(alloc);
     for number in 0..made.count() {
-        let mut row = Snapshot {
-            nodes: Vec::new(alloc),
-            imms: Vec::with_capacity(alloc, made.width(number))?,
-        };
         made.fill(context, number, &mut row)?;
-        all.push(row)?;
+        all.push(alloc, &row)?;
     }
     Ok(all)
 }

@@ -66,7 +66,7 @@ fn values_by(
 }
 
 /// A copy of a value that is there.
-pub(crate) fn copied(alloc: Global, value: Option<&Variant>) -> Result<Option<Variant>, OutOfMemory>
+fn copied(alloc: Global, value: Option<&Variant>) -> Result<Option<Variant>, OutOfMemory>
     ensures { IfOk result (λ copied. copied ≡ option_copied value.entry) }
 {
     match value {
@@ -115,11 +115,7 @@ fn rows_of(alloc: Global, ranked: Vec<Ranked>) -> Result<Seq<Rec>, OutOfMemory>
 }
 
 /// The order of two rows by their values.
-pub(crate) fn compare(
-    order: &[OrderKey],
-    one: &Seq<Option<Variant>>,
-    other: &Seq<Option<Variant>>,
-) -> Ordering
+fn compare(order: &[OrderKey], one: &Seq<Option<Variant>>, other: &Seq<Option<Variant>>) -> Ordering
     ensures { result ≡ values_cmp order.now one.now other.now }
 {
     for (place, key) in order.iter().enumerate() {
@@ -138,7 +134,7 @@ fn value_at(values: &Seq<Option<Variant>>, place: usize) -> Option<&Variant>
 }
 
 /// An absent value comes first.
-fn compare_values(one: Option<&Variant>, other: Option<&Variant>) -> Ordering
+pub(crate) fn compare_values(one: Option<&Variant>, other: Option<&Variant>) -> Ordering
     ensures { result ≡ option_cmp value_cmp (option_copied one.entry) (option_copied other.entry) }
 {
     match (one, other) {
@@ -150,7 +146,7 @@ fn compare_values(one: Option<&Variant>, other: Option<&Variant>) -> Ordering
 }
 
 /// The other way round for DESC.
-fn directed(down: bool, answer: Ordering) -> Ordering
+pub(crate) fn directed(down: bool, answer: Ordering) -> Ordering
     ensures { result ≡ directed_by down answer }
 {
     if down { answer.reverse() } else { answer }

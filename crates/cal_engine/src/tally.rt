@@ -4,9 +4,10 @@ ghost use Rattle.cal_context.specs.Snapshots.{IsIn, meaning};
 ghost use Rattle.cal_context.specs.Tree.{Grows, Tree};
 ghost use Rattle.cal_ql.specs.declared.query.Query.{Query as AQuery};
 ghost use Rattle.cal_value.specs.declared.record.Rec.{Rec as ARecord};
-ghost use Rattle.cal_engine.specs.Keys.{names_in};
-ghost use Rattle.cal_engine.specs.Sieves.{AreSieves};
-ghost use Rattle.cal_engine.specs.Tallies.{FindsKey, IsTally};
+ghost use Rattle.cal_engine.specs.Groups.{group_of};
+ghost use Rattle.cal_engine.specs.Keys.{IsKeyOf, names_in, room_of};
+ghost use Rattle.cal_engine.specs.Sieves.{AreReadySieves};
+ghost use Rattle.cal_engine.specs.Tallies.{IsReadyTally, IsTally};
 
 use crate::counter::{Counter, counters_of, know_all};
 use crate::key::{GroupKey, key_by_names, key_by_nodes};
@@ -15,6 +16,7 @@ use crate::reading::readings_of;
 use crate::sieve::Sieve;
 use crate::sieves::{know_nodes, sieves_for};
 use cal_context::{Context, NodeNumber, Snapshot};
+use cal_filter::Counts;
 use cal_ql::Query;
 use cal_value::OutOfMemory;
 use std::alloc::Global;
@@ -27,6 +29,8 @@ pub(crate) struct Tally {
     sieves: Vec<Sieve>,
     // the tree of groups, in which the paths lie that the names of GROUP BY take
     own: Context,
+    // so much of the context of records all counters and sieves know
+    known: Counts,
     groups: NumberedGroups,
     // room to work in
     nodes: Vec<NodeNumber>,
@@ -44,6 +48,7 @@ impl Tally {
             counters,
             sieves,
             own: Context::new(alloc),
+            known: Counts::NONE,
             groups: NumberedGroups::new(alloc),
             nodes: Vec::new(alloc),
         })
@@ -63,13 +68,13 @@ impl Tally {
             → IsTally context.now q (rs ++ meaning context.now snapshot.now ∷ []) self.new) }
     {
         context.has_each_once();
-        know_all(&mut self.counters, context)?;
+        self.catch_up(context)?;
         let key = key_of(
             alloc,
             by_name,
             context,
             snapshot,
-            &mut self.sieves,
+            &self.sieves,
             &mut self.own,
             self.groups.near(),
             mem::replace(&mut self.nodes, Vec::new(alloc)),
@@ -78,6 +83,20 @@ impl Tally {
         self.groups
             .gather(alloc, &key, &self.counters, context, snapshot)?;
         self.nodes = key.into_room();
+        Ok(())
+    }
+
+    /// Lets all counters and sieves know what is new in a context.
+    fn catch_up(&mut self, context: &Context) -> Result<(), OutOfMemory>
+        ensures { OnOk result ((q : AQuery) (rs : List ARecord)
+            → IsTally context.now q rs self.old → IsReadyTally context.now q rs self.new) }
+    {
+        if self.known.covers(context) {
+            return Ok(());
+        }
+        know_all(&mut self.counters, context)?;
+        know_nodes(&mut self.sieves, context, &mut self.own)?;
+        self.known = Counts::of(context);
         Ok(())
     }
 
@@ -107,21 +126,21 @@ fn key_of(
     by_name: bool,
     context: &Context,
     snapshot: &Snapshot,
-    sieves: &mut Vec<Sieve>,
+    sieves: &[Sieve],
     own: &mut Context,
     near: NodeNumber,
     room: Vec<NodeNumber>,
 ) -> Result<GroupKey, OutOfMemory>
     requires { IsIn context.now snapshot.now }
     ensures key { IfOk result (λ key. (q : AQuery) → by_name ≡ is_some q.group
-        → AreSieves context.now own.old (names_in q.group) sieves.old.items
-        → FindsKey context.now own.new q (meaning context.now snapshot.now) sieves.new.items key) }
+        → AreReadySieves context.now own.old (names_in q.group) sieves.now
+        → IsKeyOf (room_of q.group context.now own.new)
+        (group_of q.group (meaning context.now snapshot.now)) key) }
     ensures grows { OnOk result (Grows own.old own.new) }
 {
     if !by_name {
         return key_by_nodes(context, snapshot, room);
     }
-    know_nodes(sieves.as_mut_slice(), context, own)?;
     let key = key_by_names(alloc, context, sieves, own, snapshot, near, room)?;
     Ok(key)
 }

@@ -1,13 +1,26 @@
 ghost use Rattle.std.specs.Prelude.{◌<◌, IsTrue, length, All};
 ghost use Rattle.cal_context.specs.Snapshots.{IsBelowRoot, IsIn};
+ghost use Rattle.cal_rowset.specs.NumberedRows.{IsWithin, nth_numbered};
 
 use cal_context::{Context, Immediate, NodeNumber, Snapshot};
+use cal_rowset::SnapshotList;
 
-/// Whether snapshots are about a context.
-pub(crate) fn are_in(context: &Context, rows: &[Snapshot]) -> bool
-    ensures { IsTrue result → All (IsIn context.now) rows.now }
+/// Whether rows by number are about a context.
+pub(crate) fn are_in(context: &Context, rows: &SnapshotList) -> bool
+    ensures { IsTrue result → All (IsWithin context.now) rows.now }
 {
-    rows.iter().all(|row| is_in(context, row))
+    for place in 0..rows.len() {
+        if !is_row_in(context, rows, place) {
+            return false;
+        }
+    }
+    true
+}
+
+fn is_row_in(context: &Context, rows: &SnapshotList, place: usize) -> bool
+    ensures { IsTrue result → IsWithin context.now (nth_numbered rows.now place) }
+{
+    are_below_root(context, rows.nodes(place)) && have_attributes(context, rows.imms(place))
 }
 
 /// Whether a snapshot is about a context.

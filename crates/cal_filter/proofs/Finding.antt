@@ -1,5 +1,5 @@
 -- The last entry that is sought in a record by number, one node or immediate at a time.
-use Rattle.std.proofs.Common.{◌≡◌, ℕ, ◌+◌, ◌<◌, true, false, List, [], ◌∷◌, ◌++◌, length, take, map}
+use Rattle.std.proofs.Common.{◌≡◌, ℕ, suc, ◌+◌, ◌<◌, arith, true, false, List, [], ◌∷◌, ◌++◌, length, take, map}
 use Rattle.std.proofs.Common.{None, Some, option_map, refl, sym, ◌∙◌, ap}
 use Rattle.std.proofs.Common.{slice_index_or, slice_get}
 use Rattle.std.specs.List.{last_or}
@@ -8,13 +8,12 @@ use Rattle.std.proofs.lemmas.Grind.{flat_map-append}
 use Rattle.std.proofs.lemmas.List.{append-nil, map-append, take_more}
 use Rattle.std.proofs.lemmas.Option.{slice_get-get_or, slice_get_within, get_or_from_slice_get}
 use Rattle.cal_context.specs.Children.{IsLinked}
-use Rattle.cal_context.specs.Snapshots.{entry_of, meaning}
+use Rattle.cal_context.specs.Snapshots.{entry_of}
 use Rattle.cal_context.specs.Tree.{Tree, path_at, value_at, IsContext}
 use Rattle.cal_context.specs.declared.numbers.Link.{Link}
 use Rattle.cal_context.specs.declared.numbers.NodeNumber.{NodeNumber}
 use Rattle.cal_context.specs.declared.snapshot.Immediate.{Immediate}
-use Rattle.cal_context.specs.declared.snapshot.Snapshot.{Snapshot}
-use Rattle.cal_value.specs.Flat.{flat, joined}
+use Rattle.cal_value.specs.Flat.{joined}
 use Rattle.cal_value.specs.declared.attribute.Entry.{Entry}
 use Rattle.cal_filter.specs.Known.{IsNearest}
 use Rattle.cal_filter.specs.Sought.{Sought, last_sought, seeks, value_sought}
@@ -51,6 +50,13 @@ module _ (t : Tree) (s : Sought) where
         ≡ last_sought s (map (entry_of t) (take i imms))
     immediate_other isnt =
         ap (last_sought s) one_more ∙ other_end s (map (entry_of t) (take i imms)) (entry_of t x) isnt
+
+  -- nothing is found where no immediate is sought
+  pub immediates_none : (imms : List Immediate) → ((i : ℕ) (x : Immediate) → i < length imms → seeks s (entry_of t (slice_index_or imms i x)) ≡ false)
+      → last_sought s (map (entry_of t) imms) ≡ None
+  immediates_none [] none = refl
+  immediates_none (x ∷ imms) none =
+      rw (none 0 x (omega arith)) (immediates_none imms (λ i y short. none (suc i) y (omega arith)))
 
   -- the root's path is empty
   pub root_path : IsContext t → path_at t root ≡ []
@@ -105,24 +111,24 @@ module _ (t : Tree) (s : Sought) where
         by [] e = absurd (not_root (root_alone context near nearest.other_within e))
         by (x ∷ xs) e = rw e (last_not_empty x xs (last_or None (path_at t last)))
 
-  module _ (snap : Snapshot) where
+  module _ (nodes : List NodeNumber) (imms : List Immediate) where
     -- the last of a record's entries is an immediate
     pub found_immediate : (imm : Immediate)
-        → last_sought s (map (entry_of t) snap.imms.items) ≡ Some (entry_of t imm)
-        → value_sought s (flat (meaning t snap)) ≡ Some imm.value
+        → last_sought s (map (entry_of t) imms) ≡ Some (entry_of t imm)
+        → value_sought s (joined (map (path_at t) nodes) ++ map (entry_of t) imms) ≡ Some imm.value
     found_immediate imm is =
         ap (option_map (λ e. e.value))
-        (last_sought-append s (joined (map (path_at t) snap.nodes.items))
-        (map (entry_of t) snap.imms.items)
-        ∙ ap (λ o. option_or o (last_sought s (joined (map (path_at t) snap.nodes.items)))) is)
+        (last_sought-append s (joined (map (path_at t) nodes))
+        (map (entry_of t) imms)
+        ∙ ap (λ o. option_or o (last_sought s (joined (map (path_at t) nodes)))) is)
 
     -- it is a node's own entry, or there is none
-    pub found_node : (n : NodeNumber) → last_sought s (map (entry_of t) snap.imms.items) ≡ None
-        → last_sought s (joined (map (path_at t) snap.nodes.items)) ≡ last_or None (path_at t n)
-        → value_sought s (flat (meaning t snap))
+    pub found_node : (n : NodeNumber) → last_sought s (map (entry_of t) imms) ≡ None
+        → last_sought s (joined (map (path_at t) nodes)) ≡ last_or None (path_at t n)
+        → value_sought s (joined (map (path_at t) nodes) ++ map (entry_of t) imms)
         ≡ option_map (λ e. e.value) (last_or None (path_at t n))
     found_node n none is =
         ap (option_map (λ e. e.value))
-        (last_sought-append s (joined (map (path_at t) snap.nodes.items))
-        (map (entry_of t) snap.imms.items)
-        ∙ ap (λ o. option_or o (last_sought s (joined (map (path_at t) snap.nodes.items)))) none ∙ is)
+        (last_sought-append s (joined (map (path_at t) nodes))
+        (map (entry_of t) imms)
+        ∙ ap (λ o. option_or o (last_sought s (joined (map (path_at t) nodes)))) none ∙ is)

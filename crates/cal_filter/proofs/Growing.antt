@@ -63,4 +63,5 @@ module _ {old new : Tree} (grows : Grows old new) where
         f.definitions.items h.lets;
     conds = zip_weaker (IsCondition old) (IsCondition new) condition-Grows q.conds
         f.conditions.items h.conds;
+    known = record { lets = h.known.lets; conds = h.known.conds };
   }

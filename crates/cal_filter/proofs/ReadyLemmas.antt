@@ -1,5 +1,5 @@
 -- Catching up, and what is ready.
-use Rattle.std.proofs.Common.{◌≡◌, ℕ, ◌+◌, ◌<◌, List, [], ◌∷◌, ◌++◌, map, take, length, get_or}
+use Rattle.std.proofs.Common.{◌≡◌, ℕ, ◌+◌, ◌<◌, ◌≤◌, List, [], ◌∷◌, ◌++◌, map, take, length, get_or}
 use Rattle.std.proofs.Common.{Result, Ok, Err, refl, sym, ◌∙◌, ap, subst, arith}
 use Rattle.std.specs.List.{All, AllZip}
 use Rattle.std.specs.Result.{IfOk, OnOk}
@@ -11,16 +11,17 @@ use Rattle.cal_ql.specs.declared.names.Op as ops
 use Rattle.cal_ql.specs.declared.query.Query.{Query}
 use Rattle.cal_value.specs.declared.attribute.Entry.{Entry}
 use Rattle.cal_filter.specs.Conditions.{test_holds}
-use Rattle.cal_filter.specs.Known.{Knows, KnowsAll, sought}
-use Rattle.cal_filter.specs.Ready.{IsCondition, IsDefinition, IsFilter, IsReadyCondition}
+use Rattle.cal_filter.specs.Known.{Covers, Knows, KnowsAll, KnowsSoMany, sought}
+use Rattle.cal_filter.specs.Ready.{AllKnowSoMany, IsCondition, IsDefinition, IsFilter, IsReadyCondition}
 use Rattle.cal_filter.specs.Ready.{IsReadyDefinition, IsReadyFilter}
 use Rattle.cal_filter.specs.Replaced.{CatchesUp, ConditionCatchesUp, DefinitionCatchesUp}
 use Rattle.cal_filter.specs.Sought.{Sought, passes, sought_by}
 use Rattle.cal_filter.specs.declared.condition.Condition.{Condition}
+use Rattle.cal_filter.specs.declared.counts.Counts.{Counts}
 use Rattle.cal_filter.specs.declared.definition.Definition.{Definition}
 use Rattle.cal_filter.specs.declared.filter.Filter.{Filter}
 use Rattle.cal_filter.specs.declared.seeker.Seeker.{Seeker}
-use Rattle.cal_filter.proofs.Zips.{zip_at, zip_length, zip_then, zip_weaker}
+use Rattle.cal_filter.proofs.Zips.{get_or-inside, partner, zip_at, zip_from, zip_length, zip_then, zip_weaker}
 
 pub same_sought : (t : Tree) (old new : List Seeker) → AllZip (CatchesUp t) old new
     → map sought new ≡ map sought old
@@ -67,17 +68,73 @@ condition_catches_up t old new negated same knows = record {
   };
 }
 
+-- whoever knows as many attributes and nodes as a context has knows it whole, and the other way
+pub knows_covered : (t : Tree) (n : Counts) → Covers t n → (s : Seeker) → KnowsSoMany n s → Knows t s → KnowsAll t s
+knows_covered t n covers s many knows = record {
+  knows = knows;
+  attributes = omega (arith, covers.attributes, many.attributes);
+  nodes = omega (arith, covers.nodes, many.nodes);
+}
+
+pub knows_counted : (t : Tree) (n : Counts) → n.attributes ≡ length t.attributes → n.nodes ≡ length t.paths → (s : Seeker)
+    → KnowsAll t s → KnowsSoMany n s
+knows_counted t n attributes nodes s h = record {
+  attributes = omega (arith, attributes, h.attributes);
+  nodes = omega (arith, nodes, h.nodes);
+}
+
+-- what holds of both sides of lists that go together
+pub zip_and : {A B : Type 0} (R S : A → B → Type 0) (P : B → Type 0) → ((x : A) (y : B) → R x y → P y → S x y)
+    → (xs : List A) (ys : List B) → AllZip R xs ys → All P ys → AllZip S xs ys
+zip_and R S P both xs ys zip all =
+    zip_from S xs ys (zip_length R xs ys zip)
+    (λ i d e short. both (get_or xs i d) (get_or ys i e) (zip_at R xs ys i d e zip short) (all i e short))
+
+pub all_of_zip : {A B : Type 0} (R : A → B → Type 0) (P : B → Type 0) → ((x : A) (y : B) → R x y → P y)
+    → (xs : List A) (ys : List B) → AllZip R xs ys → All P ys
+all_of_zip R P right xs ys zip = λ i e short.
+    let p = partner R xs ys i (get_or ys i e) zip short (get_or-inside ys i e (get_or ys i e) short) in
+    right p.item (get_or ys i e) p.together
+
+-- a filter that knows as much as a context has
+pub filter_covered : (t : Tree) (q : Query) (f : Filter) → Covers t f.known → IsFilter t q f → IsReadyFilter t q f
+filter_covered t q f covers h = record {
+  lets = zip_and (IsDefinition t) (IsReadyDefinition t) (λ (d : Definition). All (KnowsSoMany f.known) d.seekers.items)
+      (λ l d is many. record {
+        defined = is.defined;
+        knows = λ i x short. knows_covered t f.known covers _ (many i x short) (is.knows i x short);
+      })
+      q.lets f.definitions.items h.lets h.known.lets;
+  conds = zip_and (IsCondition t) (IsReadyCondition t) (λ (d : Condition). KnowsSoMany f.known d.seeker)
+      (λ c d is many. record { asked = is.asked; knows = knows_covered t f.known covers d.seeker many is.knows })
+      q.conds f.conditions.items h.conds h.known.conds;
+  known = h.known;
+}
+
 -- a filter with its definitions and conditions
 pub filter_catches_up : (t : Tree) (q : Query) (old new : Filter)
     → AllZip (DefinitionCatchesUp t) old.definitions.items new.definitions.items
     → AllZip (ConditionCatchesUp t) old.conditions.items new.conditions.items
+    → new.known.attributes ≡ length t.attributes → new.known.nodes ≡ length t.paths
     → IsFilter t q old → IsReadyFilter t q new
-filter_catches_up t q old new lets conds h = record {
-  lets = zip_then (IsDefinition t) (DefinitionCatchesUp t) (IsReadyDefinition t)
-      (λ l d e is up. up.ready l is) q.lets old.definitions.items new.definitions.items h.lets lets;
-  conds = zip_then (IsCondition t) (ConditionCatchesUp t) (IsReadyCondition t)
-      (λ c d e is up. up.ready c is) q.conds old.conditions.items new.conditions.items h.conds conds;
-}
+filter_catches_up t q old new lets conds attributes nodes h =
+    record { lets = lets_ready; conds = conds_ready; known = record { lets = lets_known; conds = conds_known } }
+  where
+    lets_ready : AllZip (IsReadyDefinition t) q.lets new.definitions.items
+    lets_ready = zip_then (IsDefinition t) (DefinitionCatchesUp t) (IsReadyDefinition t)
+        (λ l d e is up. up.ready l is) q.lets old.definitions.items new.definitions.items h.lets lets
+
+    conds_ready : AllZip (IsReadyCondition t) q.conds new.conditions.items
+    conds_ready = zip_then (IsCondition t) (ConditionCatchesUp t) (IsReadyCondition t)
+        (λ c d e is up. up.ready c is) q.conds old.conditions.items new.conditions.items h.conds conds
+
+    lets_known : All (λ (d : Definition). All (KnowsSoMany new.known) d.seekers.items) new.definitions.items
+    lets_known = all_of_zip (IsReadyDefinition t) (λ (d : Definition). All (KnowsSoMany new.known) d.seekers.items)
+        (λ l d r i x short. knows_counted t new.known attributes nodes _ (r.knows i x short)) q.lets new.definitions.items lets_ready
+
+    conds_known : All (λ (d : Condition). KnowsSoMany new.known d.seeker) new.conditions.items
+    conds_known = all_of_zip (IsReadyCondition t) (λ (d : Condition). KnowsSoMany new.known d.seeker)
+        (λ c d r. knows_counted t new.known attributes nodes d.seeker r.knows) q.conds new.conditions.items conds_ready
 
 -- what is ready is right
 pub ready_is_right : (t : Tree) (q : Query) (f : Filter) → IsReadyFilter t q f → IsFilter t q f
@@ -87,6 +144,7 @@ ready_is_right t q f h = record {
       q.lets f.definitions.items h.lets;
   conds = zip_weaker (IsReadyCondition t) (IsCondition t)
       (λ c d r. record { asked = r.asked; knows = r.knows.knows }) q.conds f.conditions.items h.conds;
+  known = h.known;
 }
 
 -- one item more of a map

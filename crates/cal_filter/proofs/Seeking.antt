@@ -67,11 +67,11 @@ sought-Stays s s' h = λ i. record { name = h.name i; wanted = h.wanted i }
 
 -- one attribute more
 pub attribute_next : (t : Tree) (s s' : Seeker) (a : AttributeNumber) (b : Bool) → Stays s s'
-    → s'.nearest ≡ s.nearest → s'.named.items ≡ s.named.items ++ b ∷ []
-    → a.0 ≡ length s.named.items → a.0 < length t.attributes
+    → s'.nearest ≡ s.nearest → s'.named ≡ s.named ++ b ∷ []
+    → a.0 ≡ length s.named → a.0 < length t.attributes
     → b ≡ eq_by_cmp text_cmp (attribute_at t a).name s.name → Knows t s → Knows t s'
 attribute_next t s s' a b same nodes more next within named k = record {
-  attributes = λ x h. by x (cases_lt x.0 (length s.named.items)) h;
+  attributes = λ x h. by x (cases_lt x.0 (length s.named)) h;
   nodes = λ n h.
       let short : n.0 < length s.nearest = rw (sym nodes) h in
       let old = k.nodes n short in
@@ -89,37 +89,37 @@ attribute_next t s s' a b same nodes more next within named k = record {
     known : (x : AttributeNumber) → x.0 ≡ a.0 → x ≡ a
     known x e = λ i. record { 0 = e i }
 
-    by : (x : AttributeNumber) → ((x.0 < length s.named.items) ⊎ (length s.named.items ≤ x.0))
-        → x.0 < length s'.named.items → IsKnownAttribute t s' x
+    by : (x : AttributeNumber) → ((x.0 < length s.named) ⊎ (length s.named ≤ x.0))
+        → x.0 < length s'.named → IsKnownAttribute t s' x
     by x (inl short) h =
         let old = k.attributes x short in
         record {
           within = old.within;
           named = ap (λ xs. slice_index_or xs x.0 false) more
-              ∙ get_or_append_left s.named.items (b ∷ []) false x.0 short ∙ old.named
+              ∙ get_or_append_left s.named (b ∷ []) false x.0 short ∙ old.named
               ∙ ap (λ w. eq_by_cmp text_cmp (attribute_at t x).name w) (sym same.name);
         }
     by x (inr long) h =
-        let counted : length s'.named.items ≡ length s.named.items + 1 =
-        ap length more ∙ length-append s.named.items (b ∷ []) in
-        let e : x.0 ≡ length s.named.items = omega arith in
+        let counted : length s'.named ≡ length s.named + 1 =
+        ap length more ∙ length-append s.named (b ∷ []) in
+        let e : x.0 ≡ length s.named = omega arith in
         let is : x ≡ a = known x (e ∙ sym next) in
         record {
           within = omega arith;
           named = ap (λ xs. slice_index_or xs x.0 false) more
-              ∙ ap (λ i. slice_index_or (s.named.items ++ b ∷ []) i false) e
-              ∙ get_or_push s.named.items b false (length s.named.items) refl ∙ named
+              ∙ ap (λ i. slice_index_or (s.named ++ b ∷ []) i false) e
+              ∙ get_or_push s.named b false (length s.named) refl ∙ named
               ∙ ap (λ y. eq_by_cmp text_cmp (attribute_at t y).name s.name) (sym is)
               ∙ ap (λ w. eq_by_cmp text_cmp (attribute_at t x).name w) (sym same.name);
         }
 
 -- one node more
 pub node_next : (t : Tree) (s s' : Seeker) (n m : NodeNumber) → Stays s s'
-    → s'.named.items ≡ s.named.items → s'.nearest ≡ s.nearest ++ m ∷ []
+    → s'.named ≡ s.named → s'.nearest ≡ s.nearest ++ m ∷ []
     → n.0 ≡ length s.nearest → IsNearest t (sought s) n m → Knows t s → Knows t s'
 node_next t s s' n m same attributes more next near k = record {
   attributes = λ x h.
-      let short : x.0 < length s.named.items = rw (sym attributes) h in
+      let short : x.0 < length s.named = rw (sym attributes) h in
       let old = k.attributes x short in
       record {
         within = old.within;

@@ -7,6 +7,7 @@ use Rattle.cal_context.specs.declared.numbers.AttributeNumber.{AttributeNumber}
 use Rattle.cal_context.specs.declared.numbers.NodeNumber.{NodeNumber}
 use Rattle.cal_value.specs.Texts.{text_cmp}
 use Rattle.cal_filter.specs.Sought.{Sought, last_sought}
+use Rattle.cal_filter.specs.declared.counts.Counts.{Counts}
 use Rattle.cal_filter.specs.declared.seeker.Seeker.{Seeker}
 
 -- what a seeker seeks
@@ -15,7 +16,7 @@ sought s = record { name = s.name; wanted = s.wanted }
 
 -- what is kept for an attribute: whether it has the name
 abbrev pub named_at : Seeker → AttributeNumber → Bool
-named_at s a = slice_index_or s.named.items a.0 false
+named_at s a = slice_index_or s.named a.0 false
 
 -- what is kept for a node: the nearest one at or above it whose entry is sought, or else the root
 abbrev pub nearest_at : Seeker → NodeNumber → NodeNumber
@@ -34,17 +35,27 @@ pub record IsNearest (t : Tree) (s : Sought) (n other : NodeNumber) : Type 0 whe
 
 -- what is kept is right in this context, as far as it goes
 pub record Knows (t : Tree) (s : Seeker) : Type 0 where
-  pub attributes : (a : AttributeNumber) → a.0 < length s.named.items → IsKnownAttribute t s a
+  pub attributes : (a : AttributeNumber) → a.0 < length s.named → IsKnownAttribute t s a
   pub nodes : (n : NodeNumber) → n.0 < length s.nearest
       → IsNearest t (sought s) n (nearest_at s n)
 
 -- each attribute of the context is known
 pub record KnowsAttributes (t : Tree) (s : Seeker) : Type 0 where
   pub knows : Knows t s
-  pub attributes : length t.attributes ≤ length s.named.items
+  pub attributes : length t.attributes ≤ length s.named
 
 -- and each node
 pub record KnowsAll (t : Tree) (s : Seeker) : Type 0 where
   pub knows : Knows t s
-  pub attributes : length t.attributes ≤ length s.named.items
+  pub attributes : length t.attributes ≤ length s.named
   pub nodes : length t.paths ≤ length s.nearest
+
+-- a seeker knows at least so many attributes and nodes
+pub record KnowsSoMany (n : Counts) (s : Seeker) : Type 0 where
+  pub attributes : n.attributes ≤ length s.named
+  pub nodes : n.nodes ≤ length s.nearest
+
+-- a context has no more attributes and nodes
+pub record Covers (t : Tree) (n : Counts) : Type 0 where
+  pub attributes : length t.attributes ≤ n.attributes
+  pub nodes : length t.paths ≤ n.nodes

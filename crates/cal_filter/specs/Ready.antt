@@ -7,10 +7,11 @@ use Rattle.cal_ql.specs.declared.query.Let.{Let}
 use Rattle.cal_ql.specs.declared.query.Query.{Query}
 use Rattle.cal_value.specs.declared.attribute.Entry.{Entry}
 use Rattle.cal_filter.specs.Conditions.{test_holds}
-use Rattle.cal_filter.specs.Known.{Knows, KnowsAll, sought}
+use Rattle.cal_filter.specs.Known.{Knows, KnowsAll, KnowsSoMany, sought}
 use Rattle.cal_filter.specs.Results.{AreNumbered}
 use Rattle.cal_filter.specs.Sought.{passes, sought_by}
 use Rattle.cal_filter.specs.declared.condition.Condition.{Condition}
+use Rattle.cal_filter.specs.declared.counts.Counts.{Counts}
 use Rattle.cal_filter.specs.declared.definition.Definition.{Definition}
 use Rattle.cal_filter.specs.declared.filter.Filter.{Filter}
 
@@ -47,12 +48,19 @@ pub record IsReadyCondition (t : Tree) (c : Cond) (d : Condition) : Type 0 where
   pub asked : IsAsked c d
   pub knows : KnowsAll t d.seeker
 
+-- all seekers of a filter know at least so many attributes and nodes
+pub record AllKnowSoMany (n : Counts) (f : Filter) : Type 0 where
+  pub lets : All (λ (d : Definition). All (KnowsSoMany n) d.seekers.items) f.definitions.items
+  pub conds : All (λ (d : Condition). KnowsSoMany n d.seeker) f.conditions.items
+
 -- a filter is one for this query over this context
 pub record IsFilter (t : Tree) (q : Query) (f : Filter) : Type 0 where
   pub lets : AllZip (IsDefinition t) q.lets f.definitions.items
   pub conds : AllZip (IsCondition t) q.conds f.conditions.items
+  pub known : AllKnowSoMany f.known f
 
 -- a filter that knows the whole context
 pub record IsReadyFilter (t : Tree) (q : Query) (f : Filter) : Type 0 where
   pub lets : AllZip (IsReadyDefinition t) q.lets f.definitions.items
   pub conds : AllZip (IsReadyCondition t) q.conds f.conditions.items
+  pub known : AllKnowSoMany f.known f

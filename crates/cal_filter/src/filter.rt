@@ -14,6 +14,7 @@ ghost use Rattle.cal_ql.specs.declared.query.Cond.{Cond as CondOf};
 ghost use Rattle.cal_ql.specs.declared.query.Let.{Let as LetOf};
 ghost use Rattle.cal_ql.specs.declared.query.Query.{Query as QueryOf};
 
+use crate::Counts;
 use crate::condition::Condition;
 use crate::definition::Definition;
 use cal_agg::Num;
@@ -29,6 +30,8 @@ pub struct Filter {
     alloc: Global,
     definitions: Vec<Definition>,
     conditions: Vec<Condition>,
+    // so much of the context all of them know
+    known: Counts,
     // room to work in
     numbers: Vec<Option<Num>>,
 }
@@ -47,6 +50,7 @@ impl Filter {
             alloc,
             definitions,
             conditions,
+            known: Counts::NONE,
             numbers: Vec::new(alloc),
         })
     }
@@ -86,8 +90,13 @@ impl Filter {
         ensures { OnOk result ((q : QueryOf) → IsFilter context.now q self.old
             → IsReadyFilter context.now q self.new) }
     {
+        if self.known.covers(context) {
+            return Ok(());
+        }
         know_definitions(&mut self.definitions, context)?;
-        know_conditions(&mut self.conditions, context)
+        know_conditions(&mut self.conditions, context)?;
+        self.known = Counts::of(context);
+        Ok(())
     }
 
     fn add_lets(&mut self, context: &Context, snapshot: &mut Snapshot) -> Result<(), OutOfMemory>

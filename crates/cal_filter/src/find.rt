@@ -1,4 +1,4 @@
-ghost use Rattle.std.specs.Prelude.{◌≡◌, ◌<◌, length, map, slice_get, None, IfSome};
+ghost use Rattle.std.specs.Prelude.{◌≡◌, ◌<◌, ◌++◌, length, map, slice_get, None, IfSome};
 ghost use Rattle.std.specs.Prelude.{option_and_then, option_map};
 ghost use Rattle.std.specs.List.{All, last_or};
 ghost use Rattle.std.specs.Option.{option_copied};
@@ -20,9 +20,26 @@ impl Seeker {
         ensures { KnowsAll context.now self.now → option_copied result
             ≡ value_sought (sought self.now) (flat (meaning context.now snapshot.now)) }
     {
-        match self.last_immediate(context, &snapshot.imms) {
-            Some(place) => Some(&snapshot.imms[place].value),
-            None => own_value(context, self.last_node(context, &snapshot.nodes)),
+        self.find_among(context, &snapshot.nodes, &snapshot.imms)
+    }
+
+    /// The same of the record that nodes and immediates mean.
+    pub fn find_among<'a>(
+        &self,
+        context: &'a Context,
+        nodes: &[NodeNumber],
+        imms: &'a [Immediate],
+    ) -> Option<&'a Variant>
+        requires nodes { All (IsBelowRoot context.now) nodes.now }
+        requires imms { All (λ imm. imm.attribute.0 < length context.now.attributes) imms.now }
+        ensures { KnowsAll context.now self.now
+            → option_copied result ≡ value_sought (sought self.now)
+            (joined (map (path_at context.now) nodes.now)
+            ++ map (entry_of context.now) imms.now) }
+    {
+        match self.last_immediate(context, imms) {
+            Some(place) => Some(&imms[place].value),
+            None => own_value(context, self.last_node(context, nodes)),
         }
     }
 
@@ -34,6 +51,9 @@ impl Seeker {
             → last_sought (sought self.now) (map (entry_of context.now) imms.now)
             ≡ option_map (entry_of context.now) (option_and_then (slice_get imms.now) result) }
     {
+        if self.is_unnamed() {
+            return None;
+        }
         let mut last = None;
         for (place, imm) in imms.iter().enumerate() {
             if self.seeks(context, imm.attribute, &imm.value) {

@@ -7,7 +7,9 @@
 #![tactic(auto)]
 
 mod arithmetic;
+mod attribute_memo;
 mod condition;
+mod counts;
 mod definition;
 mod filter;
 mod find;
@@ -23,6 +25,8 @@ mod results;
 mod seeker;
 mod wanted;
 
+pub use attribute_memo::AttributeMemo;
+pub use counts::Counts;
 pub use filter::Filter;
 pub use laws::{filters_stay, numbers_stay_small};
 pub use memo::NodeMemo;

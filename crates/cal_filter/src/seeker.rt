@@ -1,11 +1,12 @@
-ghost use Rattle.std.specs.Prelude.{◌≡◌, ◌<◌, length, OnOk};
+ghost use Rattle.std.specs.Prelude.{◌≡◌, ◌<◌, false, length, IsTrue, OnOk};
 ghost use Rattle.cal_context.specs.Tree.{Tree, attribute_at};
+ghost use Rattle.cal_context.specs.declared.numbers.AttributeNumber.{AttributeNumber as AttributeNumberOf};
 ghost use Rattle.cal_filter.specs.Known.{IsNearest, Knows, KnowsAll, KnowsAttributes, named_at};
 ghost use Rattle.cal_filter.specs.Known.{nearest_at, sought};
 ghost use Rattle.cal_filter.specs.Sought.{any_of, number_of, seeks as is_sought, whole_of};
 
-use crate::NodeMemo;
 use crate::wanted::Wanted;
+use crate::{AttributeMemo, NodeMemo};
 use cal_context::{AttributeNumber, Context, NodeNumber};
 use cal_value::{OutOfMemory, Text, Variant};
 use std::alloc::Global;
@@ -17,7 +18,7 @@ pub struct Seeker {
     name: Text,
     wanted: Wanted,
     // of each attribute: whether it has the name
-    named: Vec<bool>,
+    named: AttributeMemo,
     // of each node: the nearest one at or above it whose entry is sought, or else the root
     nearest: NodeMemo,
 }
@@ -55,7 +56,7 @@ impl Seeker {
         Seeker {
             name,
             wanted,
-            named: Vec::new(alloc),
+            named: AttributeMemo::new(alloc),
             nearest: NodeMemo::new(alloc),
         }
     }
@@ -137,10 +138,14 @@ impl Seeker {
     fn is_named(&self, attribute: AttributeNumber) -> bool
         ensures { result ≡ named_at self.now attribute }
     {
-        self.named
-            .get(attribute.0 as usize)
-            .copied()
-            .unwrap_or(false)
+        self.named.get(attribute)
+    }
+
+    /// Whether no attribute that is known has the name.
+    pub(crate) fn is_unnamed(&self) -> bool
+        ensures { IsTrue result → (a : AttributeNumberOf) → named_at self.now a ≡ false }
+    {
+        self.named.is_none()
     }
 
     /// The nearest node at or above a node that is known.

@@ -6,7 +6,7 @@ use Rattle.cal_gen.specs.Generated.{State, Step, Lines, line_from, lines_from, t
 module _ (left count : ℕ) (is : left ≡ suc count) (x : ℕ) where
   -- the next line and its newline
   pub next_line : (depth x_after depth_after : ℕ) (text next whole : List ℕ) (last : ℕ)
-      → next ≡ (text ++ (line_from (record { x = x; depth = depth })).line) ++ 10 ∷ []
+      → next ≡ text ++ ((line_from (record { x = x; depth = depth })).line ++ 10 ∷ [])
       → x_after ≡ (line_from (record { x = x; depth = depth })).after.x
       → depth_after ≡ (line_from (record { x = x; depth = depth })).after.depth
       → text ++ (lines_from left (record { x = x; depth = depth })).text ≡ whole
@@ -17,8 +17,9 @@ module _ (left count : ℕ) (is : left ≡ suc count) (x : ℕ) where
       let s : State = record { x = x; depth = depth } in
       let step : Step = line_from s in
       let rest : Lines = lines_from count step.after in
-      let joined : ((text ++ step.line) ++ 10 ∷ []) ++ rest.text ≡ text ++ (lines_from (suc count) s).text =
-      append_assoc (text ++ step.line) (10 ∷ []) rest.text ∙ append_assoc text step.line (10 ∷ rest.text) in
+      let joined : (text ++ (step.line ++ 10 ∷ [])) ++ rest.text ≡ text ++ (lines_from (suc count) s).text =
+      append_assoc text (step.line ++ 10 ∷ []) rest.text
+      ∙ ap (λ more. text ++ more) (append_assoc step.line (10 ∷ []) rest.text) in
       rw (next_is, x_is, depth_is) (
         joined ∙ ap (λ n. text ++ (lines_from n s).text) (sym is) ∙ text_is,
         ap (λ n. (lines_from n s).x) (sym is) ∙ last_is,

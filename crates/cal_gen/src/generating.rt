@@ -1,4 +1,4 @@
-ghost use Rattle.std.specs.Prelude.{◌≡◌, ◌<◌, ◌≤◌, ◌++◌, decimal, IfOk, OnOk};
+ghost use Rattle.std.specs.Prelude.{◌≡◌, ◌<◌, ◌≤◌, [], ◌∷◌, ◌++◌, codes, decimal, IfOk, OnOk};
 ghost use Rattle.cal_gen.specs.Draws.{drawn, next};
 ghost use Rattle.cal_gen.specs.Generated.{generated, line_from, lines_from, look_line};
 
@@ -34,16 +34,16 @@ fn push_lines(text: &mut Text, draws: &mut Draws, lines: u32) -> Result<(), OutO
     let mut depth = 0;
     for _ in 0..lines {
         depth = push_line(text, draws, depth)?;
-        text.push_str("\n")?;
     }
     Ok(())
 }
 
-/// Appends the next line of a thread, and gives how many values are open behind it.
+/// Appends the next line of a thread with its newline, and gives how many values are open behind
+/// it.
 fn push_line(text: &mut Text, draws: &mut Draws, depth: u32) -> Result<u32, OutOfMemory>
     requires { depth ≤ 32 }
     ensures text { OnOk result (text.new
-        ≡ text.old ++ (line_from (record { x = draws.old.x; depth = depth })).line) }
+        ≡ text.old ++ ((line_from (record { x = draws.old.x; depth = depth })).line ++ 10 ∷ [])) }
     ensures draws { OnOk result (draws.new.x
         ≡ (line_from (record { x = draws.old.x; depth = depth })).after.x) }
     ensures depth { IfOk result (λ after. after
@@ -52,11 +52,11 @@ fn push_line(text: &mut Text, draws: &mut Draws, depth: u32) -> Result<u32, OutO
 {
     match Move::of(draws.draw(8), depth) {
         Move::Begin => {
-            push_number(text, draws, "begin function f", 16)?;
+            push_begin(text, draws)?;
             Ok(depth + 1)
         }
         Move::End => {
-            text.push_str("end function")?;
+            text.push_str("end function\n")?;
             Ok(depth - 1)
         }
         Move::Iterate => {
@@ -74,7 +74,42 @@ fn push_line(text: &mut Text, draws: &mut Draws, depth: u32) -> Result<u32, OutO
     }
 }
 
-/// Appends a word and a number that is drawn from so many.
+/// Appends a line that opens one of sixteen values.
+fn push_begin(text: &mut Text, draws: &mut Draws) -> Result<(), OutOfMemory>
+    ensures text { OnOk result (text.new ≡ text.old
+        ++ ((codes "begin function f" ++ decimal (drawn 16 (next draws.old.x))) ++ 10 ∷ [])) }
+    ensures draws { draws.new.x ≡ next draws.old.x }
+{
+    text.push_str(begin_line(draws.draw(16)))
+}
+
+/// The line that opens a value, whole: most lines with a number are such, and one piece is
+/// appended faster than three.
+fn begin_line(value: u32) -> &'static str
+    requires { value < 16 }
+    ensures { result.now ≡ (codes "begin function f" ++ decimal value) ++ 10 ∷ [] }
+{
+    match value {
+        0 => "begin function f0\n",
+        1 => "begin function f1\n",
+        2 => "begin function f2\n",
+        3 => "begin function f3\n",
+        4 => "begin function f4\n",
+        5 => "begin function f5\n",
+        6 => "begin function f6\n",
+        7 => "begin function f7\n",
+        8 => "begin function f8\n",
+        9 => "begin function f9\n",
+        10 => "begin function f10\n",
+        11 => "begin function f11\n",
+        12 => "begin function f12\n",
+        13 => "begin function f13\n",
+        14 => "begin function f14\n",
+        _ => "begin function f15\n",
+    }
+}
+
+/// Appends a line of a word and a number that is drawn from so many.
 fn push_number(
     text: &mut Text,
     draws: &mut Draws,
@@ -83,22 +118,24 @@ fn push_number(
 ) -> Result<(), OutOfMemory>
     requires { 0 < count }
     ensures text { OnOk result (text.new
-        ≡ text.old ++ (front.now ++ decimal (drawn count (next draws.old.x)))) }
+        ≡ text.old ++ ((front.now ++ decimal (drawn count (next draws.old.x))) ++ 10 ∷ [])) }
     ensures draws { draws.new.x ≡ next draws.old.x }
 {
     let number = draws.draw(count);
     text.push_str(front)?;
-    text.push_str(Buffer::new().format(number))
+    text.push_str(Buffer::new().format(number))?;
+    text.push_str("\n")
 }
 
 /// Appends a line that flushes, or one that takes a snapshot.
 fn push_look(text: &mut Text, draws: &mut Draws) -> Result<(), OutOfMemory>
-    ensures text { OnOk result (text.new ≡ text.old ++ look_line (drawn 16 (next draws.old.x))) }
+    ensures text { OnOk result (text.new
+        ≡ text.old ++ (look_line (drawn 16 (next draws.old.x)) ++ 10 ∷ [])) }
     ensures draws { draws.new.x ≡ next draws.old.x }
 {
     if draws.draw(16) == 0 {
-        text.push_str("flush profile")
+        text.push_str("flush profile\n")
     } else {
-        text.push_str("snapshot")
+        text.push_str("snapshot\n")
     }
 }

@@ -1,10 +1,10 @@
 -- Attributes of a row that are known by their text.
-use Rattle.std.proofs.Common.{◌≡◌, ◌≢◌, ◌≤◌, ℕ, List, [], ◌∷◌, ◌++◌, length, drop, Some, sym, ap, ◌∙◌, subst, arith}
+use Rattle.std.proofs.Common.{◌≡◌, ◌≢◌, ◌≤◌, ℕ, List, [], ◌∷◌, ◌++◌, length, drop, sym, ap, ◌∙◌, subst, arith}
 use Rattle.std.specs.Prelude.{Ok, codes}
 use Rattle.std.specs.List.{between}
 use Rattle.std.proofs.lemmas.List.{append_cancel_right, length-append, length-drop}
 use Rattle.std.proofs.lemmas.List.Folds.{drop_split}
-use Rattle.cal_line.specs.Fields.{IsFields, fields_of}
+use Rattle.cal_line.specs.Fields.{IsFields}
 use Rattle.cal_line.proofs.FieldSteps.{fields_of-IsFields}
 use Rattle.cal_line.proofs.Written.{IsFields-written}
 use Rattle.cal_read.specs.Fields.{each, id_of, values_of}

@@ -10,7 +10,6 @@ use Rattle.cal_context.specs.declared.numbers.NodeNumber.{NodeNumber}
 use Rattle.cal_context.specs.declared.numbers.ValueNumber.{ValueNumber}
 use Rattle.cal_input.specs.FirstFault.{◌>>=◌}
 use Rattle.cal_value.specs.Reading.{value_of}
-use Rattle.cal_value.specs.declared.variant.Variant.{Variant}
 use Rattle.cal_value.specs.declared.variant.Variant.TheVariants as value
 use Rattle.cal_read.specs.Fields.{or_fault}
 use Rattle.cal_read.specs.Held.{AreHeld, IsHeld, IsNumberOf, held_at}

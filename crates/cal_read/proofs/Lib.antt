@@ -21,3 +21,6 @@ mod KnownLemmas
 mod UsualNodeLemmas
 mod NumberLemmas
 mod LineLemmas
+mod UsualValueLemmas
+mod NewlineLemmas
+mod ReadOnLemmas

@@ -1,5 +1,5 @@
 -- What lines of each sort make.
-use Rattle.std.proofs.Common.{◌≡◌, ◌<◌, ℕ, true, false, not, Some, None, List, [], ◌∷◌, ◌++◌, length, map, refl, sym, ap, ◌∙◌, subst, if◌then◌else◌}
+use Rattle.std.proofs.Common.{◌≢◌, ◌≡◌, ◌<◌, ℕ, true, false, not, Some, None, List, [], ◌∷◌, ◌++◌, length, map, refl, sym, ap, ◌∙◌, subst, if◌then◌else◌, arith}
 use Rattle.std.specs.Prelude.{Result, Ok, Err}
 use Rattle.std.specs.List.{All}
 use Rattle.std.specs.Str.{IsUtf8, is_utf8}
@@ -87,6 +87,14 @@ text_blank s (byte ∷ line) none = absurd cc
 pub text_list : (s : streams.Stream) (line : List ℕ) → (length line ≡ 0 → ⊥) → step_by_text s line ≡ step_by_list s line
 text_list s [] some = absurd (some refl)
 text_list s (byte ∷ line) some = refl
+
+no_bytes : (line : List ℕ) → length line ≡ 0 → line ≡ []
+no_bytes [] none = refl
+no_bytes (byte ∷ line) none = absurd (omega (arith, none))
+
+-- a text whose fields are known
+pub fields_step : (s : streams.Stream) (line : List ℕ) (fields : List Field) → IsUtf8 line → line ≢ [] → fields_of line ≡ Some fields → line_step s line ≡ step_by_fields s fields
+fields_step s line fields is some are = line_text s line is ∙ text_list s line (λ none. some (no_bytes line none)) ∙ list_made s line fields are
 
 -- ---- the globals
 

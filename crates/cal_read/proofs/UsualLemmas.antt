@@ -1,6 +1,6 @@
 -- Rows that are read in one go: what stands in their lines.
-use Rattle.std.proofs.Common.{◌≡◌, ◌≢◌, ◌<◌, ◌≤◌, ℕ, ◌+◌, Bool, true, false, true≢false, ◌||◌, eqb, List, [], ◌∷◌, ◌++◌, length, map, get_or, take, drop, Some, refl, sym, ap, ◌∙◌, subst, append_assoc, append-nil, length-append, arith}
-use Rattle.std.specs.Prelude.{Ok, slice_get}
+use Rattle.std.proofs.Common.{◌≡◌, ◌≢◌, ◌<◌, ◌≤◌, ℕ, ◌+◌, Bool, true, false, true≢false, ◌||◌, eqb, List, [], ◌∷◌, ◌++◌, length, map, get_or, drop, Some, refl, sym, ap, ◌∙◌, subst, append_assoc, append-nil, length-append, arith}
+use Rattle.std.specs.Prelude.{Ok}
 use Rattle.std.specs.List.{All, between, zip}
 use Rattle.std.proofs.lemmas.List.{drop_more, length-drop, length-map, map-append}
 use Rattle.std.proofs.lemmas.List.Edits.{between_more, between_none}
@@ -21,7 +21,6 @@ use Rattle.cal_read.specs.Usual.{IsPlain, AreValues, ReadsIds, ReadsImms, writte
 use Rattle.cal_read.specs.declared.kind.StreamKind.TheVariants as kind
 use Rattle.cal_read.proofs.ColumnLemmas.{entry_made}
 use Rattle.cal_read.proofs.EachLemmas.{each-push}
-use Rattle.cal_read.proofs.ListLemmas.{take_at}
 
 -- ---- text that is written as it is
 
@@ -111,24 +110,22 @@ pub imms_none : (t : Tree) (numbers : List AttributeNumber) (line : List ℕ) (s
 imms_none t numbers line start imms within no_number none =
     rw (no_number, none) (record { texts = []; values = values_none line start within; count = refl; known = λ i x h. absurd (omega (arith, h)); read = refl })
 
-module _ (t : Tree) (numbers : List AttributeNumber) (i : ℕ) (number : AttributeNumber) (there : slice_get numbers i ≡ Some number) where
-  pub imms_more : (line : List ℕ) (start place end : ℕ) (imms new : List Immediate) (v : Variant) → ReadsImms t (take i numbers) line start place imms → number.0 < length t.attributes
+module _ (t : Tree) (numbers : List AttributeNumber) (number : AttributeNumber) where
+  pub imms_more : (line : List ℕ) (start place end : ℕ) (imms new : List Immediate) (v : Variant) → ReadsImms t numbers line start place imms → number.0 < length t.attributes
       → place < length line → get_or line place 0 ≡ 61 → IsPlain line (place + 1) end → value_of (attribute_at t number).kind (between (place + 1) end line) ≡ Some v
-      → new ≡ imms ++ record { attribute = number; value = v } ∷ [] → ReadsImms t (take (i + 1) numbers) line start end new
+      → new ≡ imms ++ record { attribute = number; value = v } ∷ [] → ReadsImms t (numbers ++ number ∷ []) line start end new
   imms_more line start place end imms new v so_far known within sign plain is items =
       let text = between (place + 1) end line in
-      let front = map (attribute_at t) (take i numbers) in
-      let one_more : take (i + 1) numbers ≡ take i numbers ++ number ∷ [] = take_at numbers i number there in
-      let even : length so_far.texts ≡ length front = so_far.count ∙ sym (length-map (take i numbers) (attribute_at t)) in
-      let pairs : zip (map (attribute_at t) (take (i + 1) numbers)) (so_far.texts ++ text ∷ []) ≡ zip front so_far.texts ++ (attribute_at t number, text) ∷ [] =
-      ap (λ (l : List AttributeNumber). zip (map (attribute_at t) l) (so_far.texts ++ text ∷ [])) one_more
-      ∙ ap (λ (l : List Attribute). zip l (so_far.texts ++ text ∷ [])) (map-append (attribute_at t) (take i numbers) (number ∷ []))
+      let front = map (attribute_at t) numbers in
+      let even : length so_far.texts ≡ length front = so_far.count ∙ sym (length-map numbers (attribute_at t)) in
+      let pairs : zip (map (attribute_at t) (numbers ++ number ∷ [])) (so_far.texts ++ text ∷ []) ≡ zip front so_far.texts ++ (attribute_at t number, text) ∷ [] =
+      ap (λ (l : List Attribute). zip l (so_far.texts ++ text ∷ [])) (map-append (attribute_at t) numbers (number ∷ []))
       ∙ zip-push front so_far.texts (attribute_at t number) text even
       in
       record {
         texts = so_far.texts ++ text ∷ [];
         values = values_more line start place end so_far.texts so_far.values within sign plain;
-        count = length-append so_far.texts (text ∷ []) ∙ ap (λ (n : ℕ). n + 1) so_far.count ∙ sym (length-append (take i numbers) (number ∷ [])) ∙ sym (ap length one_more);
+        count = length-append so_far.texts (text ∷ []) ∙ ap (λ (n : ℕ). n + 1) so_far.count ∙ sym (length-append numbers (number ∷ []));
         known = subst (All (λ i. i.attribute.0 < length t.attributes)) (sym items)
             (All-push (λ i. i.attribute.0 < length t.attributes) imms (record { attribute = number; value = v }) so_far.known known);
         read = ap (each entry_of) pairs

@@ -1,5 +1,5 @@
 -- Attributes of a row that are known by their text (private).
-use Rattle.std.specs.Prelude.{◌≡◌, ◌≢◌, ℕ, ◌++◌, List, [], Option, Some, None, codes}
+use Rattle.std.specs.Prelude.{◌≢◌, ℕ, ◌++◌, List, [], Option, Some, None, codes}
 use Rattle.cal_context.specs.declared.numbers.AttributeNumber.{AttributeNumber}
 use Rattle.cal_line.specs.Fields.{fields_of}
 use Rattle.cal_line.specs.declared.field.Field.{Field}

@@ -22,3 +22,4 @@ pub mod Usual
 pub mod UsualColumns
 pub mod Known
 pub mod UsualNodes
+pub mod UsualValues

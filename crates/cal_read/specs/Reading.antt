@@ -1,5 +1,5 @@
 -- What a reader has read.
-use Rattle.std.specs.Prelude.{◌≡◌, ℕ, List, [], Option, Some, None, Result, Ok, Err, length}
+use Rattle.std.specs.Prelude.{◌≡◌, ℕ, List, [], ◌++◌, Option, Some, None, Result, Ok, Err, length}
 use Rattle.cal_context.specs.Tree.{Tree}
 use Rattle.cal_input.specs.FirstFault.{after_lines, IsFirstFault}
 use Rattle.cal_value.specs.declared.record.Rec.{Rec}
@@ -72,3 +72,11 @@ pub record Ends (bytes : List ℕ) (globals : Rec) : Type 0 where
   pub stream : Stream
   pub is : IsStream bytes stream
   pub globals_are : globals ≡ stream.globals
+
+-- a reader has gone on through all but the rest of some bytes, and has had their rows taken
+pub record ReadsOn (had has : List Rec → Type 0) (old new : StreamReader) (t : Tree)
+    (all rest : List ℕ) : Type 0 where
+  pub front : List ℕ
+  pub parts : all ≡ front ++ rest
+  pub read : (bytes : List ℕ) → HasRead old t bytes → HasRead new t (bytes ++ front)
+  pub taken : (bytes : List ℕ) → HasRead old t bytes → TakesBytes had has bytes (bytes ++ front)

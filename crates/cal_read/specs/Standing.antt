@@ -1,8 +1,10 @@
 -- What the reader holds stands for what the lines have made (private).
-use Rattle.std.specs.Prelude.{◌≡◌, List, ◌++◌, Result}
+use Rattle.std.specs.Prelude.{◌≡◌, ℕ, ◌<◌, List, ◌++◌, Option, None, Some, Result, Ok}
+use Rattle.std.specs.Prelude.{length, slice_index, take}
 use Rattle.cal_context.specs.Snapshots.{IsIn, meaning}
 use Rattle.cal_context.specs.Taking.{TakesMore}
 use Rattle.cal_context.specs.Tree.{Tree}
+use Rattle.cal_line.specs.Lines.{HasNoNewline}
 use Rattle.cal_value.specs.declared.record.Rec.{Rec}
 use Rattle.cal_read.specs.Held.{AreHeld}
 use Rattle.cal_read.specs.Steps.{AnswersFor}
@@ -47,3 +49,21 @@ abbrev pub ReadsBy : (streams.Stream → Result streams.Stream StreamKind) → S
     → Result (Unit {0}) LineEnd → Type 0
 ReadsBy step old new result = (s : streams.Stream) → Stands old.tree old.held s
     → AnswersFor (λ _. TakesLine new.tree new.held old.taken new.taken s) result (step s)
+
+-- another standing stands for the same, and its taker has taken the same
+pub record StaysAt (old new : Standing) : Type 0 where
+  pub stands : (s : streams.Stream) → Stands old.tree old.held s → Stands new.tree new.held s
+  pub taken : (rs : List Rec) → old.taken rs → new.taken rs
+
+-- up to this place stands a line that a newline ends, and it was taken
+pub record TakesFront (text : List ℕ) (old new : Standing) (end : ℕ) : Type 0 where
+  pub within : end < length text
+  pub newline : slice_index text end ≡ 10
+  pub line : HasNoNewline (take end text)
+  pub read : (s : streams.Stream) → Stands old.tree old.held s
+      → (after : streams.Stream) × (streams.line_step s (take end text) ≡ Ok after)
+      × TakesLine new.tree new.held old.taken new.taken s after
+
+abbrev pub ReadsFront : List ℕ → Standing → Standing → Option ℕ → Type 0
+ReadsFront text old new None = StaysAt old new
+ReadsFront text old new (Some end) = TakesFront text old new end

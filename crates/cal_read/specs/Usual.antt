@@ -1,6 +1,6 @@
 -- Rows that are read in one go from their lines (private).
 use Rattle.std.specs.Prelude.{◌≡◌, ◌≢◌, ◌<◌, ℕ, ◌≤◌, List, [], ◌∷◌, ◌++◌, Some, false, Ok}
-use Rattle.std.specs.Prelude.{codes, drop, length, map, slice_range}
+use Rattle.std.specs.Prelude.{codes, drop, length, map, slice_range, take}
 use Rattle.std.specs.List.{All, zip}
 use Rattle.std.specs.Str.{IsCharBoundary}
 use Rattle.cal_context.specs.Snapshots.{IsIn, meaning, entry_of as imm_entry}
@@ -10,6 +10,7 @@ use Rattle.cal_context.specs.declared.snapshot.Immediate.{Immediate}
 use Rattle.cal_context.specs.declared.snapshot.Snapshot.{Snapshot}
 use Rattle.cal_line.specs.Escapes.{escaped}
 use Rattle.cal_line.specs.Fields.{fields_of}
+use Rattle.cal_line.specs.Lines.{HasNoNewline}
 use Rattle.cal_line.specs.declared.field.Field.{Field}
 use Rattle.cal_value.specs.Numerals.{number_of}
 use Rattle.cal_value.specs.Reading.{value_of}
@@ -93,6 +94,12 @@ pub record AreColumns (line : List ℕ) (end : ℕ) (refs ids : List ℕ) : Type
       ++ (codes "attr" ++ (written_values texts ++ (codes ",data" ++ drop end line)))
   pub refs_read : each id_of refs_texts ≡ Ok refs
   pub read : each id_of texts ≡ Ok ids
+
+-- up to this place a text has bytes, and none is a newline
+pub record IsLineEnd (text : List ℕ) (end : ℕ) : Type 0 where
+  pub within : end ≤ length text
+  pub some : take end text ≢ []
+  pub line : HasNoNewline (take end text)
 
 -- the line is that of a row, which the snapshot means
 pub record IsUsualRow (t : Tree) (named : List Named) (line : List ℕ) (snapshot : Snapshot)

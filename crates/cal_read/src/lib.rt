@@ -17,6 +17,7 @@ mod node_texts;
 mod nodes;
 mod number_at;
 mod place;
+mod put_value;
 mod reader;
 mod recent;
 mod record_line;
@@ -29,7 +30,7 @@ mod usual;
 mod usual_columns;
 mod usual_node;
 mod usual_row;
-mod value_at;
+mod usual_values;
 mod whole;
 
 pub use end::StreamEnd;

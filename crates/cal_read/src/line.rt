@@ -64,7 +64,7 @@ fn ended_text(text: &str) -> Option<(&str, &str)>
 }
 
 /// What stands before a newline and behind it.
-fn cut(text: &str, end: usize) -> (&str, &str)
+pub(crate) fn cut(text: &str, end: usize) -> (&str, &str)
     requires within { end < length text.now }
     requires newline { slice_index text.now end ≡ 10 }
     ensures line { result.0.now ≡ take end text.now }

@@ -1,26 +1,31 @@
-ghost use Rattle.std.specs.Prelude.{◌≡◌, [], IfOk, OnOk};
+ghost use Rattle.std.specs.Prelude.{◌≡◌, ◌≤◌, length, take, IfOk, OnOk};
 
-use cal_context::Snapshot;
+use cal_context::Immediate;
 use cal_value::{OutOfMemory, Text, Variant};
 use std::alloc::Global;
 
 // no more texts are kept than these
 const MOST: usize = 16;
 
-/// Takes all nodes and immediates away from a snapshot, and keeps some of its texts, whose memory
-/// serves again.
-pub(crate) fn empty(snapshot: &mut Snapshot, spare: &mut Vec<Text>) -> Result<(), OutOfMemory>
-    ensures nodes { OnOk result (snapshot.new.nodes.items ≡ []) }
-    ensures imms { OnOk result (snapshot.new.imms.items ≡ []) }
+/// Takes all immediates away but so many, and keeps some of their texts, whose memory serves again.
+pub(crate) fn cut_to(
+    imms: &mut Vec<Immediate>,
+    count: usize,
+    spare: &mut Vec<Text>,
+) -> Result<(), OutOfMemory>
+    requires { count ≤ length imms.old.items }
+    ensures { OnOk result (imms.new.items ≡ take count imms.old.items) }
 {
-    snapshot.nodes.clear();
-    while let Some(imm) = snapshot.imms.pop() {
-        keep(spare, imm.value)?;
+    'rest: while imms.len() > count {
+        if let Some(imm) = imms.pop() {
+            keep(spare, imm.value)?;
+        }
     }
     Ok(())
 }
 
-fn keep(spare: &mut Vec<Text>, value: Variant) -> Result<(), OutOfMemory> {
+/// Keeps the memory of a text, where few are kept.
+pub(crate) fn keep(spare: &mut Vec<Text>, value: Variant) -> Result<(), OutOfMemory> {
     if let Variant::Text(text) = value {
         if spare.len() < MOST {
             spare.push(text)?;

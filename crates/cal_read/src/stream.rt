@@ -2,7 +2,7 @@ ghost use Rattle.std.specs.Prelude.{◌≡◌, List, IfOk};
 ghost use Rattle.cal_context.specs.Tree.{Grows};
 ghost use Rattle.cal_line.specs.declared.field.Field.{Field};
 ghost use Rattle.cal_read.specs.Lines.{bytes_in};
-ghost use Rattle.cal_read.specs.Standing.{ReadsBy, Stands, StandsForSome, standing};
+ghost use Rattle.cal_read.specs.Standing.{ReadsBy, ReadsFront, Stands, StandsForSome, standing};
 ghost use Rattle.cal_read.specs.Steps.{AnswersFor};
 ghost use Rattle.cal_read.specs.Stream as streams;
 
@@ -17,7 +17,7 @@ use crate::recent::Recent;
 use crate::record_line::{Columns, read_record};
 use crate::sort::{Sort, sort_of};
 use crate::usual_node::usual_node;
-use crate::usual_row::read_usual_row;
+use crate::usual_row::{read_front_row, read_usual_row};
 use cal_context::{Context, Snapshot, Taker};
 use cal_line::{FieldEnd, Fields, Splitter};
 use cal_value::OutOfMemory;
@@ -50,6 +50,7 @@ impl Stream {
     }
 
     /// Reads the next line. After an `Err` the stream is of no more use.
+    #[inline(always)]
     pub(crate) fn read_line<T: Taker>(
         &mut self,
         alloc: Global,
@@ -70,6 +71,39 @@ impl Stream {
         }
     }
 
+    /// Reads the row that stands in the usual form at the front of a text, where a newline ends it:
+    /// it is taken, and where it ends is answered. After an `Err` the stream is of no more use.
+    #[inline(always)]
+    pub(crate) fn read_front<T: Taker>(
+        &mut self,
+        alloc: Global,
+        text: &str,
+        context: &Context,
+        taker: &mut T,
+    ) -> Result<Option<usize>, OutOfMemory>
+        requires { StandsForSome context.now self.old }
+        ensures read { IfOk result (ReadsFront text.now
+            (standing T.has_taken context.now self.old taker.old)
+            (standing T.has_taken context.now self.new taker.new)) }
+    {
+        let Ok(end) = read_front_row(
+            alloc,
+            &self.nodes,
+            &mut self.columns,
+            text,
+            context,
+            &mut self.row,
+        ) else {
+            return Ok(None);
+        };
+        if end == text.len() || text.as_bytes()[end] != b'\n' {
+            return Ok(None);
+        }
+        taker.take(context, &self.row)?;
+        Ok(Some(end))
+    }
+
+    #[inline(never)]
     fn read_bytes<T: Taker>(
         &mut self,
         alloc: Global,
@@ -90,6 +124,7 @@ impl Stream {
         }
     }
 
+    #[inline(always)]
     fn read_str<T: Taker>(
         &mut self,
         alloc: Global,
@@ -110,6 +145,7 @@ impl Stream {
         self.read_text(alloc, splitter, line, context, taker)
     }
 
+    #[inline(always)]
     fn read_text<T: Taker>(
         &mut self,
         alloc: Global,
@@ -137,6 +173,7 @@ impl Stream {
         }
     }
 
+    #[inline(never)]
     fn read_other<T: Taker>(
         &mut self,
         alloc: Global,

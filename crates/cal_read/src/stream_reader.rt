@@ -1,12 +1,13 @@
-ghost use Rattle.std.specs.Prelude.{◌≡◌, ℕ, List, [], ◌∷◌, ◌++◌, Err, IfErr, IfOk, OnOk};
+ghost use Rattle.std.specs.Prelude.{◌≡◌, ◌<◌, ℕ, List, [], ◌∷◌, ◌++◌, length, Err, IfErr, IfOk};
+ghost use Rattle.std.specs.Prelude.{IfSome, OnOk};
 ghost use Rattle.cal_context.specs.Snapshots.{IsIn, meaning};
 ghost use Rattle.cal_context.specs.Tree.{Tree, Grows};
 ghost use Rattle.cal_line.specs.Lines.{HasNoNewline, lines_of};
-ghost use Rattle.cal_read.specs.Lines.{bytes_in};
+ghost use Rattle.cal_read.specs.Lines.{bytes_in, rest_in};
 
 use crate::StreamEnd;
 use crate::end::LineEnd;
-use crate::line::Line;
+use crate::line::{Line, cut};
 use crate::stream::Stream;
 use cal_context::{Context, Snapshot, Taker};
 use cal_line::Splitter;
@@ -32,7 +33,7 @@ pub struct StreamReader {
 impl StreamReader {
     ghost use Rattle.cal_read.specs.Cuts.{ended_lines};
     ghost use Rattle.cal_read.specs.Reading.{Ends, HasEnded, HasRead, IsReady, IsRefusalOf};
-    ghost use Rattle.cal_read.specs.Reading.{IsRefused, TakesBytes, TakesEnd};
+    ghost use Rattle.cal_read.specs.Reading.{IsRefused, ReadsOn, TakesBytes, TakesEnd};
     ghost use Rattle.cal_read.specs.Stream.{IsStream};
 
     /// The reader of no bytes, whose context has the built-in nodes.
@@ -140,9 +141,65 @@ impl StreamReader {
         let mut rest = Line::of(piece);
         while let Some((line, after)) = rest.ended() {
             self.end_line(line, context, taker)?;
-            rest = after;
+            rest = self.end_rows(after, context, taker)?;
         }
         self.begin(rest.bytes())
+    }
+
+    /// Reads the rows that stand in the usual form at the front of these bytes, where no line has
+    /// begun, and answers what stands behind them.
+    #[inline(always)]
+    fn end_rows<'a, T: Taker>(
+        &mut self,
+        all: Line<'a>,
+        context: &Context,
+        taker: &mut T,
+    ) -> Result<Line<'a>, StreamEnd>
+        requires { (bytes : List ℕ) × HasRead self.old context.now bytes }
+        ensures read { IfOk result (λ rest. ReadsOn (T.has_taken taker.old context.now)
+            (T.has_taken taker.new context.now) self.old self.new context.now
+            (bytes_in all.entry) (bytes_in rest)) }
+        ensures memory { IfErr result (λ end. end ≡ StreamEnd.OutOfMemory) }
+    {
+        let mut rest = all;
+        while let Some(after) = self.end_row(rest, context, taker)? {
+            rest = after;
+        }
+        Ok(rest)
+    }
+
+    /// Reads the row that stands in the usual form at the front of these bytes, if one does, and
+    /// answers what stands behind it.
+    #[inline(always)]
+    fn end_row<'a, T: Taker>(
+        &mut self,
+        all: Line<'a>,
+        context: &Context,
+        taker: &mut T,
+    ) -> Result<Option<Line<'a>>, StreamEnd>
+        requires { (bytes : List ℕ) × HasRead self.old context.now bytes }
+        ensures shorter { IfOk result (λ next. IfSome next (λ rest.
+            length (bytes_in rest) < length (bytes_in all.entry))) }
+        ensures read { IfOk result (λ next. ReadsOn (T.has_taken taker.old context.now)
+            (T.has_taken taker.new context.now) self.old self.new context.now
+            (bytes_in all.entry) (rest_in all.entry next)) }
+        ensures memory { IfErr result (λ end. end ≡ StreamEnd.OutOfMemory) }
+    {
+        let Line::Text(text) = all else {
+            return Ok(None);
+        };
+        if !self.begun.as_slice().is_empty() {
+            return Ok(None);
+        }
+        if self.lines == u64::MAX {
+            return Ok(None);
+        }
+        let Some(end) = self.stream.read_front(self.alloc, text, context, taker)? else {
+            return Ok(None);
+        };
+        self.lines += 1;
+        let (_, rest) = cut(text, end);
+        Ok(Some(Line::Text(rest)))
     }
 
     /// Ends the line that has begun, if one has.
@@ -175,6 +232,7 @@ impl StreamReader {
     }
 
     /// Reads the line that ends with this part. Where no line has begun, none of it is copied.
+    #[inline(always)]
     fn end_line<T: Taker>(
         &mut self,
         part: Line,
@@ -200,6 +258,7 @@ impl StreamReader {
     }
 
     /// Reads the line that has begun, which ends here.
+    #[inline(never)]
     fn end_begun<T: Taker>(&mut self, context: &mut Context, taker: &mut T) -> Result<(), StreamEnd>
         requires { (bytes : List ℕ) × HasRead self.old context.old bytes }
         ensures grows { Grows context.old context.new }
@@ -219,6 +278,7 @@ impl StreamReader {
     }
 
     /// Reads a line, where none has begun.
+    #[inline(always)]
     fn read_line<T: Taker>(
         &mut self,
         line: Line,

@@ -1,17 +1,16 @@
-ghost use Rattle.std.specs.Prelude.{◌≡◌, ◌<◌, ◌≤◌, List, [], length, IfOk};
-ghost use Rattle.std.specs.List.{All};
+ghost use Rattle.std.specs.Prelude.{◌≡◌, ◌≤◌, List, [], length, take, IfOk};
 ghost use Rattle.cal_read.specs.Held.{AreHeld, HoldsSome};
+ghost use Rattle.cal_read.specs.Known.{SpellsIds};
 ghost use Rattle.cal_read.specs.Nodes.{Named};
-ghost use Rattle.cal_read.specs.Usual.{IsUsualRow, ReadsImms};
+ghost use Rattle.cal_read.specs.Usual.{IsLineEnd, IsUsualRow};
+ghost use Rattle.cal_read.specs.UsualValues.{ReadsAttributes};
 
 use crate::nodes::Nodes;
 use crate::record_line::Columns;
-use crate::spare::empty;
-use crate::usual::Unusual;
-use crate::usual_columns::read_columns;
-use crate::value_at::value_at;
-use cal_context::{AttributeNumber, Context, Immediate, Snapshot};
-use cal_value::Text;
+use crate::usual::{Unusual, behind};
+use crate::usual_columns::{push_ids_at, read_head};
+use crate::usual_values::put_values_at;
+use cal_context::{Context, Immediate, Snapshot};
 use std::alloc::Global;
 
 /// Reads a row in one go from a line like `__rec=ctx,ref=7,attr=8=9,data=a=b`, in which nothing is
@@ -28,51 +27,92 @@ pub(crate) fn read_usual_row(
     ensures { IfOk result (λ _. (named : List Named) → AreHeld context.now nodes.now named
         → IsUsualRow context.now named line.now snapshot.new) }
 {
-    empty(snapshot, &mut columns.spare)?;
-    columns.numbers.clear();
-    let lately = &mut columns.lately;
-    let numbers = &mut columns.numbers;
-    let start = read_columns(alloc, nodes, lately, line, &mut snapshot.nodes, numbers)?;
-    let imms = &mut snapshot.imms;
-    let spare = &mut columns.spare;
-    let end = push_imms_at(alloc, context, &columns.numbers, spare, line, start, imms)?;
+    let end = read_front_row(alloc, nodes, columns, line, context, snapshot)?;
     if end < line.len() {
         return Err(Unusual);
     }
     Ok(())
 }
 
-/// Pushes the immediates that pair attributes with the values at a place, and answers where these
-/// end.
-fn push_imms_at(
+/// Reads such a row from the front of a text, and answers where it ends.
+#[inline(never)]
+pub(crate) fn read_front_row(
     alloc: Global,
+    nodes: &Nodes,
+    columns: &mut Columns,
+    text: &str,
     context: &Context,
-    numbers: &[AttributeNumber],
-    spare: &mut Vec<Text>,
+    snapshot: &mut Snapshot,
+) -> Result<usize, Unusual>
+    requires { HoldsSome context.now nodes.now }
+    ensures line { IfOk result (IsLineEnd text.now) }
+    ensures row { IfOk result (λ end. (named : List Named) → AreHeld context.now nodes.now named
+        → IsUsualRow context.now named (take end text.now) snapshot.new) }
+{
+    snapshot.nodes.clear();
+    let head = read_head(nodes, text, &mut snapshot.nodes)?;
+    let start = behind(text, head, b"attr")?;
+    read_attributes(
+        alloc,
+        nodes,
+        columns,
+        text,
+        start,
+        context,
+        &mut snapshot.imms,
+    )
+}
+
+/// Reads the attributes at a place and their values, which become the immediates, and answers where
+/// these end. Ids of attributes that a row had lately aren't read again.
+fn read_attributes(
+    alloc: Global,
+    nodes: &Nodes,
+    columns: &mut Columns,
     line: &str,
     start: usize,
+    context: &Context,
     imms: &mut Vec<Immediate>,
 ) -> Result<usize, Unusual>
-    requires known { All (λ n. n.0 < length context.now.attributes) numbers.now }
     requires start { start ≤ length line.now }
-    requires none { imms.old.items ≡ [] }
+    requires held { HoldsSome context.now nodes.now }
     ensures { IfOk result (λ end.
-        ReadsImms context.now numbers.now line.now start end imms.new.items) }
+        ReadsAttributes context.now nodes.now line.now start end imms.new.items) }
 {
-    let bytes = line.as_bytes();
-    let mut place = start;
-    for number in numbers {
-        if place == bytes.len() || bytes[place] != b'=' {
-            return Err(Unusual);
+    let lately = &columns.lately;
+    let spare = &mut columns.spare;
+    if let Some(known) = lately.at(line, start) {
+        if let Ok(place) = known.values_in(line, start) {
+            return put_values_at(alloc, nodes, context, &known.ids, line, place, spare, imms);
         }
-        let attribute = *number;
-        let kind = context.attribute_at(attribute).kind;
-        let at = value_at(alloc, spare, kind, line, place + 1)?;
-        place = at.end;
-        imms.push(Immediate {
-            attribute,
-            value: at.value,
-        })?;
     }
-    Ok(place)
+    read_others(alloc, nodes, columns, line, start, context, imms)
+}
+
+/// The same of ids that no row had lately.
+#[inline(never)]
+fn read_others(
+    alloc: Global,
+    nodes: &Nodes,
+    columns: &mut Columns,
+    line: &str,
+    start: usize,
+    context: &Context,
+    imms: &mut Vec<Immediate>,
+) -> Result<usize, Unusual>
+    requires start { start ≤ length line.now }
+    requires held { HoldsSome context.now nodes.now }
+    ensures { IfOk result (λ end.
+        ReadsAttributes context.now nodes.now line.now start end imms.new.items) }
+{
+    let mut ids = Vec::new(alloc);
+    let last = push_ids_at(line, start, &mut ids)?;
+    if last == start {
+        return Err(Unusual);
+    }
+    let place = behind(line, last, b",data")?;
+    let spare = &mut columns.spare;
+    let end = put_values_at(alloc, nodes, context, &ids, line, place, spare, imms)?;
+    columns.lately.note(alloc, line, start, last, ids)?;
+    Ok(end)
 }

@@ -1,11 +1,10 @@
-ghost use Rattle.std.specs.Prelude.{◌≡◌, ◌<◌, length};
+ghost use Rattle.std.specs.Prelude.{◌≡◌, ◌<◌, ◌≤◌, length};
 ghost use Rattle.cal_records.specs.Likely.{likely_key as key_of, node_place, place_in};
 
 use crate::sorting::{Key, compare_entries};
 use cal_context::{Context, NodeNumber};
 use cal_value::OutOfMemory;
 use std::alloc::Global;
-use std::cmp::Ordering;
 
 /// A node below the root, beside its parent and its own entry.
 #[derive(Clone, Copy)]
@@ -37,11 +36,12 @@ pub(crate) fn likely_spots(
     if rows < context.node_count() / 16 {
         return Ok(Vec::new(alloc));
     }
-    let mut branches = branches(alloc, context)?;
+    let branches = branches(alloc, context)?;
     let mut spots = lone_spots(alloc, context.node_count())?;
     add_sizes(&branches, &mut spots);
-    branches.sort_by(|one, other| compare_branches(one, other))?;
-    give_places(&branches, &mut spots);
+    let mut siblings = by_parents(alloc, &branches, context.node_count())?;
+    sort_siblings(&mut siblings);
+    give_places(&siblings, &mut spots);
     Ok(spots)
 }
 
@@ -104,13 +104,82 @@ fn add_sizes(branches: &[Branch], spots: &mut [Spot]) {
     }
 }
 
-/// By parents, and children of one parent by their entries. So a parent comes before its children,
-/// as its number is smaller.
-fn compare_branches(one: &Branch, other: &Branch) -> Ordering {
-    match one.parent.0.cmp(&other.parent.0) {
-        Ordering::Equal => compare_entries(&one.entry, &other.entry),
-        order => order,
+/// The branches by the numbers of their parents, so that siblings stand side by side. A parent comes
+/// before its children, as its number is smaller.
+fn by_parents<'a>(
+    alloc: Global,
+    branches: &[Branch<'a>],
+    count: usize,
+) -> Result<Vec<Branch<'a>>, OutOfMemory> {
+    let mut places = places_of_first(alloc, branches, count)?;
+    let mut siblings = branches.to_vec(alloc)?;
+    for branch in branches {
+        if let Some(place) = places.get_mut(branch.parent.0 as usize) {
+            if let Some(old) = siblings.get_mut(*place as usize) {
+                *old = *branch;
+            }
+            *place = place.wrapping_add(1);
+        }
     }
+    Ok(siblings)
+}
+
+/// For each node, how many branches have a parent of a smaller number.
+fn places_of_first(
+    alloc: Global,
+    branches: &[Branch],
+    count: usize,
+) -> Result<Vec<u32>, OutOfMemory> {
+    let mut places = child_counts(alloc, branches, count)?;
+    let mut before: u32 = 0;
+    for place in places.iter_mut() {
+        let children: u32 = *place;
+        *place = before;
+        before = before.wrapping_add(children);
+    }
+    Ok(places)
+}
+
+/// For each node, of how many branches it is the parent.
+fn child_counts(alloc: Global, branches: &[Branch], count: usize) -> Result<Vec<u32>, OutOfMemory> {
+    let mut counts = Vec::new(alloc);
+    counts.resize(count, 0u32)?;
+    for branch in branches {
+        if let Some(children) = counts.get_mut(branch.parent.0 as usize) {
+            *children = children.wrapping_add(1);
+        }
+    }
+    Ok(counts)
+}
+
+/// Sorts the children of each parent by their entries.
+fn sort_siblings(branches: &mut [Branch]) {
+    let mut start = 0;
+    while start < branches.len() {
+        let end = end_of_siblings(branches, start);
+        if end - start > 1 {
+            branches[start..end].sort_unstable_by(|one, other| compare_entries(
+                &one.entry,
+                &other.entry,
+            ));
+        }
+        start = end;
+    }
+}
+
+/// The place behind the siblings of the branch at a place.
+fn end_of_siblings(branches: &[Branch], start: usize) -> usize
+    requires { start < length branches.now }
+    ensures more { start < result }
+    ensures within { result ≤ length branches.now }
+{
+    let parent = branches[start].parent;
+    for place in start + 1..branches.len() {
+        if branches[place].parent.0 != parent.0 {
+            return place;
+        }
+    }
+    branches.len()
 }
 
 /// Gives each node the next place that its parent has.

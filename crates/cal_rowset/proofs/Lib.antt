@@ -5,5 +5,6 @@ pub mod Filling
 pub mod Trails
 pub mod Walking
 pub mod Placing
+pub mod NumberedLemmas
 pub mod Rooms
 pub mod Standing

@@ -7,6 +7,7 @@ pub mod Known
 pub mod Showing
 pub mod Links
 pub mod Answers
+pub mod NumberedRows
 pub mod Numbers
 pub mod Trails
 pub mod Rooms

@@ -3,11 +3,12 @@ ghost use Rattle.std.specs.List.{All};
 ghost use Rattle.cal_value.specs.Flat.{joined};
 ghost use Rattle.cal_value.specs.declared.attribute.Entry.{Entry};
 ghost use Rattle.cal_value.specs.declared.variant.Variant as variants;
-ghost use Rattle.cal_context.specs.Snapshots.{IsIn, entry_of, meaning};
+ghost use Rattle.cal_context.specs.Snapshots.{entry_of};
 ghost use Rattle.cal_context.specs.Tree.{attribute_at, path_at};
 ghost use Rattle.cal_rowset.specs.Cells.{values};
 ghost use Rattle.cal_rowset.specs.Filling.{Shows, names};
 ghost use Rattle.cal_rowset.specs.Links.{IsEntryOf, link_entry};
+ghost use Rattle.cal_rowset.specs.NumberedRows.{IsWithin, meant};
 ghost use Rattle.cal_rowset.specs.Rooms.{AddsEntries, AddsPath, IsAlike, KnowsAttributes};
 ghost use Rattle.cal_rowset.specs.Rooms.{IsNamedAt, KnowsEach, nested};
 ghost use Rattle.cal_rowset.specs.Showing.{IsFor, ShowsRow};
@@ -17,7 +18,7 @@ ghost use Rattle.cal_rowset.specs.declared.rowset.Column as columns;
 
 use crate::walk::walk;
 use crate::{Cell, Cells, Column, ShownRow, find_links, is_of_hierarchy};
-use cal_context::{AttributeNumber, Context, Immediate, Link, NodeNumber, Snapshot};
+use cal_context::{AttributeNumber, Context, Immediate, Link, NodeNumber};
 use cal_value::{Attribute, OutOfMemory, Variant};
 use std::alloc::Global;
 
@@ -38,22 +39,24 @@ impl ShownRow {
         Ok(shown)
     }
 
-    /// Shows the record that a snapshot means, in place of the row before, and keeps what the paths
-    /// of their first nodes have in common.
-    pub(crate) fn fill_snapshot(
+    /// Shows the record that nodes and immediates mean, in place of the row before, and keeps what
+    /// the paths of their first nodes have in common.
+    pub(crate) fn fill_numbered(
         &mut self,
         context: &Context,
-        snapshot: &Snapshot,
+        nodes: &[NodeNumber],
+        imms: &[Immediate],
     ) -> Result<(), OutOfMemory>
-        requires within { IsIn context.now snapshot.now }
+        requires within { IsWithin context.now (record { nodes = nodes.now; imms = imms.now }) }
         requires stands { StandsIn context.now self.old }
         ensures stands { OnOk result (StandsIn context.now self.new) }
         ensures shows { OnOk result ((columns : List columns.Column) → IsFor self.old columns
-            → ShowsRow self.new columns (meaning context.now snapshot.now)) }
+            → ShowsRow self.new columns
+            (meant context.now (record { nodes = nodes.now; imms = imms.now }))) }
     {
         self.begin(context);
-        self.add_paths(context, &snapshot.nodes)?;
-        self.add_immediates(context, &snapshot.imms)
+        self.add_paths(context, nodes)?;
+        self.add_immediates(context, imms)
     }
 
     // gives up all but the path of the first node, and that too if the hierarchy is shown

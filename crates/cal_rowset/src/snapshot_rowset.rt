@@ -1,34 +1,44 @@
 ghost use Rattle.std.specs.List.{All};
-ghost use Rattle.cal_context.specs.Snapshots.{IsIn};
+ghost use Rattle.cal_rowset.specs.NumberedRows.{IsWithin};
 
-use crate::{Answer, Column, Rows, ShownRow};
-use cal_context::{Context, Snapshot};
+use crate::{Answer, Column, Rows, ShownRow, SnapshotList};
+use cal_context::Context;
 use cal_value::{OutOfMemory, Seq};
 use std::alloc::Global;
 
 /// The answer of a query, its rows as snapshots of a context. A row takes its own size then, and
-/// not that of its entries.
+/// not that of its entries. They lie as they were made, and are shown in the order of their places.
 #[derive(Drop)]
 pub struct SnapshotRowset {
     context: Context,
-    rows: Vec<Snapshot>,
+    rows: SnapshotList,
+    order: Vec<usize>,
     columns: Seq<Column>,
     all: bool,
-    ghost within: { All (IsIn context) rows.items },
+    ghost within: { All (IsWithin context) rows },
 }
 
 impl SnapshotRowset {
     ghost use Rattle.std.specs.Prelude.{◌≡◌};
+    ghost use Rattle.cal_rowset.specs.NumberedRows.{in_order};
     ghost use Rattle.cal_rowset.specs.Numbers.{answer_over, rowset_of};
 
-    /// The answer with these rows and columns; `all` says that the query had no list of columns.
-    pub fn new(context: Context, rows: Vec<Snapshot>, columns: Seq<Column>, all: bool) -> Self
-        requires { All (IsIn context) rows.items }
-        ensures { rowset_of result ≡ answer_over context rows.items columns all }
+    /// The answer with these rows, in the order of their places, and these columns; `all` says that
+    /// the query had no list of columns.
+    pub fn new(
+        context: Context,
+        rows: SnapshotList,
+        order: Vec<usize>,
+        columns: Seq<Column>,
+        all: bool,
+    ) -> Self
+        requires { All (IsWithin context) rows }
+        ensures { rowset_of result ≡ answer_over context (in_order rows order.items) columns all }
     {
         SnapshotRowset {
             context,
             rows,
+            order,
             columns,
             all,
         }
@@ -51,11 +61,11 @@ impl Answer for SnapshotRowset {
     }
 
     fn row_count(&self) -> usize {
-        self.rows.len()
+        self.order.len()
     }
 
     fn rows(&self) -> Rows<'_> {
-        Rows::Numbered(&self.context, &self.rows)
+        Rows::Numbered(&self.context, &self.rows, &self.order)
     }
 
     fn cells(&self, alloc: Global, columns: &[Column]) -> Result<ShownRow, OutOfMemory> {
@@ -63,6 +73,7 @@ impl Answer for SnapshotRowset {
     }
 
     fn show(&self, place: usize, shown: &mut ShownRow) -> Result<(), OutOfMemory> {
-        shown.fill_snapshot(&self.context, &self.rows[place])
+        let row = self.order[place];
+        shown.fill_numbered(&self.context, self.rows.nodes(row), self.rows.imms(row))
     }
 }

@@ -157,6 +157,7 @@ module _ {t0 t1 t2 : Tree} (old : Grows t0 t1) (new : Grows t1 t2) (script : Scr
     readings = was.thread.readings;
     process = second;
     previous = was.thread.previous;
+    timed = was.thread.timed;
   }
 
   pub behind-thread : IsThread t2 script (plain_history script) met_behind state previous

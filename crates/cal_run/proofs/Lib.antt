@@ -20,3 +20,4 @@ pub mod WatchLemmas
 pub mod TellLemmas
 pub mod WalkLemmas
 pub mod FirstLemmas
+pub mod WalkingLemmas

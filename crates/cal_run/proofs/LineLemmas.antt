@@ -148,14 +148,15 @@ runs-earlier t script history thread channel l note earlier had has state previo
 pub taken-thread : (t : Tree) (script : Script) (history : List Placed) (old new : Thread)
     (state : ThreadState) (previous next : ℕ)
     → IsThread t script history old state previous → new.board ≡ old.board
-    → new.readings ≡ old.readings
+    → new.readings ≡ old.readings → new.timed ≡ old.timed
     → new.process ≡ old.process → new.previous ≡ next → IsThread t script history new state next
-taken-thread t script history old new state previous next is board readings process after = record {
-  mine = subst (λ b. Holds t script b state.board) (sym board) is.mine;
-  process = subst (IsProcess t script history) (sym process) is.process;
-  readings = readings ∙ is.readings;
-  previous = after;
-}
+taken-thread t script history old new state previous next is board readings timed process
+    after = record {
+      mine = subst (λ b. Holds t script b state.board) (sym board) is.mine;
+      process = subst (IsProcess t script history) (sym process) is.process;
+      readings = λ so. readings ∙ is.readings (sym timed ∙ so);
+      previous = after;
+    }
 
 module _ (t : Tree) (script : Script) (history : List Placed) (l : lines.Line) (note : LineNote)
     (state : ThreadState)
@@ -214,6 +215,7 @@ pub seen-thread : {old new : Tree} → Grows old new
       readings = thread.readings;
       process = process;
       previous = thread.previous;
+      timed = thread.timed;
     }) state previous
 seen-thread grows script history thread process state previous is sees = record {
   mine = Holds-Grows grows script thread.board state.board is.mine;
@@ -228,19 +230,22 @@ pub changed-thread : {old new : Tree} → Grows old new
     (l : lines.Line) (note : LineNote) (state : ThreadState) (previous : ℕ)
     → IsThread old script history was state previous
     → HoldsThen old new script was.board now.board (λ b. board_placed script b (operation_of l))
-    → now.readings ≡ readings_changed script was.readings note (operation_of l)
+    → (was.timed ≡ true → now.readings ≡ readings_changed script was.readings note (operation_of l))
+    → now.timed ≡ was.timed
     → now.process ≡ was.process
     → now.previous ≡ was.previous
     → IsThread new script history now (changed script history l note state) previous
 changed-thread {old} {new} grows script history was now l note state previous is board readings
-    process before = record {
+    timed process before = record {
       mine = board state.board is.mine;
       process = subst (IsProcess new script history) (sym process) (record {
         holds = Holds-Grows grows script was.process.board
             (process_board script history was.process.count) is.process.holds;
         within = is.process.within;
       });
-      readings = readings ∙ ap (λ rs. readings_changed script rs note (operation_of l)) is.readings;
+      readings = λ so. readings (sym timed ∙ so)
+          ∙ ap (λ rs. readings_changed script rs note (operation_of l))
+          (is.readings (sym timed ∙ so));
       previous = before ∙ is.previous;
     }
 
@@ -274,6 +279,7 @@ module _ {was is : Tree} (grows : Grows was is) (script : Script) (history : Lis
     readings = thread.readings;
     process = process;
     previous = thread.previous;
+    timed = thread.timed;
   }
 
   met-is : IsThread is script history met state previous
@@ -291,7 +297,7 @@ module _ {was is : Tree} (grows : Grows was is) (script : Script) (history : Lis
       ∙ refused) stays
 
   module _ (now : Thread) (accepts : accepted ≡ true) (board : now.board ≡ thread.board)
-      (readings : now.readings ≡ thread.readings)
+      (readings : now.readings ≡ thread.readings) (timed : now.timed ≡ thread.timed)
       (same : now.process ≡ process)
       (before : now.previous ≡ (if channel.timer && takes script channel l then reading_of note else
       thread.previous))
@@ -303,7 +309,7 @@ module _ {was is : Tree} (grows : Grows was is) (script : Script) (history : Lis
     next = if channel.timer && takes script channel l then reading_of note else previous
 
     now-is : IsThread is script history now state next
-    now-is = taken-thread is script history met now state previous next met-is board readings same
+    now-is = taken-thread is script history met now state previous next met-is board readings timed same
         (before ∙ ap (λ p. if channel.timer && takes script channel l then reading_of note else p)
         kept.previous)
 
@@ -326,14 +332,16 @@ module _ {was is : Tree} (grows : Grows was is) (script : Script) (history : Lis
         → shared ≡ false
         → HoldsThen is after script now.board changed.board
         (λ b. board_placed script b (operation_of l))
-        → changed.readings ≡ readings_changed script now.readings note (operation_of l)
+        → (now.timed ≡ true
+        → changed.readings ≡ readings_changed script now.readings note (operation_of l))
+        → changed.timed ≡ now.timed
         → changed.process ≡ now.process
         → changed.previous ≡ now.previous
         → RunsLine after script history changed channel l note earlier later state previous
-    line-own {after} more changed earlier later stays onward own holds reads sees_so was_before =
+    line-own {after} more changed earlier later stays onward own holds reads times sees_so was_before =
         own-runs after script history l note state previous channel earlier later (found ∙ accepts)
         (λ rs h. onward _ (handed rs (stays rs h))) changed (sym kind ∙ own)
-        (changed-thread more script history now changed l note state next now-is holds reads sees_so
+        (changed-thread more script history now changed l note state next now-is holds reads times sees_so
         was_before)
 
 -- ---- before the first line
@@ -360,6 +368,6 @@ start-thread t script history thread start board readings shared count previous 
         (subst (λ b. Holds t script b nothing_open) (sym shared) (nothing-holds t script));
     within = omega (arith, count);
   };
-  readings = readings;
+  readings = λ _. readings;
   previous = previous;
 }

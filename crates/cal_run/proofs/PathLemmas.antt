@@ -154,7 +154,7 @@ not-so : (b : Bool) → (b ≡ true → ⊥) → b ≡ false
 not-so true never = absurd (never refl)
 not-so false never = refl
 
-nothing-held : (t : Tree) → AreHeld t [] []
+pub nothing-held : (t : Tree) → AreHeld t [] []
 nothing-held t = record {
   within = All-nil (λ (n : NodeNumber). n.0 < length t.paths);
   same = λ p. refl;

@@ -1,5 +1,5 @@
 -- How a run keeps boards in a context: by nodes.
-use Rattle.std.specs.Prelude.{◌≡◌, ℕ, ◌<◌, ◌≤◌, List, length, All}
+use Rattle.std.specs.Prelude.{◌≡◌, ℕ, ◌<◌, ◌≤◌, List, length, true, All}
 use Rattle.cal_board.specs.Blackboard.{Blackboard}
 use Rattle.cal_board.specs.Contexts.{NodeStands}
 use Rattle.cal_board.specs.PathBoards.{AreKnown}
@@ -59,6 +59,6 @@ pub record IsProcess (t : Tree) (script : Script) (history : List Placed) (p : P
 pub record Shows (t : Tree) (script : Script) (m : Moment) (s : Sight) : Type 0 where
   pub mine : Holds t script m.board.now s.mine
   pub process : Holds t script m.process.now s.process
-  pub readings : m.readings.now ≡ s.readings
+  pub readings : m.timed ≡ true → m.readings.now ≡ s.readings
   pub reading : m.reading ≡ s.reading
   pub previous : m.previous ≡ s.previous

@@ -18,3 +18,4 @@ pub mod Paths
 pub mod Holding
 pub mod Counting
 pub mod Refused
+pub mod Walking

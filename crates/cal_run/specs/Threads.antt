@@ -15,12 +15,13 @@ use Rattle.cal_script.specs.declared.script.Line.{Line}
 use Rattle.cal_script.specs.declared.script.Script.{Script}
 use Rattle.cal_value.specs.declared.record.Rec.{Rec}
 
--- a thread is kept in a context: its board, the readings, and the process's board as it has seen it
+-- a thread is kept in a context: its board, the readings where they are kept, and the process's
+-- board as it has seen it
 pub record IsThread (t : Tree) (script : Script) (history : List Placed) (thread : Thread)
     (state : ThreadState) (before : ℕ) : Type 0 where
   pub mine : Holds t script thread.board state.board
   pub process : IsProcess t script history thread.process
-  pub readings : thread.readings ≡ state.readings
+  pub readings : thread.timed ≡ true → thread.readings ≡ state.readings
   pub previous : thread.previous ≡ before
 
 -- for some state
@@ -33,7 +34,7 @@ pub record ShowsThread (t : Tree) (script : Script) (thread : Thread) (note : Li
     : Type 0 where
   pub mine : Holds t script thread.board s.mine
   pub process : Holds t script thread.process.board s.process
-  pub readings : thread.readings ≡ s.readings
+  pub readings : thread.timed ≡ true → thread.readings ≡ s.readings
   pub reading : reading_of note ≡ s.reading
   pub previous : thread.previous ≡ s.previous
 

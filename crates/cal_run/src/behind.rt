@@ -33,18 +33,19 @@ pub(crate) struct Behind {
 
 impl Behind {
     /// Before the first line, behind so many operations.
-    pub(crate) fn new(alloc: Global, before: usize) -> Self
+    pub(crate) fn new(alloc: Global, before: usize, timed: bool) -> Self
         ensures board { result.thread.board ≡ nothing_open }
         ensures readings { result.thread.readings ≡ [] }
         ensures process { result.thread.process.board ≡ nothing_open }
         ensures count { result.thread.process.count ≡ 0 }
         ensures previous { result.thread.previous ≡ 0 }
+        ensures timed { result.thread.timed ≡ timed }
         ensures clock { result.clock ≡ 0 }
         ensures seen { result.seen ≡ 0 }
         ensures before { result.before ≡ before }
     {
         Behind {
-            thread: Thread::new(alloc, 0),
+            thread: Thread::new(alloc, 0, timed),
             clock: 0,
             seen: 0,
             before,
@@ -71,6 +72,7 @@ impl Behind {
             line }
         requires history { history.now ≡ plain_history script.now }
         requires behind { IsSomeBehind context.old script.now self.old }
+        requires timed { self.old.thread.timed ≡ channel.now.timer }
         requires within { self.old.before ≤ length history.now }
         requires room { is_process_line script.now line ≡ true
             → self.old.before < length history.now }
@@ -79,6 +81,60 @@ impl Behind {
             → RunsBehind context.new script.now self.old self.new channel.now line reply
             (T.has_taken taker.old context.old) (T.has_taken taker.new context.new)
             state previous) }
+        ensures timed { OnOk result (self.new.thread.timed ≡ self.old.thread.timed) }
+        ensures before { OnOk result (self.new.before
+            ≡ before_after script.now self.old.before line) }
+        ensures grows { Grows context.old context.new }
+    {
+        match line {
+            Line::Begin { .. } => self.step(
+                alloc, script, numbers, channel, history, line, context, snapshot, taker,
+            ),
+            Line::End { .. } => self.step(
+                alloc, script, numbers, channel, history, line, context, snapshot, taker,
+            ),
+            Line::Set { .. } => self.step(
+                alloc, script, numbers, channel, history, line, context, snapshot, taker,
+            ),
+            Line::Snapshot => self.step(
+                alloc, script, numbers, channel, history, line, context, snapshot, taker,
+            ),
+            Line::Flush { .. } | Line::Tick { .. } => self.step(
+                alloc, script, numbers, channel, history, line, context, snapshot, taker,
+            ),
+        }
+    }
+
+    /// Runs a line. Each kind of line has a copy of this of its own, in which much of it falls away.
+    #[inline(always)]
+    fn step<T: Taker>(
+        &mut self,
+        alloc: Global,
+        script: &Script,
+        numbers: &Numbers,
+        channel: &Channel,
+        history: &[Placed],
+        line: Line,
+        context: &mut Context,
+        snapshot: &mut Snapshot,
+        taker: &mut T,
+    ) -> Result<Reply, OutOfMemory>
+        requires runnable { IsRunnable script.now }
+        requires numbered { AreNumbered context.old script.now numbers.now }
+        requires placed { IsPlaced script.now.attributes script.now.channels script.now.values
+            line }
+        requires history { history.now ≡ plain_history script.now }
+        requires behind { IsSomeBehind context.old script.now self.old }
+        requires timed { self.old.thread.timed ≡ channel.now.timer }
+        requires within { self.old.before ≤ length history.now }
+        requires room { is_process_line script.now line ≡ true
+            → self.old.before < length history.now }
+        ensures runs { IfOk result (λ reply. (state : ThreadState) (previous : ℕ)
+            → IsBehind context.old script.now self.old state previous
+            → RunsBehind context.new script.now self.old self.new channel.now line reply
+            (T.has_taken taker.old context.old) (T.has_taken taker.new context.new)
+            state previous) }
+        ensures timed { OnOk result (self.new.thread.timed ≡ self.old.thread.timed) }
         ensures before { OnOk result (self.new.before
             ≡ before_after script.now self.old.before line) }
         ensures grows { Grows context.old context.new }
@@ -120,6 +176,7 @@ impl Behind {
 
 /// How much of the history a thread takes in before a line is answered: for a process line, all
 /// that stands before it.
+#[inline(always)]
 fn seen_first(shared: bool, before: usize, count: usize) -> usize
     ensures { result ≡ (if shared then before else count) }
 {
@@ -127,6 +184,7 @@ fn seen_first(shared: bool, before: usize, count: usize) -> usize
 }
 
 /// The script clock behind a line.
+#[inline(always)]
 fn clock_behind(shared: bool, accepted: bool, clock: u64, line: Line) -> u64
     ensures { result ≡ (if accepted && not shared then clock_after clock line else clock) }
 {
@@ -138,6 +196,7 @@ fn clock_behind(shared: bool, accepted: bool, clock: u64, line: Line) -> u64
 }
 
 /// How many operations stand behind a line.
+#[inline(always)]
 fn count_behind(shared: bool, before: usize) -> usize
     requires { shared ≡ true → before < 18446744073709551615 }
     ensures { result ≡ (if shared then before + 1 else before) }

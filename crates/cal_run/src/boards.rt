@@ -14,6 +14,7 @@ use cal_words::OpCode;
 use std::alloc::Global;
 
 /// Does to a board what an operation does, which is nothing where the board refuses it.
+#[inline(always)]
 pub fn operate(
     alloc: Global,
     script: &Script,

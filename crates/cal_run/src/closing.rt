@@ -1,4 +1,4 @@
-ghost use Rattle.std.specs.Prelude.{◌≡◌, Some, option_copied, option_map, IfOk};
+ghost use Rattle.std.specs.Prelude.{◌≡◌, Some, option_copied, option_map, unwrap_or};
 ghost use Rattle.cal_board.specs.Blackboard.{Blackboard};
 ghost use Rattle.cal_board.specs.Contexts.{NodeStands};
 ghost use Rattle.cal_board.specs.PathBoards.{last_at};
@@ -6,7 +6,7 @@ ghost use Rattle.cal_board.specs.Standing.{Stands};
 ghost use Rattle.cal_board.specs.declared.opened.Opened.{Opened};
 ghost use Rattle.cal_context.specs.Children.{IsLinked};
 ghost use Rattle.cal_context.specs.Snapshots.{IsBelowRoot};
-ghost use Rattle.cal_context.specs.Tree.{value_at};
+ghost use Rattle.cal_context.specs.Tree.{no_value, value_at};
 ghost use Rattle.cal_context.specs.declared.numbers.Link as links;
 ghost use Rattle.cal_run.specs.Held.{Holds, HoldsSome};
 ghost use Rattle.cal_run.specs.Lines.{value_of};
@@ -18,54 +18,56 @@ use crate::lines::attr_ref;
 use cal_board::{AttrRef, Board};
 use cal_context::{Context, NodeNumber};
 use cal_script::Script;
-use cal_value::{OutOfMemory, TryCopy, Variant};
+use cal_value::Variant;
 use cal_words::OpCode;
-use std::alloc::Global;
 
-/// The value of an event, by the board that its operation acts on.
-pub(crate) fn event_value(
-    alloc: Global,
-    script: &Script,
+/// The value of an event, by the board that its operation acts on, if there is one.
+#[inline(always)]
+pub(crate) fn event_value<'a>(
+    script: &'a Script,
     op: Operation,
-    board: &Board<NodeNumber>,
-    context: &Context,
-) -> Result<Variant, OutOfMemory>
+    board: &'a Board<NodeNumber>,
+    context: &'a Context,
+) -> Option<&'a Variant>
     requires { HoldsSome context.now script.now board.now }
-    ensures { IfOk result (λ v. (b : Blackboard variants.Variant)
-        → Holds context.now script.now board.now b → v ≡ value_on script.now b op.code op) }
+    ensures { (b : Blackboard variants.Variant)
+        → Holds context.now script.now board.now b
+        → unwrap_or (option_copied result) no_value ≡ value_on script.now b op.code op }
 {
     match op.code {
-        OpCode::Begin => opened_value(alloc, script, op),
-        OpCode::Set => opened_value(alloc, script, op),
-        OpCode::End => closed_value(alloc, script, op, board, context),
+        OpCode::Begin => opened_value(script, op),
+        OpCode::Set => opened_value(script, op),
+        OpCode::End => closed_value(script, op, board, context),
     }
 }
 
 /// The value that an operation opens.
-fn opened_value(alloc: Global, script: &Script, op: Operation) -> Result<Variant, OutOfMemory>
-    ensures { IfOk result (λ v. v ≡ value_of script.now op) }
+#[inline(always)]
+fn opened_value(script: &Script, op: Operation) -> Option<&Variant>
+    ensures { unwrap_or (option_copied result) no_value ≡ value_of script.now op }
 {
     match script.values.get(op.value as usize) {
-        Some(value) => value.copy(alloc),
-        None => Ok(Variant::Bool(false)),
+        Some(value) => Some(value),
+        None => None,
     }
 }
 
 /// The value that an operation closes on a board.
-fn closed_value(
-    alloc: Global,
-    script: &Script,
+#[inline(always)]
+fn closed_value<'a>(
+    script: &'a Script,
     op: Operation,
-    board: &Board<NodeNumber>,
-    context: &Context,
-) -> Result<Variant, OutOfMemory>
+    board: &'a Board<NodeNumber>,
+    context: &'a Context,
+) -> Option<&'a Variant>
     requires { HoldsSome context.now script.now board.now }
-    ensures { IfOk result (λ v. (b : Blackboard variants.Variant)
-        → Holds context.now script.now board.now b → v ≡ closed_on script.now b op) }
+    ensures { (b : Blackboard variants.Variant)
+        → Holds context.now script.now board.now b
+        → unwrap_or (option_copied result) no_value ≡ closed_on script.now b op }
 {
     match last_value(board, attr_ref(script, op.attr), context) {
-        Some(value) => value.copy(alloc),
-        None => Ok(Variant::Bool(false)),
+        Some(value) => Some(value),
+        None => None,
     }
 }
 

@@ -8,7 +8,7 @@ ghost use Rattle.cal_run.specs.Numbers.{AreNumbered};
 ghost use Rattle.cal_run.specs.Snapshots.{Sight, snapshot_of, value_entries};
 
 use crate::moment::Moment;
-use crate::services::add_services;
+use crate::services::put_services;
 use crate::{Numbers, Operation};
 use cal_context::{Context, Immediate, NodeNumber, Snapshot};
 use cal_script::{Channel, Script};
@@ -28,15 +28,16 @@ pub(crate) fn fill(
 ) -> Result<(), OutOfMemory>
     requires numbered { AreNumbered context.now script.now numbers.now }
     requires places { MayHavePlaces script.now op }
+    requires timed { moment.now.timed ≡ channel.now.timer }
     requires shown { ShowsSome context.now script.now moment.now }
     ensures inside { OnOk result (IsIn context.now snapshot.new) }
     ensures means { OnOk result ((s : Sight) → Shows context.now script.now moment.now s
         → meaning context.now snapshot.new ≡ snapshot_of script.now s channel.now op) }
 {
-    snapshot.clear();
+    snapshot.nodes.clear();
     add_nodes(script, numbers, moment, context, &mut snapshot.nodes)?;
     let out = &mut snapshot.imms;
-    add_services(alloc, script, numbers, channel, op, moment, context, out)?;
+    put_services(alloc, script, numbers, channel, op, moment, context, out)?;
     add_values(alloc, script, numbers, moment, context, &mut snapshot.imms)
 }
 

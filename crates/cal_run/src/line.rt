@@ -43,6 +43,7 @@ pub(crate) fn run_line<T: Taker>(
     requires numbered { AreNumbered context.old script.now numbers.now }
     requires placed { IsPlaced script.now.attributes script.now.channels script.now.values line }
     requires thread { IsSomeThread context.old script.now history.now thread.old }
+    requires timed { thread.old.timed ≡ channel.now.timer }
     requires can { CanRun script.now history.now thread.old line note }
     ensures runs { OnOk result ((state : ThreadState) (previous : ℕ)
         → IsThread context.old script.now history.now thread.old state previous
@@ -50,6 +51,7 @@ pub(crate) fn run_line<T: Taker>(
         (T.has_taken taker.old context.old) (T.has_taken taker.new context.new) state previous) }
     ensures seen { OnOk result (thread.new.process.count
         ≡ seen_before script.now history.now line note) }
+    ensures timed { OnOk result (thread.new.timed ≡ thread.old.timed) }
     ensures grows { Grows context.old context.new }
 {
     let shared = is_process_line(script, line);
@@ -68,6 +70,7 @@ pub(crate) fn run_line<T: Taker>(
 
 /// Runs a line, of which it is known whether it is a process line and whether it is accepted, behind
 /// what its thread has taken in.
+#[inline(always)]
 pub(crate) fn run_known<T: Taker>(
     alloc: Global,
     script: &Script,
@@ -86,6 +89,7 @@ pub(crate) fn run_known<T: Taker>(
     requires numbered { AreNumbered context.old script.now numbers.now }
     requires placed { IsPlaced script.now.attributes script.now.channels script.now.values line }
     requires thread { IsSomeThread context.old script.now history.now thread.old }
+    requires timed { thread.old.timed ≡ channel.now.timer }
     requires seen { thread.old.process.count ≡ seen_before script.now history.now line note }
     requires kind { shared ≡ is_process_line script.now line }
     requires answer { accepted ≡ is_accepted (reply_to_line script.now
@@ -95,6 +99,7 @@ pub(crate) fn run_known<T: Taker>(
         → RunsLine context.new script.now history.now thread.new channel.now line note
         (T.has_taken taker.old context.old) (T.has_taken taker.new context.new) state previous) }
     ensures process { OnOk result (thread.new.process ≡ thread.old.process) }
+    ensures timed { OnOk result (thread.new.timed ≡ thread.old.timed) }
     ensures grows { Grows context.old context.new }
 {
     let _ = history;
@@ -112,6 +117,7 @@ pub(crate) fn run_known<T: Taker>(
 }
 
 /// How many operations a line has seen before its own.
+#[inline(always)]
 pub(crate) fn seen_before(shared: bool, note: LineNote) -> u64
     requires { shared ≡ true → 0 < note.seen }
     ensures { result ≡ (if shared then note.seen - 1 else note.seen) }
@@ -120,6 +126,7 @@ pub(crate) fn seen_before(shared: bool, note: LineNote) -> u64
 }
 
 /// The reply to a line by the board that it acts on, if the script knows it.
+#[inline(always)]
 pub(crate) fn reply_of(script: &Script, line: Line, shared: bool, thread: &Thread) -> Option<Reply>
     ensures { result ≡ reply_to_line script.now
         (if shared then thread.now.process.board else thread.now.board) line }
@@ -132,6 +139,7 @@ pub(crate) fn reply_of(script: &Script, line: Line, shared: bool, thread: &Threa
 }
 
 /// Hands what a channel takes of an accepted line to a taker.
+#[inline(always)]
 fn hand_on<T: Taker>(
     alloc: Global,
     script: &Script,
@@ -146,6 +154,7 @@ fn hand_on<T: Taker>(
 ) -> Result<(), OutOfMemory>
     requires numbered { AreNumbered context.now script.now numbers.now }
     requires places { MayHavePlaces script.now (operation_of line) }
+    requires timed { thread.old.timed ≡ channel.now.timer }
     requires shown { HoldsSome context.now script.now thread.old.board }
     requires process { HoldsSome context.now script.now thread.old.process.board }
     ensures taken { OnOk result ((s : Sight) → ShowsThread context.now script.now thread.old note s
@@ -155,6 +164,7 @@ fn hand_on<T: Taker>(
     ensures board { OnOk result (thread.new.board ≡ thread.old.board) }
     ensures readings { OnOk result (thread.new.readings ≡ thread.old.readings) }
     ensures process { OnOk result (thread.new.process ≡ thread.old.process) }
+    ensures timed { OnOk result (thread.new.timed ≡ thread.old.timed) }
     ensures previous { OnOk result (thread.new.previous
         ≡ (if channel.now.timer && takes script.now channel.now line
         then unwrap_or note.reading 0 else thread.old.previous)) }
@@ -169,6 +179,7 @@ fn hand_on<T: Taker>(
         process: &thread.process.board,
         reading,
         previous: thread.previous,
+        timed: thread.timed,
     };
     let op = operation_of(line);
     fill(
@@ -182,6 +193,7 @@ fn hand_on<T: Taker>(
 }
 
 /// Makes the change of an accepted line that is the thread's own.
+#[inline(always)]
 fn make_change(
     alloc: Global,
     script: &Script,
@@ -196,8 +208,9 @@ fn make_change(
     requires holds { HoldsSome context.old script.now thread.old.board }
     ensures board { OnOk result (HoldsThen context.old context.new script.now
         thread.old.board thread.new.board (λ b. board_changed script.now b (operation_of line))) }
-    ensures readings { OnOk result (thread.new.readings
+    ensures readings { OnOk result (thread.old.timed ≡ true → thread.new.readings
         ≡ readings_changed script.now thread.old.readings note (operation_of line)) }
+    ensures timed { OnOk result (thread.new.timed ≡ thread.old.timed) }
     ensures process { OnOk result (thread.new.process ≡ thread.old.process) }
     ensures previous { OnOk result (thread.new.previous ≡ thread.old.previous) }
     ensures grows { Grows context.old context.new }
@@ -206,6 +219,9 @@ fn make_change(
         None => Ok(()),
         Some(op) => {
             operate(alloc, script, numbers, op, &mut thread.board, context)?;
+            if !thread.timed {
+                return Ok(());
+            }
             let attr = attr_ref(script, op.attr);
             let reading = note.reading.unwrap_or(0);
             thread.readings.follow(op.code, attr, reading)

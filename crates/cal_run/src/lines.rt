@@ -9,6 +9,7 @@ use cal_script::{Channel, Line, Placed, Script};
 use cal_value::Props;
 
 /// The properties of an attribute, by its place in the script.
+#[inline(always)]
 fn props_of(script: &Script, attr: u32) -> Props
     ensures { result ≡ (attribute_of script.now attr).props }
 {
@@ -19,6 +20,7 @@ fn props_of(script: &Script, attr: u32) -> Props
 }
 
 /// An attribute as boards know it.
+#[inline(always)]
 pub fn attr_ref(script: &Script, attr: u32) -> AttrRef
     ensures { result ≡ attr_ref script.now attr }
 {
@@ -31,6 +33,7 @@ pub fn attr_ref(script: &Script, attr: u32) -> AttrRef
 }
 
 /// Whether an operation is the process's.
+#[inline(always)]
 pub fn is_shared(script: &Script, op: Operation) -> bool
     ensures { result ≡ is_shared script.now op }
 {
@@ -38,6 +41,7 @@ pub fn is_shared(script: &Script, op: Operation) -> bool
 }
 
 /// Whether a line is placed in the history.
+#[inline(always)]
 pub fn is_process_line(script: &Script, line: Line) -> bool
     ensures { result ≡ is_process_line script.now line }
 {
@@ -47,6 +51,7 @@ pub fn is_process_line(script: &Script, line: Line) -> bool
     }
 }
 
+#[inline(always)]
 fn is_event(script: &Script, line: Line) -> bool
     ensures { result ≡ is_such (is_event script.now) (operation_of line) }
 {
@@ -57,6 +62,7 @@ fn is_event(script: &Script, line: Line) -> bool
 }
 
 /// Whether a channel takes a snapshot on a line that is accepted.
+#[inline(always)]
 pub fn takes(script: &Script, channel: &Channel, line: Line) -> bool
     ensures { result ≡ takes script.now channel.now line }
 {

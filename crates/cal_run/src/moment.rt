@@ -3,6 +3,7 @@ use cal_context::NodeNumber;
 
 /// What a snapshot sees: the boards of its thread and of the process, the readings by which the
 /// thread's values were put there, the line's reading, and that of the thread's snapshot before it.
+/// The readings are only kept where `timed` says so.
 #[derive(Drop)]
 pub(crate) struct Moment<'a> {
     pub board: &'a Board<NodeNumber>,
@@ -10,4 +11,5 @@ pub(crate) struct Moment<'a> {
     pub process: &'a Board<NodeNumber>,
     pub reading: u64,
     pub previous: u64,
+    pub timed: bool,
 }

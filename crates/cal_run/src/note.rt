@@ -53,6 +53,7 @@ pub(crate) fn note_of(
 
 /// The note of a line with this reply, of a thread that has seen so much and stands behind so many
 /// operations.
+#[inline(always)]
 pub(crate) fn note_behind(
     script: &Script,
     line: Line,
@@ -74,6 +75,7 @@ pub(crate) fn note_behind(
 }
 
 /// How many operations a line with this reply has seen, behind so many.
+#[inline(always)]
 fn seen_with(
     script: &Script,
     line: Line,
@@ -98,6 +100,7 @@ fn seen_with(
 }
 
 /// The reading of a line with this reply, if it takes one.
+#[inline(always)]
 fn reading_with(script: &Script, line: Line, reply: Option<Reply>, clock: u64) -> Option<u64>
     ensures { result ≡ reading_with script.now clock line reply }
 {

@@ -14,6 +14,7 @@ pub struct Operation {
 }
 
 /// What a line does to a board, if it does anything to one.
+#[inline(always)]
 pub fn operation_of(line: Line) -> Option<Operation>
     ensures { result ≡ operation_of line }
 {

@@ -1,6 +1,5 @@
-ghost use Rattle.std.specs.Prelude.{◌≡◌, [], flat_map, map, All, IfOk, OnOk};
+ghost use Rattle.std.specs.Prelude.{◌≡◌, ◌<◌, [], flat_map, length, map, All, IfOk, OnOk};
 ghost use Rattle.cal_board.specs.Blackboard.{Blackboard};
-ghost use Rattle.cal_context.specs.Snapshots.{IsBelowRoot};
 ghost use Rattle.cal_context.specs.Tree.{Grows, path_at};
 ghost use Rattle.cal_run.specs.Adding.{MayHavePlaces};
 ghost use Rattle.cal_run.specs.Held.{Holds, HoldsSome, HoldsThen};
@@ -26,7 +25,7 @@ use std::alloc::Global;
 /// The nodes whose paths boards held so far, each once.
 #[derive(Drop)]
 pub(crate) struct HeldNodes {
-    nodes: Interner<NodeNumber>,
+    pub nodes: Interner<NodeNumber>,
     /// Room for the nodes of a board.
     room: Vec<NodeNumber>,
 }
@@ -116,7 +115,7 @@ fn hold_process(
 }
 
 /// What a line does to its thread's own board.
-fn own_operation(script: &Script, line: Line) -> Option<Operation>
+pub(crate) fn own_operation(script: &Script, line: Line) -> Option<Operation>
     ensures { result ≡ own_operation script.now line }
 {
     if is_process_line(script, line) {
@@ -127,7 +126,7 @@ fn own_operation(script: &Script, line: Line) -> Option<Operation>
 }
 
 /// Does an operation to a board, if there is one, and adds what the board holds behind it.
-fn hold_behind(
+pub(crate) fn hold_behind(
     alloc: Global,
     script: &Script,
     numbers: &Numbers,
@@ -156,13 +155,27 @@ fn hold_behind(
 }
 
 impl HeldNodes {
-    fn new(alloc: Global) -> Self
+    /// Before the first node.
+    pub(crate) fn new(alloc: Global) -> Self
         ensures { result.nodes ≡ [] }
     {
         HeldNodes {
             nodes: Interner::new(alloc),
             room: Vec::new(alloc),
         }
+    }
+
+    /// Adds the nodes that others are.
+    pub(crate) fn add_held(
+        &mut self,
+        others: &HeldNodes,
+        context: &Context,
+    ) -> Result<(), OutOfMemory>
+        requires { All (λ n. n.0 < length context.now.paths) others.now.nodes }
+        ensures { OnOk result (HoldsPaths context.now context.now self.old.nodes self.new.nodes
+            (map (path_at context.now) others.now.nodes)) }
+    {
+        add_nodes(context, others.nodes.as_slice(), &mut self.nodes)
     }
 
     /// Adds what a board holds.
@@ -194,7 +207,7 @@ fn add_nodes(
     nodes: &[NodeNumber],
     held: &mut Interner<NodeNumber>,
 ) -> Result<(), OutOfMemory>
-    requires { All (IsBelowRoot context.now) nodes.now }
+    requires { All (λ n. n.0 < length context.now.paths) nodes.now }
     ensures { OnOk result (HoldsPaths context.now context.now held.old held.new
         (map (path_at context.now) nodes.now)) }
 {

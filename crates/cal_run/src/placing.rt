@@ -42,6 +42,7 @@ fn place_lines(
 }
 
 /// Places a line of this number behind a history, if it is a process line.
+#[inline(always)]
 fn place_line(
     script: &Script,
     thread: u32,
@@ -71,6 +72,7 @@ pub(crate) fn lines_of_thread(script: &Script, thread: usize) -> &[Line]
 }
 
 /// The line at a place.
+#[inline(always)]
 pub(crate) fn line_in(lines: &[Line], place: usize) -> Line
     requires { place < length lines.now }
     ensures { (d : lines_of.Line) → result ≡ slice_index_or lines.now place d }

@@ -97,7 +97,7 @@ fn run_behind<T: Taker>(
     ensures ended { IfOk result (HasRun script.now before lines.now) }
     ensures grows { Grows context.old context.new }
 {
-    let mut behind = Behind::new(alloc, before);
+    let mut behind = Behind::new(alloc, before, channel.timer);
     let mut refused = 0;
     for place in 0..lines.len() {
         let line = line_in(lines, place);
@@ -113,6 +113,7 @@ fn run_behind<T: Taker>(
 }
 
 /// How many lines a line with this reply is, if refused ones are counted: one or none.
+#[inline(always)]
 fn refusals(reply: Reply) -> u64
     ensures { result ≡ (if is_refused reply then 1 else 0) }
 {

@@ -36,7 +36,33 @@ impl Process {
     }
 
     /// Takes in the history up to so many operations.
+    #[inline(always)]
     pub fn take_in(
+        &mut self,
+        alloc: Global,
+        script: &Script,
+        numbers: &Numbers,
+        history: &[Placed],
+        seen: usize,
+        context: &mut Context,
+    ) -> Result<(), OutOfMemory>
+        requires runnable { IsRunnable script.now }
+        requires numbered { AreNumbered context.old script.now numbers.now }
+        requires process { IsProcess context.old script.now history.now self.old }
+        requires more { self.old.count ≤ seen }
+        requires within { seen ≤ length history.now }
+        ensures process { OnOk result (IsProcess context.new script.now history.now self.new) }
+        ensures seen { OnOk result (self.new.count ≡ seen) }
+        ensures grows { Grows context.old context.new }
+    {
+        if self.count == seen {
+            return Ok(());
+        }
+        self.take_more(alloc, script, numbers, history, seen, context)
+    }
+
+    #[inline(never)]
+    fn take_more(
         &mut self,
         alloc: Global,
         script: &Script,

@@ -89,7 +89,7 @@ fn take_thread<T: Taker>(
 {
     let start = note.start.unwrap_or(0);
     let notes = note.lines.as_slice();
-    let mut thread = Thread::new(alloc, start);
+    let mut thread = Thread::new(alloc, start, channel.timer);
     for place in 0..lines_to_run(script, channel, lines) {
         let (line, note) = noted_at(lines, notes, place);
         run_line(

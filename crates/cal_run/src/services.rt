@@ -1,5 +1,6 @@
-ghost use Rattle.std.specs.Prelude.{◌≡◌, ◌<◌, [], ◌∷◌, ◌++◌, length, IfOk, OnOk, Some};
-ghost use Rattle.cal_context.specs.Tree.{attribute_at};
+ghost use Rattle.std.specs.Prelude.{◌≡◌, ◌<◌, [], ◌∷◌, ◌++◌, length, true, OnOk, Some};
+ghost use Rattle.std.specs.Prelude.{option_copied, unwrap_or};
+ghost use Rattle.cal_context.specs.Tree.{attribute_at, no_value};
 ghost use Rattle.cal_run.specs.Adding.{AddsEntries, AddsShown, MayHavePlaces, ShowsSome};
 ghost use Rattle.cal_run.specs.Held.{HasPlaces, Shows};
 ghost use Rattle.cal_run.specs.Lines.{attribute_of};
@@ -11,6 +12,7 @@ ghost use Rattle.cal_run.specs.Snapshots.{time_entries, value_on};
 use crate::closing::event_value;
 use crate::lines::{attr_ref, is_shared};
 use crate::moment::Moment;
+use crate::only::put_only;
 use crate::probes::add_probes;
 use crate::{Numbers, Operation};
 use cal_context::{AttributeNumber, Context, Immediate};
@@ -19,8 +21,9 @@ use cal_value::{OutOfMemory, Variant};
 use cal_words::OpCode;
 use std::alloc::Global;
 
-/// Adds what the services of a channel say of a moment: the event, the times and the probes.
-pub(crate) fn add_services(
+/// Puts what the services of a channel say of a moment into the place of what was there: the event,
+/// the times and the probes.
+pub(crate) fn put_services(
     alloc: Global,
     script: &Script,
     numbers: &Numbers,
@@ -32,12 +35,13 @@ pub(crate) fn add_services(
 ) -> Result<(), OutOfMemory>
     requires numbered { AreNumbered context.now script.now numbers.now }
     requires places { MayHavePlaces script.now op }
+    requires timed { moment.now.timed ≡ channel.now.timer }
     requires shown { ShowsSome context.now script.now moment.now }
-    ensures { OnOk result (AddsShown context.now script.now moment.now out.old.items out.new.items
+    ensures { OnOk result (AddsShown context.now script.now moment.now [] out.new.items
         (λ s. event_entries script.now s op ++ time_entries script.now s channel.now.timer op
         ++ probe_entries script.now s channel.now.probes)) }
 {
-    add_event(alloc, script, numbers, op, moment, context, out)?;
+    put_event(alloc, script, numbers, op, moment, context, out)?;
     add_times(script, numbers, channel.timer, op, moment, context, out)?;
     add_probes(
         script,
@@ -49,7 +53,8 @@ pub(crate) fn add_services(
     )
 }
 
-fn add_event(
+/// Puts the event into the place of what was there.
+fn put_event(
     alloc: Global,
     script: &Script,
     numbers: &Numbers,
@@ -61,16 +66,19 @@ fn add_event(
     requires numbered { AreNumbered context.now script.now numbers.now }
     requires places { MayHavePlaces script.now op }
     requires shown { ShowsSome context.now script.now moment.now }
-    ensures { OnOk result (AddsShown context.now script.now moment.now out.old.items out.new.items
+    ensures { OnOk result (AddsShown context.now script.now moment.now [] out.new.items
         (λ s. event_entries script.now s op)) }
 {
     match op {
-        None => Ok(()),
-        Some(op) => push_event(alloc, script, numbers, op, moment, context, out),
+        None => {
+            out.clear();
+            Ok(())
+        }
+        Some(op) => put_event_of(alloc, script, numbers, op, moment, context, out),
     }
 }
 
-fn push_event(
+fn put_event_of(
     alloc: Global,
     script: &Script,
     numbers: &Numbers,
@@ -82,31 +90,32 @@ fn push_event(
     requires numbered { AreNumbered context.now script.now numbers.now }
     requires places { HasPlaces script.now op }
     requires shown { ShowsSome context.now script.now moment.now }
-    ensures { OnOk result (AddsShown context.now script.now moment.now out.old.items out.new.items
+    ensures { OnOk result (AddsShown context.now script.now moment.now [] out.new.items
         (λ s. event_entries script.now s (Some op))) }
 {
     let attribute = event_number(script, numbers, op, context);
-    let value = shown_value(alloc, script, op, moment, context)?;
-    out.push(Immediate { attribute, value })?;
+    let value = shown_value(script, op, moment, context);
+    put_only(alloc, attribute, value, out)?;
     Ok(())
 }
 
 /// The value of an event, by the board of the moment that its operation acts on.
-fn shown_value(
-    alloc: Global,
-    script: &Script,
+#[inline(always)]
+fn shown_value<'a>(
+    script: &'a Script,
     op: Operation,
-    moment: &Moment,
-    context: &Context,
-) -> Result<Variant, OutOfMemory>
+    moment: &'a Moment,
+    context: &'a Context,
+) -> Option<&'a Variant>
     requires { ShowsSome context.now script.now moment.now }
-    ensures { IfOk result (λ v. (s : Sight) → Shows context.now script.now moment.now s
-        → v ≡ value_on script.now (board_of script.now s op) op.code op) }
+    ensures { (s : Sight) → Shows context.now script.now moment.now s
+        → unwrap_or (option_copied result) no_value
+        ≡ value_on script.now (board_of script.now s op) op.code op }
 {
     if is_shared(script, op) {
-        event_value(alloc, script, op, moment.process, context)
+        event_value(script, op, moment.process, context)
     } else {
-        event_value(alloc, script, op, moment.board, context)
+        event_value(script, op, moment.board, context)
     }
 }
 
@@ -143,6 +152,7 @@ fn add_times(
     out: &mut Vec<Immediate>,
 ) -> Result<(), OutOfMemory>
     requires numbered { AreNumbered context.now script.now numbers.now }
+    requires timed { moment.now.timed ≡ timer }
     ensures { OnOk result (AddsShown context.now script.now moment.now out.old.items out.new.items
         (λ s. time_entries script.now s timer op)) }
 {
@@ -166,6 +176,7 @@ fn add_inclusive(
     out: &mut Vec<Immediate>,
 ) -> Result<(), OutOfMemory>
     requires numbered { AreNumbered context.now script.now numbers.now }
+    requires timed { moment.now.timed ≡ true }
     ensures { OnOk result (AddsShown context.now script.now moment.now out.old.items out.new.items
         (λ s. inclusive_entries script.now s (Some op))) }
 {

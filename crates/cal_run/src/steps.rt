@@ -11,6 +11,7 @@ use cal_script::{Line, Reply, Script};
 use cal_words::OpCode;
 
 /// The reply to a line, by the board that it acts on. That to a flush is none.
+#[inline(always)]
 pub(crate) fn reply_to_line<N>(script: &Script, line: Line, board: &Board<N>) -> Option<Reply>
     ensures { result ≡ reply_to_line script.now board.now line }
 {
@@ -23,12 +24,14 @@ pub(crate) fn reply_to_line<N>(script: &Script, line: Line, board: &Board<N>) ->
     }
 }
 
+#[inline(always)]
 fn reply_on<N>(script: &Script, code: OpCode, attr: u32, board: &Board<N>) -> Reply
     ensures { result ≡ as_reply (reply_to board.now code (attr_ref script.now attr)) }
 {
     as_reply(board.check(code, attr_ref(script, attr)))
 }
 
+#[inline(always)]
 fn as_reply(reply: BoardReply) -> Reply
     ensures { result ≡ as_reply reply }
 {
@@ -42,6 +45,7 @@ fn as_reply(reply: BoardReply) -> Reply
 }
 
 /// Whether a line with this reply is accepted, and takes snapshots.
+#[inline(always)]
 pub(crate) fn is_accepted(reply: Option<Reply>) -> bool
     ensures { result ≡ is_accepted reply }
 {
@@ -52,6 +56,7 @@ pub(crate) fn is_accepted(reply: Option<Reply>) -> bool
 }
 
 /// Whether some channel takes a snapshot on a line.
+#[inline(always)]
 pub(crate) fn is_taken(script: &Script, line: Line, accepted: bool) -> bool
     ensures { result ≡ list_any (λ channel. accepted && takes script.now channel line)
         script.now.channels }
@@ -64,6 +69,7 @@ pub(crate) fn is_taken(script: &Script, line: Line, accepted: bool) -> bool
 }
 
 /// Whether a line takes a reading, which is where some channel with the timer takes a snapshot.
+#[inline(always)]
 pub(crate) fn is_read(script: &Script, line: Line, accepted: bool) -> bool
     ensures { result ≡ list_any
         (λ channel. channel.timer && (accepted && takes script.now channel line))
@@ -86,6 +92,7 @@ pub(crate) fn takes_start_reading(script: &Script) -> bool
 }
 
 /// The script clock behind a line.
+#[inline(always)]
 pub(crate) fn clock_after(clock: u64, line: Line) -> u64
     ensures { result ≡ clock_after clock line }
 {

@@ -35,7 +35,7 @@ fn all_lines(alloc: Global, rows: Rows<'_>) -> Result<Text, OutOfMemory>
 {
     match rows {
         Rows::Owned(rows) => own_lines(alloc, rows),
-        Rows::Numbered(context, snapshots) => snapshot_lines(alloc, context, snapshots),
+        Rows::Numbered(context, rows, order) => snapshot_lines(alloc, context, rows, order),
     }
 }
 

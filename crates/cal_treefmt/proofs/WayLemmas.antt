@@ -11,11 +11,9 @@ use Rattle.cal_value.specs.OrderLaws.{attribute_exact, path_exact}
 use Rattle.cal_value.specs.declared.attribute.Attribute.{Attribute}
 use Rattle.cal_value.specs.declared.attribute.Entry.{Entry}
 use Rattle.cal_context.specs.Children.{IsLinked}
-use Rattle.cal_context.specs.Snapshots.{meaning}
 use Rattle.cal_context.specs.Tree.{Tree, Grows, IsContext, attribute_at, path_at, value_at}
 use Rattle.cal_context.specs.declared.numbers.Link.{Link}
 use Rattle.cal_context.specs.declared.numbers.NodeNumber.{NodeNumber}
-use Rattle.cal_context.specs.declared.snapshot.Snapshot.{Snapshot}
 use Rattle.cal_context.proofs.CallerLemmas.{Grows-refl, path_at-Grows, root_path, within_paths}
 use Rattle.cal_treefmt.specs.Nodes.{firsts, is_node, nodes_on}
 use Rattle.cal_treefmt.specs.Walks.{HasOnWay, Walks}
@@ -256,9 +254,6 @@ descending-end t first nodes w from to at descending none =
 
 -- ---- rows by number
 
-pub numbered-is : (t : Tree) (rows : List Snapshot) (i : ℕ) (row : Snapshot) → i < length rows → row ≡ get_or rows i row → meaning t row ≡ get_or (map (meaning t) rows) i (meaning t row)
-numbered-is t rows i row within is = ap (meaning t) is ∙ sym (get_or-map (meaning t) rows i row (meaning t row) (omega (arith, within)))
-
 -- the path of a row's node
 pub path-is : (t : Tree) (nodes items : List NodeNumber) (i : ℕ) (n : NodeNumber) → items ≡ nodes → i < length items → n ≡ get_or items i n → path_at t n ≡ get_or (map (path_at t) nodes) i (path_at t n)
 path-is t nodes items i n same within is =
@@ -272,6 +267,3 @@ path-within t nodes items i same within = omega (arith, within, ap length same, 
 pub none-left : (ns : List NodeNumber) → length ns ≡ 0 → ns ≡ []
 none-left [] none = refl
 none-left (n ∷ ns) none = absurd (omega (arith, none))
-
-pub all-numbered : (t : Tree) (rows : List Snapshot) (i : ℕ) → length rows ≤ i → length (map (meaning t) rows) ≤ i
-all-numbered t rows i all = omega (arith, all, length-map rows (meaning t))

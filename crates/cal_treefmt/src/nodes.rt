@@ -1,13 +1,13 @@
 ghost use Rattle.std.specs.Prelude.{◌<◌, [], ◌∷◌, filter, length, map, IfOk};
 ghost use Rattle.std.specs.List.{All};
-ghost use Rattle.cal_context.specs.Snapshots.{IsIn, meaning};
 ghost use Rattle.cal_rowset.specs.Answers.{AreWithin, rows_of};
 ghost use Rattle.cal_rowset.specs.Hierarchy.{hierarchy, is_of_hierarchy};
+ghost use Rattle.cal_rowset.specs.NumberedRows.{IsWithin, in_order, meant};
 ghost use Rattle.cal_treefmt.specs.Walks.{AreAt, HasNodes, Walks};
 
 use crate::ways::Ways;
-use cal_context::{Context, NodeNumber, Snapshot};
-use cal_rowset::{Rows, is_of_hierarchy};
+use cal_context::{Context, NodeNumber};
+use cal_rowset::{Rows, SnapshotList, is_of_hierarchy};
 use cal_value::{Attribute, Entry, OutOfMemory, Rec, Variant};
 use std::alloc::Global;
 
@@ -27,7 +27,9 @@ impl Nodes {
     {
         match rows {
             Rows::Owned(rows) => Nodes::of_owned(alloc, rows),
-            Rows::Numbered(context, rows) => Nodes::of_numbered(alloc, context, rows),
+            Rows::Numbered(context, rows, order) => {
+                Nodes::of_numbered(alloc, context, rows, order)
+            }
         }
     }
 
@@ -46,18 +48,24 @@ impl Nodes {
     }
 
     /// The same of rows that snapshots mean. Each node of theirs is walked once for all rows.
-    fn of_numbered(alloc: Global, numbers: &Context, rows: &[Snapshot]) -> Result<Self, OutOfMemory>
-        requires { All (IsIn numbers.now) rows.now }
+    fn of_numbered(
+        alloc: Global,
+        numbers: &Context,
+        rows: &SnapshotList,
+        order: &[usize],
+    ) -> Result<Self, OutOfMemory>
+        requires { All (IsWithin numbers.now) rows.now }
         ensures nodes { IfOk result (λ nodes. HasNodes nodes.context
-            (map (meaning numbers.now) rows.now)) }
+            (map (meant numbers.now) (in_order rows.now order.now))) }
         ensures of_rows { IfOk result (λ nodes. AreAt nodes.context
-            nodes.of_rows.items (map hierarchy (map (meaning numbers.now) rows.now))) }
+            nodes.of_rows.items
+            (map hierarchy (map (meant numbers.now) (in_order rows.now order.now)))) }
     {
         let mut ways = Ways::new(alloc, numbers)?;
         let mut context = Context::new(alloc);
-        let mut of_rows = Vec::with_capacity(alloc, rows.len())?;
-        for row in rows {
-            let node = ways.add_row(numbers, row, &mut context)?;
+        let mut of_rows = Vec::with_capacity(alloc, order.len())?;
+        for place in order {
+            let node = ways.add_row(numbers, rows.nodes(*place), &mut context)?;
             of_rows.push(node)?;
         }
         Ok(Nodes { context, of_rows })

@@ -1,15 +1,17 @@
-ghost use Rattle.std.specs.Prelude.{◌≡◌, ◌<◌, ◌++◌, ◌∷◌, List, ℕ, [], filter, length, None, IfOk};
-ghost use Rattle.std.specs.Prelude.{IfNone, IfSome, OnOk, Some, slice_index_or};
+ghost use Rattle.std.specs.Prelude.{◌≡◌, ◌<◌, ◌++◌, ◌∷◌, List, ℕ, [], filter, length, map, IfOk};
+ghost use Rattle.std.specs.Prelude.{None, IfNone, IfSome, OnOk, Some, slice_index_or};
+ghost use Rattle.std.specs.List.{All};
+ghost use Rattle.cal_value.specs.Flat.{joined};
 ghost use Rattle.cal_value.specs.declared.attribute.Entry.{Entry};
-ghost use Rattle.cal_context.specs.Snapshots.{IsIn, meaning};
+ghost use Rattle.cal_context.specs.Snapshots.{IsBelowRoot};
 ghost use Rattle.cal_context.specs.Tree.{Tree, path_at};
-ghost use Rattle.cal_rowset.specs.Hierarchy.{hierarchy, is_of_hierarchy};
+ghost use Rattle.cal_rowset.specs.Hierarchy.{is_of_hierarchy};
 ghost use Rattle.cal_treefmt.specs.Walks.{Walks};
 ghost use Rattle.cal_treefmt.specs.Ways.{AreWays, IsAbove, IsUp, LeadsTo, known_at};
 ghost use Rattle.cal_treefmt.specs.Ways.{with_known};
 
 use crate::nodes::add_entry;
-use cal_context::{Context, NodeNumber, Snapshot};
+use cal_context::{Context, NodeNumber};
 use cal_value::OutOfMemory;
 use std::alloc::Global;
 
@@ -34,24 +36,24 @@ impl Ways {
         })
     }
 
-    /// The node to which a row's hierarchy leads.
+    /// The node to which the hierarchy of a row leads, by its nodes.
     pub(crate) fn add_row(
         &mut self,
         context: &Context,
-        row: &Snapshot,
+        row: &[NodeNumber],
         nodes: &mut Context,
     ) -> Result<NodeNumber, OutOfMemory>
-        requires within { IsIn context.now row.now }
+        requires within { All (IsBelowRoot context.now) row.now }
         requires ways { AreWays context.now nodes.old self.old }
         ensures ways { OnOk result (AreWays context.now nodes.new self.new) }
         ensures walks { IfOk result (λ n. Walks nodes.old nodes.new (record { 0 = 0 })
-            (hierarchy (meaning context.now row.now)) n) }
+            (filter (λ e. is_of_hierarchy e.attr)
+            (joined (map (path_at context.now) row.now))) n) }
     {
         nodes.has_each_once();
         let mut at = NodeNumber::ROOT;
-        let row_nodes = row.nodes.as_slice();
-        for place in 0..row_nodes.len() {
-            let node = node_at(row_nodes, place);
+        for place in 0..row.len() {
+            let node = node_at(row, place);
             at = self.go(context, node, nodes, at)?;
         }
         Ok(at)

@@ -91,3 +91,10 @@ plain-value (value.Real t) a b c d = absurd (b t refl)
 plain-value (value.Fixed n) a b c d = fixed-plain n
 plain-value (value.Usr t) a b c d = absurd (c t refl)
 plain-value (value.Ptr t) a b c d = absurd (d t refl)
+
+-- a number is written in its digits
+pub written-int : (v : variants.Variant) (n : ℤ) → v ≡ value.Int n → escaped (value_text v) ≡ signed_decimal n
+written-int v n is = ap (λ w. escaped (value_text w)) is ∙ signed-plain n
+
+pub written-uint : (v : variants.Variant) (n : ℕ) → v ≡ value.Uint n → escaped (value_text v) ≡ decimal n
+written-uint v n is = ap (λ w. escaped (value_text w)) is ∙ digits-plain 10 n (omega arith) (omega arith)

@@ -1,13 +1,21 @@
-use Rattle.std.proofs.Common.{◌≡◌, ℕ, ◌+◌, ◌<◌, List, [], ◌∷◌, ◌++◌, length, get_or, take, map, refl, ap, ◌∙◌, arith, lit<}
+use Rattle.std.proofs.Common.{◌≡◌, ℕ, ◌+◌, ◌<◌, List, [], ◌∷◌, ◌++◌, length, get_or, take, map, decimal, refl, sym, ap, ◌∙◌, arith, lit<}
 use Rattle.std.specs.Prelude.{codes, encode_utf8}
 use Rattle.std.specs.List.{flat_map}
 use Rattle.std.proofs.lemmas.List.{append-nil, append_assoc, map_more}
 use Rattle.std.proofs.lemmas.List.Concat.{flat_map-append}
+use Rattle.std.proofs.lemmas.Fmt.{decimal_digit}
 use Rattle.std.proofs.lemmas.Str.{encode_ascii}
 use Rattle.cal_write.specs.Lines.{field}
 
 pub equals_sign : encode_utf8 61 ≡ 61 ∷ []
 equals_sign = encode_ascii 61 (lit< tt)
+
+pub newline : encode_utf8 10 ≡ 10 ∷ []
+newline = encode_ascii 10 (lit< tt)
+
+-- a digit as a character is the text of its number
+pub digit-character : (n : ℕ) → n < 10 → encode_utf8 (48 + n) ≡ decimal n
+digit-character n h = encode_ascii (48 + n) (omega arith) ∙ sym (decimal_digit n h)
 
 -- values as a field joins them, with one more
 pub joined_more : {X : Type 0} (f : X → List ℕ) (xs : List X) (i : ℕ) (d : X) → i < length xs

@@ -1,6 +1,8 @@
-ghost use Rattle.std.specs.Prelude.{◌≡◌, ◌++◌, OnOk, codes, decimal, map, option_to_list};
+ghost use Rattle.std.specs.Prelude.{◌≡◌, ℕ, List, ◌++◌, OnOk, codes, decimal, map, option_to_list};
+ghost use Rattle.std.specs.Fmt.{signed_decimal};
 ghost use Rattle.cal_write.specs.Lines.{field, node_line, record_line, written_value};
 
+use crate::id_fields::IdFields;
 use cal_context::Immediate;
 use cal_line::escape;
 use cal_value::{OutOfMemory, Text, Variant, print_value};
@@ -23,13 +25,14 @@ pub(crate) fn write_node(
     out.push_str(",data=")?;
     write_value(out, value)?;
     write_parent(out, parent)?;
-    out.push_str("\n")?;
+    out.push('\n')?;
     Ok(())
 }
 
 /// Appends the line of a record, by the ids of its nodes and of its immediates' attributes.
 pub(crate) fn write_record(
     out: &mut Text,
+    fields: &mut IdFields,
     sort: &str,
     nodes: &[u32],
     attributes: &[u32],
@@ -38,12 +41,25 @@ pub(crate) fn write_record(
     ensures { OnOk result (out.new ≡ out.old
         ++ record_line sort.now nodes.now attributes.now (map (λ i. i.value) imms.now)) }
 {
+    write_sort(out, sort)?;
+    write_ids(out, ",ref", nodes)?;
+    fields.write(out, attributes)?;
+    write_values(out, imms)?;
+    out.push('\n')?;
+    Ok(())
+}
+
+/// Appends how a record's line begins. Nearly all are `ctx` lines, and a text that is known when
+/// the program is built is appended without a call.
+fn write_sort(out: &mut Text, sort: &str) -> Result<(), OutOfMemory>
+    ensures { OnOk result (out.new ≡ out.old ++ codes "__rec=" ++ sort.now) }
+{
+    if sort == "ctx" {
+        out.push_str("__rec=ctx")?;
+        return Ok(());
+    }
     out.push_str("__rec=")?;
     out.push_str(sort)?;
-    write_ids(out, "ref", nodes)?;
-    write_ids(out, "attr", attributes)?;
-    write_values(out, imms)?;
-    out.push_str("\n")?;
     Ok(())
 }
 
@@ -58,15 +74,17 @@ fn write_parent(out: &mut Text, parent: Option<u32>) -> Result<(), OutOfMemory>
     Ok(())
 }
 
-/// Appends a field of these ids, or none where there is no id.
-fn write_ids(out: &mut Text, key: &str, ids: &[u32]) -> Result<(), OutOfMemory>
-    ensures { OnOk result (out.new ≡ out.old ++ field key.now (map decimal ids.now)) }
+/// Appends a field of these ids, or none where there is no id. The text before the first `=` is a
+/// comma and the key.
+#[inline(always)]
+pub(crate) fn write_ids(out: &mut Text, start: &str, ids: &[u32]) -> Result<(), OutOfMemory>
+    ensures { OnOk result ((key : List ℕ) → start.now ≡ codes "," ++ key
+        → out.new ≡ out.old ++ field key (map decimal ids.now)) }
 {
     if ids.is_empty() {
         return Ok(());
     }
-    out.push_str(",")?;
-    out.push_str(key)?;
+    out.push_str(start)?;
     for id in ids {
         out.push('=')?;
         write_number(out, *id)?;
@@ -99,13 +117,40 @@ fn write_value(out: &mut Text, value: &Variant) -> Result<(), OutOfMemory>
         Variant::Real(text) => escape(text.as_str(), out),
         Variant::Usr(text) => escape(text.as_str(), out),
         Variant::Ptr(text) => escape(text.as_str(), out),
+        Variant::Int(number) => write_int(out, *number),
+        Variant::Uint(number) => write_uint(out, *number),
         _ => print_value(value, out),
     }
 }
 
+/// Appends a number. Most fit into 32 bits, whose digits take less time.
+fn write_int(out: &mut Text, number: i128) -> Result<(), OutOfMemory>
+    ensures { OnOk result (out.new ≡ out.old ++ signed_decimal number) }
+{
+    if let Ok(small) = u32::try_from(number) {
+        return write_number(out, small);
+    }
+    let mut digits = Buffer::new();
+    out.push_str(digits.format(number))
+}
+
+fn write_uint(out: &mut Text, number: u64) -> Result<(), OutOfMemory>
+    ensures { OnOk result (out.new ≡ out.old ++ decimal number) }
+{
+    if let Ok(small) = u32::try_from(number) {
+        return write_number(out, small);
+    }
+    let mut digits = Buffer::new();
+    out.push_str(digits.format(number))
+}
+
+#[inline]
 fn write_number(out: &mut Text, number: u32) -> Result<(), OutOfMemory>
     ensures { OnOk result (out.new ≡ out.old ++ decimal number) }
 {
+    if number < 10 {
+        return out.push(char::from(b'0' + number as u8));
+    }
     let mut digits = Buffer::new();
     out.push_str(digits.format(number))
 }

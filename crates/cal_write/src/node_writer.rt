@@ -34,12 +34,25 @@ impl NodeWriter {
         })
     }
 
-    /// Writes what a node and those above it need, and gives its id, if it isn't the root.
-    pub(crate) fn need_node(
+    /// Writes what a node and those above it need, and gives its id, if it isn't the root. Most
+    /// nodes are known, which is seen without a call.
+    #[inline(always)]
+    pub(crate) fn node_id(
         &mut self,
         context: &Context,
         node: NodeNumber,
     ) -> Result<Option<u32>, OutOfMemory>
+        requires { node.0 < length context.now.paths }
+        ensures { IfOk result (NeedsNode context.now self.old self.new node) }
+    {
+        if let Some(id) = self.nodes.get(node.0) {
+            return Ok(Some(id));
+        }
+        self.need_node(context, node)
+    }
+
+    /// The same, with what stays of the notes.
+    fn need_node(&mut self, context: &Context, node: NodeNumber) -> Result<Option<u32>, OutOfMemory>
         requires { node.0 < length context.now.paths }
         ensures needs { IfOk result (NeedsNode context.now self.old self.new node) }
         ensures later { OnOk result ((k : ℕ) → node.0 < k
@@ -57,6 +70,7 @@ impl NodeWriter {
     }
 
     /// Writes what an attribute needs, and gives the id of its node.
+    #[inline(always)]
     pub(crate) fn need_attribute(
         &mut self,
         context: &Context,
@@ -69,6 +83,20 @@ impl NodeWriter {
         if let Some(id) = self.attributes.get(attribute.0) {
             return Ok(id);
         }
+        self.describe(context, attribute)
+    }
+
+    /// Writes what an attribute that isn't known needs, and gives the id of its node.
+    #[inline(never)]
+    fn describe(
+        &mut self,
+        context: &Context,
+        attribute: AttributeNumber,
+    ) -> Result<u32, OutOfMemory>
+        requires { attribute.0 < length context.now.attributes }
+        ensures needs { IfOk result (NeedsAttribute context.now self.old self.new attribute) }
+        ensures nodes { OnOk result (self.new.nodes ≡ self.old.nodes) }
+    {
         let described = context.attribute_at(attribute);
         let id = self.stream.describe(self.alloc, described)?;
         self.attributes.set(attribute.0, id)?;

@@ -19,7 +19,7 @@ pub(crate) fn need_nodes(
 {
     ids.clear();
     for node in nodes {
-        let id = writer.need_node(context, *node)?;
+        let id = writer.node_id(context, *node)?;
         push_some(ids, id)?;
     }
     Ok(())

@@ -1,13 +1,15 @@
-ghost use Rattle.std.specs.Prelude.{◌≡◌, ◌≤◌, IfOk, OnOk, IsErrOf};
+ghost use Rattle.std.specs.Prelude.{◌≡◌, ◌≤◌, [], IfOk, OnOk, IsErrOf, map};
 ghost use Rattle.cal_base.specs.Faults.{Rose};
 ghost use Rattle.cal_base.specs.Told.{Appends, AppendsFront};
 ghost use Rattle.cal_write.specs.CanonicalText.{canonical_text};
+ghost use Rattle.cal_write.specs.Interning.{without_empty};
+ghost use Rattle.cal_write.specs.Writer.{HasTaken};
 
 use crate::Writer;
 use crate::interning::intern_record;
 use cal_base::{Failed, Sink};
 use cal_context::{Context, Snapshot, Taker};
-use cal_value::{OutOfMemory, Records, Text};
+use cal_value::{OutOfMemory, Rec, Records, Text};
 use std::alloc::Global;
 use thiserror::Error;
 
@@ -49,13 +51,29 @@ pub fn cali_text(alloc: Global, records: &Records) -> Result<Text, OutOfMemory>
     let mut context = Context::new(alloc);
     let mut writer = Writer::new(alloc)?;
     let mut snapshot = Snapshot::new(alloc);
-    for rec in records.rows.as_slice() {
-        intern_record(alloc, &mut context, rec, &mut snapshot)?;
-        writer.take(&context, &snapshot)?;
-    }
+    let rows = records.rows.as_slice();
+    take_rows(alloc, &mut context, &mut writer, &mut snapshot, rows)?;
     intern_record(alloc, &mut context, &records.globals, &mut snapshot)?;
     let text = writer.finish(&context, &snapshot)?;
     Ok(text)
+}
+
+/// Puts rows into a context, and hands each to a writer.
+fn take_rows(
+    alloc: Global,
+    context: &mut Context,
+    writer: &mut Writer,
+    snapshot: &mut Snapshot,
+    rows: &[Rec],
+) -> Result<(), OutOfMemory>
+    requires { HasTaken writer.old context.old [] }
+    ensures { OnOk result (HasTaken writer.new context.new (map without_empty rows.now)) }
+{
+    for rec in rows {
+        intern_record(alloc, context, rec, snapshot)?;
+        writer.take(context, snapshot)?;
+    }
+    Ok(())
 }
 
 /// Writes the canonical text of all records. The whole text is made before its first byte is

@@ -3,6 +3,7 @@ ghost use Rattle.cal_context.specs.Snapshots.{IsIn, meaning};
 ghost use Rattle.cal_context.specs.Taking.{TakesMore};
 ghost use Rattle.cal_context.specs.Tree.{Tree};
 
+use crate::id_fields::IdFields;
 use crate::lines::write_record;
 use crate::node_writer::NodeWriter;
 use crate::snapshot_needs::{has_no_entry, need_immediates, need_nodes};
@@ -18,6 +19,7 @@ pub struct Writer {
     // the ids of a record's nodes, and of its immediates' attributes
     refs: Vec<u32>,
     columns: Vec<u32>,
+    fields: IdFields,
     // memory was refused
     refused: bool,
 }
@@ -33,6 +35,7 @@ impl Writer {
             nodes: NodeWriter::new(alloc)?,
             refs: Vec::new(alloc),
             columns: Vec::new(alloc),
+            fields: IdFields::new(alloc)?,
             refused: false,
         })
     }
@@ -81,6 +84,7 @@ impl Writer {
         need_immediates(&mut self.nodes, context, &snapshot.imms, &mut self.columns)?;
         write_record(
             &mut self.nodes.stream.lines.text,
+            &mut self.fields,
             sort,
             &self.refs,
             &self.columns,

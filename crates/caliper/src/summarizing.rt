@@ -3,9 +3,8 @@ ghost use Rattle.cal_script.specs.Reading.{Means};
 ghost use Rattle.caliper.specs.Inputs.{IsPrinted};
 ghost use Rattle.caliper.specs.declared.words.Print.TheVariants as print;
 
-use cal_run::{plain_journal, plain_journal_law};
 use cal_script::{Script, read_script};
-use cal_summary::{summarize, summary_text};
+use cal_summary::{summarize_plain, summary_text};
 use cal_valid::valid_script_law;
 use cal_value::{OutOfMemory, Text};
 use std::alloc::Global;
@@ -16,10 +15,8 @@ pub fn summary_lines(alloc: Global, text: Text) -> Result<Text, OutOfMemory>
     ensures { IfOk result (IsPrinted print.Summary text) }
 {
     valid_script_law();
-    plain_journal_law();
     let script = read(alloc, text)?;
-    let journal = plain_journal(alloc, &script)?;
-    let summary = summarize(alloc, &script, &journal)?;
+    let summary = summarize_plain(alloc, &script)?;
     summary_text(alloc, &summary)
 }
 

@@ -1,4 +1,8 @@
+use Rattle.std.proofs.lemmas.List.Elements.{All-weaker}
+use Rattle.cal_context.proofs.CallerLemmas.{Grows-trans}
+use Rattle.cal_engine.specs.Sieves.{ChoosesAll, SiftsAll}
 use Rattle.cal_engine.proofs.KeyLemmas.{key_of_snapshot}
+use Rattle.cal_engine.proofs.Sifting.{chooses_all}
 use Rattle.cal_engine.proofs.key.key_by_names.Goals as goal
 
 pub returns-clause-key : goal.returns-clause-key
@@ -8,4 +12,11 @@ returns-clause-key c = λ names h.
     (record { paths = c.from_vec.result; imms = c.in_ok-imms.imms })
     c.deref.ensures.value c.deref-2.ensures.value c.in_ok-imms.ensures.grows h.choices
     (c.in_ok-paths.ensures.paths c.args.context.now h.sift (rw c.deref.ensures.value c.requires.nodes))
-    c.in_ok-imms.ensures.leads c.from_vec.ensures
+    (c.in_ok-imms.ensures.leads
+    (All-weaker (SiftsAll c.args.context.now c.args.own.now) (ChoosesAll c.args.context.now)
+    (chooses_all c.args.context.now c.args.own.now) c.args.sieves.now h.sift))
+    c.from_vec.ensures
+
+pub returns-clause-grows : goal.returns-clause-grows
+returns-clause-grows c =
+    Grows-trans c.args.own.now c.key_paths.new.own c.key_imms.new.own c.in_ok-paths.ensures.grows c.in_ok-imms.ensures.grows

@@ -1,8 +1,11 @@
 use Rattle.std.proofs.Common.{◌<◌, [], ◌∷◌, ◌++◌, length, map, take, sym, ap, ◌∙◌, arith}
 use Rattle.std.proofs.lemmas.List.{map-append, take_all, take_more}
-use Rattle.cal_context.specs.Snapshots.{meaning}
+use Rattle.cal_rowset.specs.NumberedRows.{meant, numbered}
 use Rattle.cal_engine.proofs.Making.{made-counted}
 use Rattle.cal_engine.proofs.snapshot_rows.all_rows.Goals as goal
+
+pub loop-number-init : goal.loop-number-init
+loop-number-init c = λ aggs rows h. ap (map (meant c.args.context.now)) c.in_ok-all.ensures
 
 pub loop-number-preserved : goal.loop-number-preserved
 loop-number-preserved c = λ aggs rows h.
@@ -11,8 +14,8 @@ loop-number-preserved c = λ aggs rows h.
     let row = c.fill.new.row in
     let counted = made-counted t aggs c.args.made.now rows h in
     let within : n < length rows = omega (arith, counted) in
-    ap (map (meaning t)) c.in_ok-push.ensures.items
-    ∙ map-append (meaning t) c.loop-number.all.items (row ∷ [])
+    ap (map (meant t)) c.in_ok-push.ensures
+    ∙ map-append (meant t) c.loop-number.all (numbered row ∷ [])
     ∙ (λ i. c.loop-number.invariant aggs rows h i ++ c.in_ok-fill.ensures.row aggs rows h i ∷ [])
     ∙ sym (take_more rows n _ within)
 

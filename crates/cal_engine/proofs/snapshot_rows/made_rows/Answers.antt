@@ -1,13 +1,13 @@
 use Rattle.std.proofs.Common.{map, sym, ◌∙◌}
-use Rattle.cal_context.specs.Snapshots.{meaning}
+use Rattle.cal_rowset.specs.NumberedRows.{meant}
 use Rattle.cal_engine.proofs.Tallying.{rows_held, rows_plain}
 use Rattle.cal_engine.proofs.snapshot_rows.made_rows.Goals as goal
 
 pub returns-then-is_aggregated-clause-rows : goal.returns-then-is_aggregated-clause-rows
 returns-then-is_aggregated-clause-rows c = λ ks h.
-    rows_held c.args.context.now c.args.query.now ks (map (meaning c.new.new.context) c.in_ok-rows.rows.items) c.args.groups c.args.kept.items
+    rows_held c.args.context.now c.args.query.now ks (map (meant c.new.new.context) c.in_ok-rows.rows) c.args.groups c.args.kept
     (sym c.is_aggregated.ensures ∙ c.if-is_aggregated.true) (λ groups. c.in_ok-rows.ensures c.args.query.now.aggs _ (c.in_ok-made.ensures.rows ks groups)) h
 
 pub returns-clause-rows : goal.returns-clause-rows
 returns-clause-rows c = λ ks h.
-    rows_plain c.args.context.now c.args.query.now ks c.args.groups c.args.kept.items (sym c.is_aggregated.ensures ∙ c.if-is_aggregated.false) h
+    rows_plain c.args.context.now c.args.query.now ks c.args.groups c.args.kept (sym c.is_aggregated.ensures ∙ c.if-is_aggregated.false) h

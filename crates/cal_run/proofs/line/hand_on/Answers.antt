@@ -13,7 +13,7 @@ fill-requires-clause-shown g c = (
   record {
     mine = c.requires.shown.1;
     process = c.requires.process.1;
-    readings = refl;
+    readings = λ _. refl;
     reading = refl;
     previous = refl;
   },

@@ -35,7 +35,7 @@ returns-then-shared-clause-runs g c = λ state previous kept.
     c.requires.answer state previous kept
     c.hand_on.new.thread (let so : c.args.accepted ≡ true = cc in so)
     c.in_ok-hand_on.ensures.board
-    c.in_ok-hand_on.ensures.readings c.in_ok-hand_on.ensures.process
+    c.in_ok-hand_on.ensures.readings c.in_ok-hand_on.ensures.timed c.in_ok-hand_on.ensures.process
     c.in_ok-hand_on.ensures.previous
     (g.T.Taker.has_taken c.args.taker.now c.args.context.now)
     (g.T.Taker.has_taken c.hand_on.new.taker c.args.context.now)
@@ -62,7 +62,7 @@ returns-clause-runs g c = λ state previous kept.
     c.requires.answer state previous kept
     c.hand_on.new.thread (let so : c.args.accepted ≡ true = cc in so)
     c.in_ok-hand_on.ensures.board
-    c.in_ok-hand_on.ensures.readings c.in_ok-hand_on.ensures.process
+    c.in_ok-hand_on.ensures.readings c.in_ok-hand_on.ensures.timed c.in_ok-hand_on.ensures.process
     c.in_ok-hand_on.ensures.previous
     (g.T.Taker.has_taken c.args.taker.now c.args.context.now)
     (g.T.Taker.has_taken c.hand_on.new.taker c.args.context.now)
@@ -74,5 +74,6 @@ returns-clause-runs g c = λ state previous kept.
     (λ rs h. g.met.T.Taker.stays _ _ _ _ h c.make_change.ensures.grows)
     (let own : c.args.shared ≡ false = cc in own)
     c.in_ok-make_change.ensures.board
-    c.in_ok-make_change.ensures.readings c.in_ok-make_change.ensures.process
+    c.in_ok-make_change.ensures.readings c.in_ok-make_change.ensures.timed
+    c.in_ok-make_change.ensures.process
     c.in_ok-make_change.ensures.previous

@@ -13,7 +13,7 @@ loop-node-preserved c =
     let below = c.loop-node-test.true in
     holds-node_more t c.args.held.now c.loop-node.held c.intern.new.self c.args.nodes.now i _ below
     c.loop-node.invariant
-    (holds-node t c.loop-node.held c.intern.new.self _ (c.requires i _ below).within
+    (holds-node t c.loop-node.held c.intern.new.self _ (c.requires i _ below)
     c.in_ok-intern.ensures.interned.adds)
 
 pub returns : goal.returns

@@ -23,6 +23,7 @@ loop-place-init g c =
     record {
       numbered = c.requires.numbered;
       grows = Grows-refl _;
+      timed = start.timed;
       count = (let before = start.before in omega (arith, before));
       so_far = (
         at_start,
@@ -110,6 +111,7 @@ loop-place-preserved g c =
     record {
       numbered = AreNumbered-Grows grows script c.args.numbers.now old.numbered;
       grows = Grows-trans _ _ _ old.grows grows;
+      timed = step.timed ∙ old.timed;
       count = ap (λ n. n + length (process_lines script (drop (i + 1) lines))) step.before
           ∙ count-drop script was.before lines i l c.loop-place-test.true at
           ∙ old.count;

@@ -16,6 +16,7 @@ abbrev pub invariant-loop-place : goal.invariant-loop-place
 invariant-loop-place g l = record {
   numbered : AreNumbered l.context l.script l.numbers;
   grows : Grows l.fn.context l.context;
+  timed : l.behind.thread.timed ≡ l.channel.timer;
   count : l.behind.before + length (process_lines l.script (drop l.place l.lines))
       ≡ l.fn.before + length (process_lines l.script l.lines);
   so_far : (state : ThreadState) × (previous : ℕ) × (taken : List Rec)

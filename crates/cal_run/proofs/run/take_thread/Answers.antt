@@ -16,6 +16,7 @@ loop-place-init g c =
     record {
       numbered = c.requires.numbered;
       grows = Grows-refl _;
+      timed = start.timed;
       so_far = (
         at_start,
         unwrap_or c.args.note.now.start 0,
@@ -84,6 +85,7 @@ loop-place-preserved g c =
     record {
       numbered = AreNumbered-Grows grows script c.args.numbers.now old.numbered;
       grows = Grows-trans _ _ _ old.grows grows;
+      timed = c.in_ok-run_line.ensures.timed ∙ old.timed;
       so_far = (
         state_after script history l n state,
         previous_after script history l n state c.args.channel.now previous,

@@ -16,6 +16,7 @@ abbrev pub invariant-loop-place : goal.invariant-loop-place
 invariant-loop-place g l = record {
   numbered : AreNumbered l.context l.script l.numbers;
   grows : Grows l.fn.context l.context;
+  timed : l.thread.timed ≡ l.channel.timer;
   so_far : (state : ThreadState) × (previous before : ℕ) × (taken : List Rec)
       × IsThread l.context l.script l.history l.thread state previous
       × (l.thread.process.count ≤ before)

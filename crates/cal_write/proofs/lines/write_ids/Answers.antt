@@ -9,6 +9,6 @@ loop-id-preserved c =
     rw (joined_more decimal c.args.ids.now c.loop-id.id-index 0 c.loop-id-test.true, c.in_ok-write_number.ensures, c.in_ok-push.ensures.ok, equals_sign, c.loop-id.invariant) (simp append_assoc)
 
 pub returns : goal.returns
-returns c =
+returns c = λ key is.
     let some : 0 < length (map decimal c.args.ids.now) = rw length-map (grind (arith, nat_tests)) in
-    rw (field-some c.args.key.now (map decimal c.args.ids.now) some, c.loop-id.invariant, take_all c.loop-id.id-index c.args.ids.now c.loop-id-test.false) refl
+    rw (field-some key (map decimal c.args.ids.now) some, c.loop-id.invariant, take_all c.loop-id.id-index c.args.ids.now c.loop-id-test.false, is) refl

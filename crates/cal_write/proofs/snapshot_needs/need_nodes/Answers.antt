@@ -11,9 +11,9 @@ loop-node-init c =
 
 pub loop-node-preserved : goal.loop-node-preserved
 loop-node-preserved c =
-    subst (λ (l : List ℕ). NeedsNodes c.args.context.now c.args.writer.now c.need_node.new.self (take (c.loop-node.node-index + 1) c.args.nodes.now) l) (sym c.in_ok-push_some.ensures)
-    (nodes-more c.args.context.now c.args.writer.now c.loop-node.writer c.need_node.new.self c.args.nodes.now c.loop-node.ids.items c.loop-node.node-index _ c.in_ok-id.id
-    c.loop-node-test.true c.loop-node.invariant c.in_ok-id.ensures.needs)
+    subst (λ (l : List ℕ). NeedsNodes c.args.context.now c.args.writer.now c.node_id.new.self (take (c.loop-node.node-index + 1) c.args.nodes.now) l) (sym c.in_ok-push_some.ensures)
+    (nodes-more c.args.context.now c.args.writer.now c.loop-node.writer c.node_id.new.self c.args.nodes.now c.loop-node.ids.items c.loop-node.node-index _ c.in_ok-id.id
+    c.loop-node-test.true c.loop-node.invariant c.in_ok-id.ensures)
 
 pub returns : goal.returns
 returns c =

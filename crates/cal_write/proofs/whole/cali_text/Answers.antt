@@ -1,25 +1,10 @@
-use Rattle.std.proofs.Common.{List, map, subst}
-use Rattle.std.proofs.lemmas.List.{take_all}
-use Rattle.cal_value.specs.declared.record.Rec.{Rec}
-use Rattle.cal_write.specs.Interning.{without_empty}
-use Rattle.cal_write.specs.Writer.{HasTaken}
-use Rattle.cal_write.proofs.WholeLemmas.{rows-more, whole-text}
+use Rattle.cal_write.proofs.WholeLemmas.{whole-text}
 use Rattle.cal_write.proofs.whole.cali_text.Goals as goal
 
-pub take-requires : goal.take-requires
-take-requires c = c.in_ok-intern_record.ensures.means.within
-
-pub loop-rec-preserved : goal.loop-rec-preserved
-loop-rec-preserved c =
-    rows-more c.loop-rec.context c.intern_record.new.context c.loop-rec.writer c.take.new.self c.as_slice-rec-items.result.now c.loop-rec.rec-index c.rec-item.result c.intern_record.new.snapshot
-    c.loop-rec-test.true c.rec-item.is c.loop-rec.invariant c.in_ok-intern_record.ensures.grows c.in_ok-intern_record.ensures.means c.in_ok-take.ensures.taken
-
 pub finish-requires : goal.finish-requires
-finish-requires c = c.in_ok-intern_record-2.ensures.means.within
+finish-requires c = c.in_ok-intern_record.ensures.means.within
 
 pub returns : goal.returns
 returns c =
-    let had = subst (λ (l : List Rec). HasTaken c.loop-rec.writer c.loop-rec.context (map without_empty l))
-    (take_all c.loop-rec.rec-index c.as_slice-rec-items.result.now c.loop-rec-test.false) c.loop-rec.invariant in
-    whole-text c.loop-rec.context c.intern_record-2.new.context c.loop-rec.writer c.args.records.now c.as_slice-rec-items.result.now c.intern_record-2.new.snapshot c.in_ok-text.text
-    c.as_slice-rec-items.ensures had c.in_ok-intern_record-2.ensures.grows c.in_ok-intern_record-2.ensures.means c.in_ok-text.ensures
+    whole-text c.take_rows.new.context c.intern_record.new.context c.take_rows.new.writer c.args.records.now c.as_slice-rows.result.now c.intern_record.new.snapshot c.in_ok-text.text
+    c.as_slice-rows.ensures c.in_ok-take_rows.ensures c.in_ok-intern_record.ensures.grows c.in_ok-intern_record.ensures.means c.in_ok-text.ensures

@@ -1,23 +1,18 @@
-use Rattle.std.proofs.Common.{refl, ◌∙◌, arith}
-use Rattle.std.proofs.lemmas.Grind.{common_steps}
-use Rattle.cal_context.proofs.CallerLemmas.{Grows-refl, Grows-trans}
-use Rattle.cal_context.specs.declared.numbers.NodeNumber.{NodeNumber}
-use Rattle.cal_engine.proofs.Sifting.{sifts_next}
+use Rattle.std.proofs.Common.{◌≡◌, ◌∙◌}
+use Rattle.cal_filter.proofs.ReadyLemmas.{on_ok}
+use Rattle.cal_engine.specs.Sieves.{Sifts, SiftsAll, SiftsAttributes, choice_of}
 use Rattle.cal_engine.proofs.sieve.Sieve.catch_up.Goals as goal
 
-pub loop-place-init : goal.loop-place-init
-loop-place-init c = record { counted = omega arith; same = refl; grows = Grows-refl c.args.own.now; sifts = λ h. h }
-
-pub loop-place-preserved : goal.loop-place-preserved
-loop-place-preserved c = record {
-  counted = grind (arith, common_steps);
-  same = c.loop-place.invariant.same;
-  grows = Grows-trans c.args.own.now c.loop-place.own c.sifted.new.own c.loop-place.invariant.grows c.in_ok-node.ensures.grows;
-  sifts = λ h.
-      sifts_next c.args.context.now c.loop-place.own c.sifted.new.own c.loop-place.self _ (record { 0 = c.in-Ok.number }) c.in_ok-node.node
-      c.in_ok-node.ensures.grows refl c.in_ok-push.ensures (omega arith)
-      (c.in_ok-node.ensures.sifted (c.loop-place.invariant.sifts h)) (c.loop-place.invariant.sifts h);
-}
-
 pub returns-clause-sifts : goal.returns-clause-sifts
-returns-clause-sifts c = λ h. record { knows = c.loop-place.invariant.sifts h; nodes = omega arith }
+returns-clause-sifts c =
+    let t = c.args.context.now in
+    let own = c.args.own.now in
+    on_ok (SiftsAttributes t own c.know_attributes.new.self → SiftsAll t c.know_nodes.new.own c.know_nodes.new.self)
+    (Sifts t own c.args.self.now → SiftsAll t c.know_nodes.new.own c.know_nodes.new.self) c.know_nodes.result
+    (λ knows h. knows (c.in_ok-know_attributes.ensures.sifts own h)) c.know_nodes.ensures.sifts
+
+pub returns-clause-same : goal.returns-clause-same
+returns-clause-same c =
+    on_ok (choice_of c.know_nodes.new.self ≡ choice_of c.know_attributes.new.self)
+    (choice_of c.know_nodes.new.self ≡ choice_of c.args.self.now) c.know_nodes.result
+    (λ same. same ∙ c.in_ok-know_attributes.ensures.same) c.know_nodes.ensures.same

@@ -18,7 +18,7 @@ returns-then-is_some-clause-rows c = λ rs h.
     let none : q.order ≡ [] = grind (arith, common_steps, c.if-not-is_empty.false, c.is_empty.ensures) in
     let room = c.into_groups-own.ensures.own ∙ sym (room_by_name q.group t tally.own (sym c.is_some.ensures ∙ c.if-is_some.true)) in
     let ks = filter_map (kept q) rs in
-    let held = holds_in t q ks tally c.args.self.rows.items parts.own parts.groups room c.into_groups-own.ensures.groups h.holds in
+    let held = holds_in t q ks tally c.args.self.rows parts.own parts.groups room c.into_groups-own.ensures.groups h.holds in
     subst (MakesRows c.moved.new.context q.aggs c.in_ok-made.made) (unordered_rows q rs agg none)
     (c.in_ok-made.ensures.rows ks (held.groups agg))
 
@@ -32,6 +32,6 @@ returns-clause-rows c = λ rs h.
     let none : q.order ≡ [] = grind (arith, common_steps, c.if-not-is_empty.false, c.is_empty.ensures) in
     let room = sym (room_by_nodes q.group t tally.own (sym c.is_some.ensures ∙ c.if-is_some.false)) in
     let ks = filter_map (kept q) rs in
-    let held = holds_in t q ks tally c.args.self.rows.items t parts.groups room c.into_groups-own.ensures.groups h.holds in
+    let held = holds_in t q ks tally c.args.self.rows t parts.groups room c.into_groups-own.ensures.groups h.holds in
     subst (MakesRows c.new.new.context q.aggs c.in_ok-made-2.made) (unordered_rows q rs agg none)
     (c.in_ok-made-2.ensures.rows ks (held.groups agg))

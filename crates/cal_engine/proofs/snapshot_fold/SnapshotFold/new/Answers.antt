@@ -14,6 +14,6 @@ returns-clause-none c =
       gate = subst (λ q. IsGate t q c.in_ok-gate.gate) same c.in_ok-gate.ensures.ready;
       holds = record {
         groups = λ is. subst (λ q. IsTally t q [] c.in_ok-tally.tally) same (c.in_ok-tally.ensures t);
-        rows = λ isnt. no_rows t c.new-3.result.items c.new-3.ensures.items;
+        rows = λ isnt. no_rows t c.new-3.result c.new-3.ensures;
       };
     }

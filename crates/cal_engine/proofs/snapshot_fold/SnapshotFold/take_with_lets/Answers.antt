@@ -20,7 +20,7 @@ returns-then-not-keeps c = λ rs h.
     record {
       valid = h.valid;
       gate = c.in_ok-keeps.ensures.stays old.query h.gate;
-      holds = stands_dropped t old.query rs r old.tally old.rows.items (dropped_filtered old.query r full c.in_ok-keeps.keeps filtered c.if-not-keeps.true) h.holds;
+      holds = stands_dropped t old.query rs r old.tally old.rows (dropped_filtered old.query r full c.in_ok-keeps.keeps filtered c.if-not-keeps.true) h.holds;
     }
 
 pub returns : goal.returns
@@ -35,6 +35,6 @@ returns c = λ rs h.
     record {
       valid = h.valid;
       gate = c.in_ok-keeps.ensures.stays old.query h.gate;
-      holds = stands_kept t old.query rs r full c.take_kept.new.tally c.take_kept.new.rows.items (kept_filtered old.query r full c.in_ok-keeps.keeps filtered c.if-not-keeps.false)
+      holds = stands_kept t old.query rs r full c.take_kept.new.tally c.take_kept.new.rows (kept_filtered old.query r full c.in_ok-keeps.keeps filtered c.if-not-keeps.false)
           (c.in_ok-take_kept.ensures (filter_map (kept old.query) rs) h.holds);
     }

@@ -1,4 +1,4 @@
-use Rattle.std.proofs.Common.{map, subst, ap, ◌∙◌}
+use Rattle.std.proofs.Common.{map, subst, ap, ◌∙◌, arith}
 use Rattle.std.specs.List.{AllZip}
 use Rattle.cal_engine.specs.Counters.{IsCounter}
 use Rattle.cal_engine.specs.Keys.{room_of}
@@ -13,4 +13,8 @@ returns c = λ t. record {
   sieves = c.in_ok-sieves.ensures t c.new.result;
   keys = no_keys (room_of c.args.query.now.group t c.new.result) c.new-2.result c.new-2.ensures;
   groups = no_groups_in (room_of c.args.query.now.group t c.new.result) c.args.query.now c.new-2.result c.new-2.ensures;
+  known = record {
+    counters = λ i d short j x within. record { attributes = omega arith; nodes = omega arith };
+    sieves = λ i d short. record { attributes = omega arith; nodes = omega arith };
+  };
 }

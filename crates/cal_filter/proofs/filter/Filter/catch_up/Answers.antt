@@ -4,7 +4,7 @@ use Rattle.cal_ql.specs.declared.query.Query.{Query}
 use Rattle.cal_filter.specs.Ready.{IsFilter, IsReadyFilter}
 use Rattle.cal_filter.specs.Replaced.{ConditionCatchesUp, DefinitionCatchesUp}
 use Rattle.cal_filter.specs.declared.filter.Filter.{Filter}
-use Rattle.cal_filter.proofs.ReadyLemmas.{filter_catches_up, on_ok, written}
+use Rattle.cal_filter.proofs.ReadyLemmas.{filter_catches_up, filter_covered, written}
 use Rattle.cal_filter.proofs.filter.Filter.catch_up.Goals as goal
 
 pub returns : goal.returns
@@ -17,13 +17,15 @@ returns c =
       alloc = old.alloc;
       definitions = with_items old.definitions definitions;
       conditions = with_items old.conditions conditions;
+      known = c.of-self.result;
       numbers = old.numbers;
     } in
-    on_ok (AllZip (ConditionCatchesUp t) c.deref_mut-2.result.now conditions)
-    ((q : Query) → IsFilter t q old → IsReadyFilter t q new) c.know_conditions.result
-    (λ zip q h. filter_catches_up t q old new
+    λ q h. filter_catches_up t q old new
     (written (DefinitionCatchesUp t) old.definitions c.deref_mut.result.now definitions
     c.deref_mut.ensures.value c.deref_mut.ensures.len c.in_ok-know_definitions.ensures)
     (written (ConditionCatchesUp t) old.conditions c.deref_mut-2.result.now conditions
-    c.deref_mut-2.ensures.value c.deref_mut-2.ensures.len zip) h)
-    c.know_conditions.ensures
+    c.deref_mut-2.ensures.value c.deref_mut-2.ensures.len c.in_ok-know_conditions.ensures)
+    c.of-self.ensures.attributes c.of-self.ensures.nodes h
+
+pub returns-then-covers : goal.returns-then-covers
+returns-then-covers c = λ q h. filter_covered c.args.context.now q c.args.self.now (c.covers.ensures c.if-covers.true) h

@@ -6,7 +6,7 @@ use Rattle.cal_filter.proofs.seeker.Seeker.know_attributes.Given as goal
 -- the attributes before this one are known
 abbrev pub invariant-loop-place : goal.invariant-loop-place
 invariant-loop-place l = record {
-  counted : length l.self.named.items ≡ l.place;
+  counted : length l.self.named ≡ l.place;
   same : Stays l.fn.self l.self;
   nearest : l.self.nearest ≡ l.fn.self.nearest;
   knows : Knows l.context l.fn.self → Knows l.context l.self;

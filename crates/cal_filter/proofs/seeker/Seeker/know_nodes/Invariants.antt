@@ -8,6 +8,6 @@ abbrev pub invariant-loop-place : goal.invariant-loop-place
 invariant-loop-place l = record {
   counted : length l.self.nearest ≡ l.place;
   same : Stays l.fn.self l.self;
-  named : l.self.named.items ≡ l.fn.self.named.items;
+  named : l.self.named ≡ l.fn.self.named;
   knows : KnowsAttributes l.context l.fn.self → KnowsAttributes l.context l.self;
 }

@@ -1,8 +1,11 @@
-use Rattle.std.proofs.Common.{ap, sym, ◌∙◌, arith, ℕ, ◌+◌, ◌<◌, Option, None, Some, option_map, option_and_then, slice_get}
+use Rattle.std.proofs.Common.{ap, sym, ◌∙◌, arith, get_or, ℕ, ◌+◌, ◌<◌, Option, None, Some, option_map, option_and_then, slice_get}
 use Rattle.std.specs.Option.{IfSome}
 use Rattle.cal_context.specs.Snapshots.{entry_of}
 use Rattle.cal_filter.specs.Known.{sought}
-use Rattle.cal_filter.proofs.Finding.{immediate_here, immediate_other}
+use Rattle.std.specs.Prelude.{◌&&◌}
+use Rattle.cal_context.specs.Tree.{attribute_at}
+use Rattle.cal_filter.specs.Sought.{passes}
+use Rattle.cal_filter.proofs.Finding.{immediate_here, immediate_other, immediates_none}
 use Rattle.cal_filter.proofs.seeker.Seeker.last_immediate.Goals as goal
 use Rattle.cal_filter.proofs.seeker.Seeker.last_immediate.Goals.{then-seeks, else-seeks}
 
@@ -35,3 +38,15 @@ loop-place-preserved c =
             (option_and_then (slice_get c.args.imms.now) o)) w.last-is);
       }
     ]
+
+pub returns-then-is_unnamed-clause-last : goal.returns-then-is_unnamed-clause-last
+returns-then-is_unnamed-clause-last c = λ k.
+    let t = c.args.context.now in
+    let s = c.args.self.now in
+    let imms = c.args.imms.now in
+    immediates_none t (sought s) imms
+    (λ i x short.
+    let a = (get_or imms i x).attribute in
+    let known = k.knows.attributes a (omega (arith, c.requires i x short, k.attributes)) in
+    ap (λ b. b && passes s.wanted (attribute_at t a).kind (get_or imms i x).value)
+    (sym known.named ∙ c.is_unnamed.ensures c.if-is_unnamed.true a))

@@ -1,4 +1,4 @@
-use Rattle.std.proofs.Common.{[], ◌∷◌, ◌++◌, sym, ap, ◌∙◌, subst, append_assoc, append-nil}
+use Rattle.std.proofs.Common.{ℕ, List, [], ◌∷◌, ◌++◌, sym, ap, ◌∙◌, subst, append_assoc, append-nil}
 use Rattle.std.proofs.lemmas.Result.{on_ok_weaker}
 use Rattle.cal_context.proofs.CallerLemmas.{Grows-refl, Grows-trans}
 use Rattle.cal_read.specs.Cuts.{ended_lines}
@@ -38,20 +38,33 @@ returns-in_err-end_line-clause-fault g c =
     (refusal_more c.loop-line.self c.loop-line.context (bytes ++ turn.0) (turn.2 bytes h) (bytes_in c.in-Some.line) (bytes_in c.in-Some.after) c.in-Some.ensures.line c.in_err-end_line.field-0.0
     (c.in_err-end_line.ensures.fault (bytes ++ turn.0) (turn.2 bytes h))))
 
+pub end_rows-requires : goal.end_rows-requires
+end_rows-requires g c =
+    let turn = c.loop-line.invariant.1 in
+    (((c.requires.0 ++ turn.0) ++ bytes_in c.in-Some.line) ++ 10 ∷ [], c.in_ok-end_line.ensures.read (c.requires.0 ++ turn.0) (turn.2 c.requires.0 c.requires.1))
+
 pub loop-line-preserved : goal.loop-line-preserved
 loop-line-preserved g c =
     let turn = c.loop-line.invariant.1 in
+    let line = bytes_in c.in-Some.line in
+    let on = c.in_ok-rest.ensures.read in
     let had = g.T.Taker.has_taken c.args.taker.now c.args.context.now in
     let then = g.T.Taker.has_taken c.loop-line.taker c.loop-line.context in
-    let has = g.T.Taker.has_taken c.end_line.new.taker c.end_line.new.context in (
+    let mid = g.T.Taker.has_taken c.end_line.new.taker c.end_line.new.context in
+    let has = g.T.Taker.has_taken c.end_rows.new.taker c.end_line.new.context in
+    let gone = turn.0 ++ (line ++ 10 ∷ []) in
+    let read = λ (bytes : List ℕ) (h : HasRead c.args.self.now c.args.context.now bytes). subst (HasRead c.end_line.new.self c.end_line.new.context) (turns bytes turn.0 line) (c.in_ok-end_line.ensures.read (bytes ++ turn.0) (turn.2 bytes h)) in
+    let taken = λ (bytes : List ℕ) (h : HasRead c.args.self.now c.args.context.now bytes). subst (TakesBytes had mid bytes) (turns bytes turn.0 line)
+    (TakesUpTo-trans had then mid (rows_before bytes) (rows_before (bytes ++ turn.0)) (rows_before (((bytes ++ turn.0) ++ line) ++ 10 ∷ [])) (turn.3 bytes h)
+    (c.in_ok-end_line.ensures.taken (bytes ++ turn.0) (turn.2 bytes h)))
+    in (
       Grows-trans _ _ _ c.loop-line.invariant.0 c.in_ok-end_line.ensures.grows,
       (
-        turn.0 ++ ((bytes_in c.in-Some.line) ++ 10 ∷ []),
-        piece_turn c.args.piece.now turn.0 (bytes_in c.loop-line.rest) (bytes_in c.in-Some.line) (bytes_in c.in-Some.after) turn.1 c.in-Some.ensures.parts,
-        (λ bytes h. subst (HasRead c.end_line.new.self c.end_line.new.context) (turns bytes turn.0 (bytes_in c.in-Some.line)) (c.in_ok-end_line.ensures.read (bytes ++ turn.0) (turn.2 bytes h))),
-        (λ bytes h. subst (TakesBytes had has bytes) (turns bytes turn.0 (bytes_in c.in-Some.line))
-            (TakesUpTo-trans had then has (rows_before bytes) (rows_before (bytes ++ turn.0)) (rows_before (((bytes ++ turn.0) ++ (bytes_in c.in-Some.line)) ++ 10 ∷ [])) (turn.3 bytes h)
-            (c.in_ok-end_line.ensures.taken (bytes ++ turn.0) (turn.2 bytes h)))),
+        gone ++ on.front,
+        piece_turn c.args.piece.now turn.0 (bytes_in c.loop-line.rest) line (bytes_in c.in-Some.after) turn.1 c.in-Some.ensures.parts ∙ ap (λ l. gone ++ l) on.parts ∙ sym (append_assoc gone on.front _),
+        (λ bytes h. subst (HasRead c.end_rows.new.self c.end_line.new.context) (append_assoc bytes gone on.front) (on.read (bytes ++ gone) (read bytes h))),
+        (λ bytes h. subst (TakesBytes had has bytes) (append_assoc bytes gone on.front)
+            (TakesUpTo-trans had mid has (rows_before bytes) (rows_before (bytes ++ gone)) (rows_before ((bytes ++ gone) ++ on.front)) (taken bytes h) (on.taken (bytes ++ gone) (read bytes h)))),
       ),
     )
 

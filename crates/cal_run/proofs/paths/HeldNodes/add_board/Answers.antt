@@ -1,5 +1,6 @@
-use Rattle.std.proofs.Common.{◌≡◌, List, ◌++◌, map, ap, subst, sym, ◌∙◌}
+use Rattle.std.proofs.Common.{◌≡◌, ◌<◌, List, ◌++◌, length, map, ap, subst, sym, ◌∙◌}
 use Rattle.std.specs.List.{All}
+use Rattle.std.proofs.lemmas.List.Elements.{All-weaker}
 use Rattle.std.proofs.lemmas.Result.{on_ok_weaker}
 use Rattle.cal_board.specs.Standing.{last_nodes}
 use Rattle.cal_context.specs.Snapshots.{IsBelowRoot}
@@ -16,9 +17,11 @@ add_nodes-requires c =
     let nodes : c.deref.result.now ≡ last_nodes board =
     c.deref.ensures.value ∙ c.in_ok-refs.ensures.ok
     ∙ ap (λ (ns : List NodeNumber). ns ++ last_nodes board) c.clear.ensures.items in
-    subst (All (IsBelowRoot t)) (sym nodes)
+    let Within : NodeNumber → Type 0 = λ n. n.0 < length t.paths in
+    All-weaker (IsBelowRoot t) Within (λ n is. is.within) _
+    (subst (All (IsBelowRoot t)) (sym nodes)
     (board-below t c.args.script.now c.requires.numbered.attributes board c.requires.holds.0
-    c.requires.holds.1 c.has_few_slots.ensures.references)
+    c.requires.holds.1 c.has_few_slots.ensures.references))
 
 pub returns : goal.returns
 returns c =

@@ -11,5 +11,5 @@ abbrev pub invariant-loop-place : goal.invariant-loop-place
 invariant-loop-place l = record {
   ways : AreWays l.context l.nodes l.self;
   walks : Walks l.fn.nodes l.nodes (record { 0 = 0 })
-      (filter (λ e. is_of_hierarchy e.attr) (joined (take l.place (map (path_at l.context) l.row.nodes.items)))) l.at;
+      (filter (λ e. is_of_hierarchy e.attr) (joined (take l.place (map (path_at l.context) l.row)))) l.at;
 }
