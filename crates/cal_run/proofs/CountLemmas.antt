@@ -1,13 +1,11 @@
 -- The replies of a lawful journal say which lines take snapshots.
-use Rattle.std.proofs.Common.{◌≡◌, ℕ, ◌+◌, ◌<◌, ◌≤◌, Bool, true, false, ◌&&◌, cond, List, [], ◌∷◌}
-use Rattle.std.proofs.Common.{◌++◌, length, get_or, take, refl, sym, ap, ◌∙◌, arith}
+use Rattle.std.proofs.Common.{◌≡◌, ℕ, ◌+◌, Bool, true, false, ◌&&◌, cond, List, [], ◌∷◌}
+use Rattle.std.proofs.Common.{◌++◌, length, refl, sym, ap, ◌∙◌, arith}
 use Rattle.std.specs.Prelude.{Option, Some, None, count_by, flat_map, sum_by, unwrap_or, zip}
 use Rattle.std.specs.Prelude.{if◌then◌else◌}
 use Rattle.std.specs.List.{All, enumerate_from}
-use Rattle.std.proofs.lemmas.List.{get_or_default, length-append, take_all}
-use Rattle.std.proofs.lemmas.List.Sums.{count_by-le-length, sum_by-cons, sum_by_more}
-use Rattle.std.proofs.lemmas.List.Sums.{sum_by_more_le_part}
-use Rattle.std.proofs.lemmas.Slice.Zip.{get_or-zip, length-zip}
+use Rattle.std.proofs.lemmas.List.{length-append}
+use Rattle.std.proofs.lemmas.List.Sums.{sum_by-cons}
 use Rattle.cal_run.specs.Counting.{count_noted, is_noted_taken}
 use Rattle.cal_run.specs.Lawful.{IsAnswer, IsAnswered, IsFlushReply, Lawful, NotedLine}
 use Rattle.cal_run.specs.Lawful.{noted_from, noted_of}
@@ -26,7 +24,6 @@ use Rattle.cal_script.specs.declared.script.Channel.{Channel}
 use Rattle.cal_script.specs.declared.script.Line as lines
 use Rattle.cal_script.specs.declared.script.Line.TheVariants as line
 use Rattle.cal_script.specs.declared.script.Script.{Script}
-use Rattle.cal_valid.specs.Valid.{IsRunnable}
 use Rattle.cal_value.specs.declared.record.Rec.{Rec}
 
 -- one item more, if there is one
@@ -124,108 +121,3 @@ module _ (script : Script) (journal : Journal) where
         → length (snapshots script journal channel)
         ≡ sum_by (count_noted script channel) (zip script.threads journal.threads)
     snapshots-counted lawful = counted_threads 0 (zip script.threads journal.threads) lawful.answered
-
--- ---- no more than there are lines
-
-module _ (script : Script) (channel : Channel) where
-  pub noted-few : (t : List lines.Line × ThreadNote)
-      → count_noted script channel t ≤ length t.0
-  noted-few t =
-      let few = count_by-le-length (is_noted_taken script channel) (zip t.0 t.1.lines) in
-      let long = length-zip t.0 t.1.lines in
-      omega (arith, few, long)
-
-zip-few : (threads : List (List lines.Line)) (notes : List ThreadNote)
-    → sum_by (λ (t : List lines.Line × ThreadNote). length t.0) (zip threads notes)
-    ≤ sum_by length threads
-zip-few [] notes = omega arith
-zip-few (thread ∷ threads) [] = omega arith
-zip-few (thread ∷ threads) (note ∷ notes) =
-    let rest = zip-few threads notes in
-    let left = sum_by-cons (λ (t : List lines.Line × ThreadNote). length t.0) (thread, note)
-    (zip threads notes) in
-    let right = sum_by-cons {X = List lines.Line} length thread threads in
-    omega (arith, rest, left, right)
-
--- what stands at a place of two lists
-zip-at : {A B : Type 0} (xs : List A) (ys : List B) (i : ℕ) (x : A) (y : B) → x ≡ get_or xs i x
-    → y ≡ get_or ys i y → i < length xs → i < length ys
-    → (i < length (zip xs ys)) × (get_or (zip xs ys) i (x, y) ≡ (x, y))
-zip-at xs ys i x y ex ey below within =
-    let both = length-zip xs ys in (
-      omega (arith, both, below, within),
-      get_or-zip xs ys i (x, y) below within ∙ (λ j. (sym ex j, sym ey j)),
-    )
-
-module _ (script : Script) (channel : Channel) where
-  -- the lines so far, and one more
-  pub line-more : (ls : List lines.Line) (notes : List LineNote) (i : ℕ) (l : lines.Line)
-      (n : LineNote) → l ≡ get_or ls i l → n ≡ get_or notes i n → i < length ls
-      → length notes ≡ length ls
-      → count_by (is_noted_taken script channel) (take (i + 1) (zip ls notes))
-      ≡ count_by (is_noted_taken script channel) (take i (zip ls notes))
-      + (if is_noted_taken script channel (l, n) then 1 else 0)
-  line-more ls notes i l n l_is n_is below long =
-      let at = zip-at ls notes i l n l_is n_is below (omega (arith, below, long)) in
-      sum_by_more (λ (x : lines.Line × LineNote). cond (is_noted_taken script channel x) 1 0)
-      (zip ls notes) i (l, n) at.0
-      ∙ ap (λ (x : lines.Line × LineNote).
-      count_by (is_noted_taken script channel) (take i (zip ls notes))
-      + cond (is_noted_taken script channel x) 1 0) at.1
-
-  -- no line is left
-  pub lines-end : (ls : List lines.Line) (notes : List LineNote) (i : ℕ) → length ls ≤ i
-      → count_by (is_noted_taken script channel) (take i (zip ls notes))
-      ≡ count_by (is_noted_taken script channel) (zip ls notes)
-  lines-end ls notes i past =
-      let long = length-zip ls notes in
-      ap (count_by (is_noted_taken script channel))
-      (take_all i (zip ls notes) (omega (arith, past, long)))
-
-  module _ (notes : List ThreadNote) (i : ℕ) (ls : List lines.Line) (ns : List LineNote)
-      (ls_are : (d : List lines.Line) → ls ≡ get_or script.threads i d)
-      (ns_are : (d : ThreadNote) → ns ≡ (get_or notes i d).lines)
-      (below : i < length script.threads) (within : i < length notes) where
-    abbrev note : ThreadNote
-    note = get_or notes i (record { start = None; lines = [] })
-
-    here : (i < length (zip script.threads notes))
-        × (get_or (zip script.threads notes) i (ls, note) ≡ (ls, note))
-    here = zip-at script.threads notes i ls note (ls_are ls)
-        (get_or_default notes i (record { start = None; lines = [] }) note within) below within
-
-    -- the threads so far, and one more
-    pub noted-more : sum_by (count_noted script channel) (take (i + 1) (zip script.threads notes))
-        ≡ sum_by (count_noted script channel) (take i (zip script.threads notes))
-        + count_by (is_noted_taken script channel) (zip ls ns)
-    noted-more = sum_by_more (count_noted script channel) (zip script.threads notes) i (ls, note)
-        here.0
-        ∙ ap (λ (t : List lines.Line × ThreadNote).
-        sum_by (count_noted script channel) (take i (zip script.threads notes))
-        + count_noted script channel t) here.1
-        ∙ ap (λ (xs : List LineNote).
-        sum_by (count_noted script channel) (take i (zip script.threads notes))
-        + count_by (is_noted_taken script channel) (zip ls xs))
-        (sym (ns_are (record { start = None; lines = [] })))
-
-    -- and no more than there are lines
-    pub noted-room : IsRunnable script
-        → sum_by (count_noted script channel) (take i (zip script.threads notes)) + length ls
-        ≤ 1048576
-    noted-room runnable =
-        let part = sum_by_more_le_part (count_noted script channel)
-        (λ (t : List lines.Line × ThreadNote). length t.0) (zip script.threads notes) i (ls, note)
-        here.0 (noted-few script channel) in
-        let at = ap (λ (t : List lines.Line × ThreadNote). length t.0) here.1 in
-        let few = zip-few script.threads notes in
-        let limit = runnable.few_lines in
-        omega (arith, part, at, few, limit)
-
-  -- no thread is left
-  pub noted-end : (notes : List ThreadNote) (i : ℕ) → length script.threads ≤ i
-      → sum_by (count_noted script channel) (take i (zip script.threads notes))
-      ≡ sum_by (count_noted script channel) (zip script.threads notes)
-  noted-end notes i past =
-      let long = length-zip script.threads notes in
-      ap (sum_by (count_noted script channel))
-      (take_all i (zip script.threads notes) (omega (arith, past, long)))

@@ -8,7 +8,6 @@
 mod behind;
 mod boards;
 mod closing;
-mod counting;
 mod end;
 mod filling;
 mod finding;
@@ -45,13 +44,11 @@ mod thread;
 mod walking;
 mod watch;
 
-pub use counting::count_snapshots;
 pub use end::CoreEnd;
 pub use lawful::check_journal;
 pub use laws::{first_broken_law, lawful_journal_law, own_board_law, plain_journal_law};
 pub use numbers::{EventNumbers, Numbers};
 pub use operation::{Operation, operation_of};
-pub use paths::count_nodes;
 pub use plain::plain_journal;
 pub use plain_counts::{PlainCounts, count_plain};
 pub use plain_run::take_plain_channel;

@@ -1,4 +1,4 @@
-ghost use Rattle.std.specs.Prelude.{◌≡◌, ◌<◌, [], flat_map, length, map, All, IfOk, OnOk};
+ghost use Rattle.std.specs.Prelude.{◌≡◌, ◌<◌, [], length, map, All, OnOk};
 ghost use Rattle.cal_board.specs.Blackboard.{Blackboard};
 ghost use Rattle.cal_context.specs.Tree.{Grows, path_at};
 ghost use Rattle.cal_run.specs.Adding.{MayHavePlaces};
@@ -6,19 +6,15 @@ ghost use Rattle.cal_run.specs.Held.{Holds, HoldsSome, HoldsThen};
 ghost use Rattle.cal_run.specs.History.{board_placed};
 ghost use Rattle.cal_run.specs.Holding.{HoldsPaths};
 ghost use Rattle.cal_run.specs.Numbers.{AreNumbered};
-ghost use Rattle.cal_run.specs.Paths.{held_behind, held_by_process, held_by_thread, nodes};
-ghost use Rattle.cal_run.specs.Paths.{own_operation, paths_of};
-ghost use Rattle.cal_valid.specs.Valid.{IsPlaced, IsRunnable};
+ghost use Rattle.cal_run.specs.Paths.{held_behind, own_operation, paths_of};
 ghost use Rattle.cal_value.specs.declared.variant.Variant as variants;
 
 use crate::boards::operate;
 use crate::lines::is_process_line;
-use crate::placing::{line_in, lines_of_thread};
-use crate::process::{placed_at, placed_operation};
 use crate::{Numbers, Operation, operation_of};
 use cal_board::Board;
 use cal_context::{Context, Interner, NodeNumber};
-use cal_script::{Journal, Line, Placed, Script};
+use cal_script::{Line, Script};
 use cal_value::OutOfMemory;
 use std::alloc::Global;
 
@@ -28,90 +24,6 @@ pub(crate) struct HeldNodes {
     pub nodes: Interner<NodeNumber>,
     /// Room for the nodes of a board.
     room: Vec<NodeNumber>,
-}
-
-/// How many different paths the boards of the threads and of the process hold in a run, which are
-/// the nodes of its context tree. It takes time in the lines, and for each in the slots in use.
-pub fn count_nodes(alloc: Global, script: &Script, journal: &Journal) -> Result<usize, OutOfMemory>
-    requires { IsRunnable script.now }
-    ensures { IfOk result (λ count. count ≡ nodes script.now journal.now) }
-{
-    let mut context = Context::new(alloc);
-    let numbers = Numbers::of(alloc, script, &mut context)?;
-    let mut held = HeldNodes::new(alloc);
-    hold_threads(alloc, script, &numbers, &mut context, &mut held)?;
-    let history = journal.ops.as_slice();
-    hold_process(alloc, script, &numbers, history, &mut context, &mut held)?;
-    context.has_each_once();
-    Ok(held.nodes.as_slice().len())
-}
-
-/// Adds what the boards of the threads hold.
-fn hold_threads(
-    alloc: Global,
-    script: &Script,
-    numbers: &Numbers,
-    context: &mut Context,
-    held: &mut HeldNodes,
-) -> Result<(), OutOfMemory>
-    requires runnable { IsRunnable script.now }
-    requires numbered { AreNumbered context.old script.now numbers.now }
-    ensures held { OnOk result (HoldsPaths context.old context.new held.old.nodes held.new.nodes
-        (flat_map (held_by_thread script.now) script.now.threads)) }
-    ensures grows { Grows context.old context.new }
-{
-    for number in 0..script.threads.len() {
-        let lines = lines_of_thread(script, number);
-        hold_thread(alloc, script, numbers, lines, context, held)?;
-    }
-    Ok(())
-}
-
-/// Adds what the board of a thread holds.
-fn hold_thread(
-    alloc: Global,
-    script: &Script,
-    numbers: &Numbers,
-    lines: &[Line],
-    context: &mut Context,
-    held: &mut HeldNodes,
-) -> Result<(), OutOfMemory>
-    requires numbered { AreNumbered context.old script.now numbers.now }
-    requires placed { All (IsPlaced script.now.attributes script.now.channels script.now.values)
-        lines.now }
-    ensures held { OnOk result (HoldsPaths context.old context.new held.old.nodes held.new.nodes
-        (held_by_thread script.now lines.now)) }
-    ensures grows { Grows context.old context.new }
-{
-    let mut board = Board::new(alloc);
-    for place in 0..lines.len() {
-        let op = own_operation(script, line_in(lines, place));
-        hold_behind(alloc, script, numbers, op, &mut board, context, held)?;
-    }
-    Ok(())
-}
-
-/// Adds what the process's board holds behind each operation of a history.
-fn hold_process(
-    alloc: Global,
-    script: &Script,
-    numbers: &Numbers,
-    history: &[Placed],
-    context: &mut Context,
-    held: &mut HeldNodes,
-) -> Result<(), OutOfMemory>
-    requires runnable { IsRunnable script.now }
-    requires numbered { AreNumbered context.old script.now numbers.now }
-    ensures held { OnOk result (HoldsPaths context.old context.new held.old.nodes held.new.nodes
-        (held_by_process script.now history.now)) }
-    ensures grows { Grows context.old context.new }
-{
-    let mut board = Board::new(alloc);
-    for place in 0..history.len() {
-        let op = placed_operation(script, placed_at(history, place));
-        hold_behind(alloc, script, numbers, op, &mut board, context, held)?;
-    }
-    Ok(())
 }
 
 /// What a line does to its thread's own board.

@@ -1,11 +1,9 @@
--- The rows of a run are those of the traces and the records of groups, and sums go on item by item.
-use Rattle.std.proofs.Common.{◌≡◌, ℕ, ◌+◌, ◌<◌, Bool, true, false, List, [], ◌∷◌, length, get_or}
-use Rattle.std.proofs.Common.{take, refl, ap, arith}
-use Rattle.std.specs.Prelude.{flat_map, if◌then◌else◌, sum_by}
+-- The rows of a run are those of the traces and the records of groups.
+use Rattle.std.proofs.Common.{◌≡◌, ◌+◌, List, [], ◌∷◌, length, refl, arith}
+use Rattle.std.specs.Prelude.{flat_map, sum_by}
 use Rattle.std.proofs.lemmas.List.{length-append}
-use Rattle.std.proofs.lemmas.List.Sums.{sum_by-cons, sum_by_more}
+use Rattle.std.proofs.lemmas.List.Sums.{sum_by-cons}
 use Rattle.cal_records.specs.Records.{channel_rows, grouped, run_rows, traced}
-use Rattle.cal_run.specs.Runs.{snapshots}
 use Rattle.cal_script.specs.declared.journal.Journal.{Journal}
 use Rattle.cal_script.specs.declared.script.Channel.{Channel}
 use Rattle.cal_script.specs.declared.script.Script.{Script}
@@ -33,26 +31,6 @@ module _ (script : Script) (journal : Journal) where
   pub rows-split : length (run_rows script journal)
       ≡ traced_count script journal + group_count script journal
   rows-split = rows-of script.channels
-
-  -- the snapshots of a channel that stand in its trace
-  pub traced-is : (channel : Channel) (count : ℕ)
-      → count ≡ length (snapshots script journal channel)
-      → (if channel.trace then count else 0) ≡ length (traced script journal channel)
-  traced-is channel count is = by channel.trace
-    where
-      by : (b : Bool) → (if b then count else 0)
-          ≡ length (if b then snapshots script journal channel else [])
-      by true = is
-      by false = refl
-
--- a sum over the items so far, and one more
-pub sum-next : {A : Type 0} (f : A → ℕ) (xs : List A) (i : ℕ) (x : A) → x ≡ get_or xs i x
-    → i < length xs → (sum more now : ℕ) → sum ≡ sum_by f (take i xs) → more ≡ f x
-    → now ≡ sum + more → now ≡ sum_by f (take (i + 1) xs)
-sum-next f xs i x is below sum more now so_far one adds =
-    let next = sum_by_more f xs i x below in
-    let at = ap f is in
-    omega (arith, next, at, so_far, one, adds)
 
 -- how much rows are with globals
 abbrev pub measure_of : List Rec → Rec → Measure

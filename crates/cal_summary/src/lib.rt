@@ -11,4 +11,4 @@ mod measuring;
 mod summarizing;
 
 pub use layout::summary_text;
-pub use summarizing::{Summary, summarize, summarize_plain};
+pub use summarizing::{Summary, summarize};

@@ -2,48 +2,20 @@ ghost use Rattle.std.specs.Prelude.{◌≡◌, length, IfOk};
 ghost use Rattle.cal_records.specs.Records.{records_of, run_rows};
 ghost use Rattle.cal_run.specs.Numbers.{AreNumbered};
 ghost use Rattle.cal_run.specs.Plain.{plain};
-ghost use Rattle.cal_run.specs.Seeing.{CanBeRead};
 ghost use Rattle.cal_valid.specs.Valid.{IsRunnable};
 ghost use Rattle.cal_write.specs.CanonicalText.{canonical_text};
 
 use cal_context::Context;
-use cal_records::{put_globals, take_plain_run, take_run};
+use cal_records::{put_globals, take_plain_run};
 use cal_run::Numbers;
-use cal_script::{Journal, Script};
+use cal_script::Script;
 use cal_value::OutOfMemory;
 use cal_write::{Measure, Measurer};
 use std::alloc::Global;
 
-/// How many rows a run has, and how many bytes the text of its records.
+/// How many rows the run of the threads one after another has, and how many bytes the text of its
+/// records, of which nothing is kept.
 pub(crate) fn measure_run(
-    alloc: Global,
-    script: &Script,
-    journal: &Journal,
-) -> Result<Measure, OutOfMemory>
-    requires runnable { IsRunnable script.now }
-    requires read { CanBeRead script.now journal.now }
-    ensures { IfOk result (λ measure. measure ≡ record {
-      rows = length (run_rows script.now journal.now);
-      bytes = length (canonical_text (records_of script.now journal.now));
-    }) }
-{
-    let mut context = Context::new(alloc);
-    let numbers = Numbers::of(alloc, script, &mut context)?;
-    let mut measurer = Measurer::new(alloc)?;
-    take_run(
-        alloc,
-        script,
-        journal,
-        &numbers,
-        &mut context,
-        &mut measurer,
-    )?;
-    let globals = put_globals(alloc, script.globals.as_slice(), &mut context)?;
-    measurer.finish(&context, &globals)
-}
-
-/// The same of the run of the threads one after another, of which nothing is kept.
-pub(crate) fn measure_plain(
     alloc: Global,
     script: &Script,
     numbers: &Numbers,

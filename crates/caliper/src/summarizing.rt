@@ -4,7 +4,7 @@ ghost use Rattle.caliper.specs.Inputs.{IsPrinted};
 ghost use Rattle.caliper.specs.declared.words.Print.TheVariants as print;
 
 use cal_script::{Script, read_script};
-use cal_summary::{summarize_plain, summary_text};
+use cal_summary::{summarize, summary_text};
 use cal_valid::valid_script_law;
 use cal_value::{OutOfMemory, Text};
 use std::alloc::Global;
@@ -16,7 +16,7 @@ pub fn summary_lines(alloc: Global, text: Text) -> Result<Text, OutOfMemory>
 {
     valid_script_law();
     let script = read(alloc, text)?;
-    let summary = summarize_plain(alloc, &script)?;
+    let summary = summarize(alloc, &script)?;
     summary_text(alloc, &summary)
 }
 

@@ -3,8 +3,8 @@ use Rattle.std.proofs.lemmas.Result.{IfOk-weaker}
 use Rattle.cal_summary.specs.Summaries.{summary_text}
 use Rattle.caliper.proofs.summarizing.summary_lines.Goals as goal
 
-pub summarize_plain-requires : goal.summarize_plain-requires
-summarize_plain-requires c =
+pub summarize-requires : goal.summarize-requires
+summarize-requires c =
     c.valid_script_law.ensures c.in_ok-script.script (c.args.text, c.in_ok-script.ensures)
 
 pub returns : goal.returns
