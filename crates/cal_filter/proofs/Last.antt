@@ -1,5 +1,5 @@
 -- The last item of a list that passes a test.
-use Rattle.std.proofs.Common.{◌≡◌, ◌+◌, true, false, List, [], ◌∷◌, ◌++◌}
+use Rattle.std.proofs.Common.{◌≡◌, true, false, List, [], ◌∷◌, ◌++◌}
 use Rattle.std.proofs.Common.{Option, None, Some, refl, sym, ◌∙◌, ap}
 use Rattle.std.specs.List.{filter, last_or}
 use Rattle.std.specs.Option.{option_or}

@@ -1,5 +1,5 @@
 -- Catching up, and what is ready.
-use Rattle.std.proofs.Common.{◌≡◌, ℕ, ◌+◌, ◌<◌, ◌≤◌, List, [], ◌∷◌, ◌++◌, map, take, length, get_or}
+use Rattle.std.proofs.Common.{◌≡◌, ℕ, ◌+◌, ◌<◌, List, [], ◌∷◌, ◌++◌, map, take, length, get_or}
 use Rattle.std.proofs.Common.{Result, Ok, Err, refl, sym, ◌∙◌, ap, subst, arith}
 use Rattle.std.specs.List.{All, AllZip}
 use Rattle.std.specs.Result.{IfOk, OnOk}
@@ -12,7 +12,7 @@ use Rattle.cal_ql.specs.declared.query.Query.{Query}
 use Rattle.cal_value.specs.declared.attribute.Entry.{Entry}
 use Rattle.cal_filter.specs.Conditions.{test_holds}
 use Rattle.cal_filter.specs.Known.{Covers, Knows, KnowsAll, KnowsSoMany, sought}
-use Rattle.cal_filter.specs.Ready.{AllKnowSoMany, IsCondition, IsDefinition, IsFilter, IsReadyCondition}
+use Rattle.cal_filter.specs.Ready.{IsCondition, IsDefinition, IsFilter, IsReadyCondition}
 use Rattle.cal_filter.specs.Ready.{IsReadyDefinition, IsReadyFilter}
 use Rattle.cal_filter.specs.Replaced.{CatchesUp, ConditionCatchesUp, DefinitionCatchesUp}
 use Rattle.cal_filter.specs.Sought.{Sought, passes, sought_by}

@@ -25,9 +25,37 @@ pub fn apply(alloc: Global, query: &Query, rec: Rec) -> Result<Option<Rec>, OutO
     ensures { IfOk result (λ answer. answer ≡ kept query.now rec) }
 {
     let mut context = Context::new(alloc);
-    let mut filter = Filter::new(alloc, query, &mut context)?;
-    let mut snapshot = flat_snapshot(alloc, &mut context, &rec)?;
-    filtered(alloc, &mut filter, &context, rec, &mut snapshot)
+    apply_in(alloc, query, &mut context, rec)
+}
+
+/// The same, over a context.
+fn apply_in(
+    alloc: Global,
+    query: &Query,
+    context: &mut Context,
+    rec: Rec,
+) -> Result<Option<Rec>, OutOfMemory>
+    requires valid { IsValidQuery query.now }
+    requires small { HasSmallNumbers rec }
+    ensures { IfOk result (λ answer. answer ≡ kept query.now rec) }
+{
+    let mut filter = Filter::new(alloc, query, context)?;
+    apply_by(alloc, &mut filter, context, rec)
+}
+
+/// What a filter makes of a record.
+fn apply_by(
+    alloc: Global,
+    filter: &mut Filter,
+    context: &mut Context,
+    rec: Rec,
+) -> Result<Option<Rec>, OutOfMemory>
+    requires { HasSmallNumbers rec }
+    ensures { IfOk result (λ answer. (q : QueryOf) → IsFilter context.old q filter.old
+        → answer ≡ kept q rec) }
+{
+    let mut snapshot = flat_snapshot(alloc, context, &rec)?;
+    filtered(alloc, filter, context, rec, &mut snapshot)
 }
 
 /// What a filter makes of a record, whose entries are a snapshot's immediates.

@@ -1,5 +1,5 @@
 ghost use Rattle.std.specs.Prelude.{◌≡◌, ◌<◌, List, [], length, slice_get, true, false};
-ghost use Rattle.std.specs.Prelude.{is_none, IfOk, IsSomeAnd, MatchOption, OnOk, Some};
+ghost use Rattle.std.specs.Prelude.{ℕ, None, slice_index_or, is_none, IfOk, IsSomeAnd, MatchOption, OnOk, Some};
 ghost use Rattle.std.specs.List.{list_any};
 ghost use Rattle.cal_value.specs.declared.attribute.Entry.{Entry};
 ghost use Rattle.cal_value.specs.declared.record.Rec.{Rec};
@@ -44,9 +44,7 @@ impl ShownRow {
     {
         let mut cells = Cells::new(alloc);
         let mut places = Vec::new(alloc);
-        for column in columns {
-            places.push(place_of(&mut cells, &column.name)?)?;
-        }
+        place_columns(&mut cells, &mut places, columns)?;
         let shows_path = has_none(&places);
         Ok(ShownRow {
             cells,
@@ -99,6 +97,27 @@ fn has_none(places: &[Option<usize>]) -> bool
     ensures { result ≡ list_any is_none places.now }
 {
     places.iter().any(|place| place.is_none())
+}
+
+// the places of the names of columns
+fn place_columns(
+    cells: &mut Cells,
+    places: &mut Vec<Option<usize>>,
+    columns: &[Column],
+) -> Result<(), OutOfMemory>
+    requires holds { Holds cells.old [] }
+    requires trail { IsTrail cells.old [] }
+    requires empty { places.old.items ≡ [] }
+    ensures holds { OnOk result (Holds cells.new []) }
+    ensures trail { OnOk result (IsTrail cells.new []) }
+    ensures counted { OnOk result (length places.new.items ≡ length columns.now) }
+    ensures placed { OnOk result ((k : ℕ) → k < length columns.now → IsPlaceOf (names cells.new)
+        (nth_column columns.now k).name (slice_index_or places.new.items k None)) }
+{
+    for column in columns {
+        places.push(place_of(cells, &column.name)?)?;
+    }
+    Ok(())
 }
 
 // the place of a name, unless it is the hierarchy's

@@ -31,7 +31,7 @@ pub(crate) struct Opening<'a> {
 /// The lines that open a value.
 impl Reader {
     #[inline(always)]
-    #[tactic(auto, using(crate::proofs::Values::made_small, crate::proofs::Naming::opening_falls, crate::proofs::Naming::opening_goes))]
+    #[tactic(auto, using(crate::proofs::Naming::opening_goes))]
     fn opening_of<'a>(&self, alloc: Global, rest: Option<&'a str>) -> Result<Opening<'a>, LineEnd>
         requires kept { IsReading self.now }
         requires fits { fits (state_of self.now) ≡ true }

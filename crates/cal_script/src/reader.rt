@@ -184,6 +184,19 @@ impl Reader {
         if let Some((_, rest)) = behind(line, "tick") {
             return self.read_tick(alloc, Some(rest));
         }
+        self.read_by_word(alloc, line)
+    }
+
+    /// Reads a line by its first word, whichever that is.
+    fn read_by_word(&mut self, alloc: Global, line: &str) -> Result<(), LineEnd>
+        requires kept { IsReading self.old }
+        requires fits { fits (state_of self.old) ≡ true }
+        ensures said { Gives (λ _. state_of self.new) result
+            (words_after (state_of self.old) (words_of line.now)) }
+        ensures kept { OnOk result (IsReading self.new) }
+        ensures threads { OnOk result (length self.new.earlier < 65) }
+        ensures near { OnOk result (IsNear self.new.tally) }
+    {
         let (word, rest) = first_word(line);
         match word {
             "attribute" => self.read_attribute(alloc, rest),

@@ -1,6 +1,9 @@
-ghost use Rattle.std.specs.Prelude.{◌≡◌, IfOk, IfErr};
+ghost use Rattle.std.specs.Prelude.{◌≡◌, true, IfOk, IfErr, OnOk};
 ghost use Rattle.cal_script.specs.Faults.{IsRefusalOf};
+ghost use Rattle.cal_script.specs.Limits.{fits};
+ghost use Rattle.cal_script.specs.Reader.{IsReading, state_of};
 ghost use Rattle.cal_script.specs.Reading.{Means};
+ghost use Rattle.cal_script.specs.State.{no_lines, script_of};
 
 use crate::end::LineEnd;
 use crate::reader::Reader;
@@ -13,6 +16,18 @@ pub fn read_script(alloc: Global, bytes: &[u8]) -> Result<Script, ScriptEnd>
     ensures fault { IfErr result (λ end. IsRefusalOf bytes.now end) }
 {
     let mut reader = Reader::new(alloc);
+    read_lines(alloc, &mut reader, bytes)?;
+    Ok(reader.into_script()?)
+}
+
+/// Has a reader read all lines.
+fn read_lines(alloc: Global, reader: &mut Reader, bytes: &[u8]) -> Result<(), ScriptEnd>
+    requires start { state_of reader.old ≡ no_lines }
+    requires kept { IsReading reader.old }
+    requires fits { fits (state_of reader.old) ≡ true }
+    ensures read { OnOk result (Means bytes.now (script_of (state_of reader.new))) }
+    ensures fault { IfErr result (λ end. IsRefusalOf bytes.now end) }
+{
     let mut rest = Rest::of(bytes);
     let mut line: u64 = 0;
     while let Some((text, after)) = rest.next_line() {
@@ -24,5 +39,5 @@ pub fn read_script(alloc: Global, bytes: &[u8]) -> Result<Script, ScriptEnd>
         }
         rest = after;
     }
-    Ok(reader.into_script()?)
+    Ok(())
 }

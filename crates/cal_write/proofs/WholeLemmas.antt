@@ -64,8 +64,8 @@ rows-more t now old new rows i r snap within is had grows means takes =
     map_more without_empty rows i r within ∙ (λ j. map without_empty (take i rows) ++ without_empty (sym is j) ∷ []) ∙ (λ j. map without_empty (take i rows) ++ sym means.means j ∷ []) in
     subst (HasTaken new now) (sym more) (takes (map without_empty (take i rows)) (HasTaken-stays old t now (map without_empty (take i rows)) had grows))
 
-pub whole-text : (t now : Tree) (w : Writer) (rs : Records) (rows : List Rec) (snap : Snapshot) (text : List ℕ) → rows ≡ rs.rows → HasTaken w t (map without_empty rows) → Grows t now
-    → Means now snap rs.globals → EndsWith (HasTaken w now) (meaning now snap) text → text ≡ canonical_text rs
-whole-text t now w rs rows snap text is had grows means ends_with =
-    ends_with (map without_empty rows) (HasTaken-stays w t now (map without_empty rows) had grows)
-    ∙ (λ j. canonical_text (record { rows = map without_empty (is j); globals = means.means j })) ∙ canonical_text-same rs
+pub whole-text : (t : Tree) (w : Writer) (rs : Records) (snap : Snapshot) (text : List ℕ) → HasTaken w t (map without_empty rs.rows)
+    → Means t snap rs.globals → EndsWith (HasTaken w t) (meaning t snap) text → text ≡ canonical_text rs
+whole-text t w rs snap text had means ends_with =
+    ends_with (map without_empty rs.rows) had
+    ∙ (λ j. canonical_text (record { rows = map without_empty rs.rows; globals = means.means j })) ∙ canonical_text-same rs

@@ -2,6 +2,7 @@ ghost use Rattle.std.specs.Prelude.{◌≡◌, ◌∷◌, ◌++◌, [], IfOk, On
 ghost use Rattle.cal_write.specs.BuiltIn.{built_in_attribute, built_in_id};
 ghost use Rattle.cal_write.specs.BuiltIn.{built_in_keys, key_of_built_in, key_of_kind};
 ghost use Rattle.cal_write.specs.Nodes.{first_kinds};
+ghost use Rattle.cal_write.specs.declared.built_in.BuiltIn.TheVariants.{OfNames, OfKinds, OfProps};
 
 use crate::described::DescribedNode;
 use cal_context::Interner;
@@ -76,19 +77,38 @@ impl BuiltIn {
 pub(crate) fn built_in_nodes(alloc: Global) -> Result<Interner<DescribedNode>, OutOfMemory>
     ensures { IfOk result (λ nodes. nodes ≡ built_in_keys) }
 {
-    let mut nodes = first_nodes(alloc)?;
-    for attribute in [BuiltIn::OfNames, BuiltIn::OfKinds, BuiltIn::OfProps] {
-        nodes.intern(attribute.node(alloc)?)?;
-    }
-    nodes.intern(node_of_kind(alloc, Kind::Ptr)?)?;
+    let mut nodes = Interner::new(alloc);
+    put_nodes(alloc, &mut nodes)?;
     Ok(nodes)
 }
 
-/// The nodes of the kinds that come first.
-fn first_nodes(alloc: Global) -> Result<Interner<DescribedNode>, OutOfMemory>
-    ensures { IfOk result (λ nodes. nodes ≡ map key_of_kind first_kinds) }
+fn put_nodes(alloc: Global, nodes: &mut Interner<DescribedNode>) -> Result<(), OutOfMemory>
+    requires { nodes.old ≡ [] }
+    ensures { OnOk result (nodes.new ≡ built_in_keys) }
 {
-    let mut nodes = Interner::new(alloc);
+    put_first_kinds(alloc, nodes)?;
+    put_attributes(alloc, nodes)?;
+    nodes.intern(node_of_kind(alloc, Kind::Ptr)?)?;
+    Ok(())
+}
+
+/// Puts the nodes of the attributes that say what an attribute is.
+fn put_attributes(alloc: Global, nodes: &mut Interner<DescribedNode>) -> Result<(), OutOfMemory>
+    requires { nodes.old ≡ map key_of_kind first_kinds }
+    ensures { OnOk result (nodes.new ≡ map key_of_kind first_kinds
+        ++ map key_of_built_in (OfNames ∷ OfKinds ∷ OfProps ∷ [])) }
+{
+    for attribute in [BuiltIn::OfNames, BuiltIn::OfKinds, BuiltIn::OfProps] {
+        nodes.intern(attribute.node(alloc)?)?;
+    }
+    Ok(())
+}
+
+/// Puts the nodes of the kinds that come first.
+fn put_first_kinds(alloc: Global, nodes: &mut Interner<DescribedNode>) -> Result<(), OutOfMemory>
+    requires { nodes.old ≡ [] }
+    ensures { OnOk result (nodes.new ≡ map key_of_kind first_kinds) }
+{
     for kind in [
         Kind::Usr,
         Kind::Int,
@@ -101,7 +121,7 @@ fn first_nodes(alloc: Global) -> Result<Interner<DescribedNode>, OutOfMemory>
     ] {
         nodes.intern(node_of_kind(alloc, kind)?)?;
     }
-    Ok(nodes)
+    Ok(())
 }
 
 fn node_of_kind(alloc: Global, kind: Kind) -> Result<DescribedNode, OutOfMemory>

@@ -43,22 +43,25 @@ impl Measurer {
             (MeasuresWith (HasMeasured self context.now) (meaning context.now globals.now)) }
     {
         let mut measurer = self;
-        measurer.count_globals(context, globals)?;
-        Ok(measurer.so_far)
+        measurer.with_globals(context, globals)
     }
 
-    /// Counts the bytes of globals, if they have an entry.
-    fn count_globals(&mut self, context: &Context, globals: &Snapshot) -> Result<(), OutOfMemory>
+    /// How much there is with globals, if they have an entry.
+    fn with_globals(
+        &mut self,
+        context: &Context,
+        globals: &Snapshot,
+    ) -> Result<Measure, OutOfMemory>
         requires { IsIn context.now globals.now }
-        ensures { OnOk result (MeasuresWith (HasMeasured self.old context.now)
-            (meaning context.now globals.now) self.new.so_far) }
+        ensures { IfOk result (MeasuresWith (HasMeasured self.old context.now)
+            (meaning context.now globals.now)) }
     {
         context.has_each_once();
         if has_no_entry(globals) {
-            return Ok(());
+            return Ok(self.so_far);
         }
         self.count(context, "globals", globals)?;
-        Ok(())
+        Ok(self.so_far)
     }
 
     /// Counts the bytes of a record and of what is new with it.

@@ -2,7 +2,7 @@ ghost use Rattle.std.specs.Prelude.{◌≡◌, ◌≤◌, [], IfOk, OnOk, IsErrO
 ghost use Rattle.cal_base.specs.Faults.{Rose};
 ghost use Rattle.cal_base.specs.Told.{Appends, AppendsFront};
 ghost use Rattle.cal_write.specs.CanonicalText.{canonical_text};
-ghost use Rattle.cal_write.specs.Interning.{without_empty};
+ghost use Rattle.cal_write.specs.Interning.{Means, without_empty};
 ghost use Rattle.cal_write.specs.Writer.{HasTaken};
 
 use crate::Writer;
@@ -48,14 +48,44 @@ impl From<OutOfMemory> for WriteEnd {
 pub fn cali_text(alloc: Global, records: &Records) -> Result<Text, OutOfMemory>
     ensures { IfOk result (λ text. text ≡ canonical_text records.now) }
 {
+    let writer = Writer::new(alloc)?;
     let mut context = Context::new(alloc);
-    let mut writer = Writer::new(alloc)?;
     let mut snapshot = Snapshot::new(alloc);
-    let rows = records.rows.as_slice();
-    take_rows(alloc, &mut context, &mut writer, &mut snapshot, rows)?;
-    intern_record(alloc, &mut context, &records.globals, &mut snapshot)?;
-    let text = writer.finish(&context, &snapshot)?;
-    Ok(text)
+    text_by(alloc, &mut context, writer, &mut snapshot, records)
+}
+
+/// The canonical text of all records, by a writer of none yet.
+fn text_by(
+    alloc: Global,
+    context: &mut Context,
+    writer: Writer,
+    snapshot: &mut Snapshot,
+    records: &Records,
+) -> Result<Text, OutOfMemory>
+    requires { HasTaken writer context.old [] }
+    ensures { IfOk result (λ text. text ≡ canonical_text records.now) }
+{
+    let mut writer = writer;
+    take_all(alloc, context, &mut writer, snapshot, records)?;
+    writer.finish(context, snapshot)
+}
+
+/// Hands the rows to a writer, and makes a snapshot of the globals.
+fn take_all(
+    alloc: Global,
+    context: &mut Context,
+    writer: &mut Writer,
+    snapshot: &mut Snapshot,
+    records: &Records,
+) -> Result<(), OutOfMemory>
+    requires { HasTaken writer.old context.old [] }
+    ensures rows { OnOk result
+        (HasTaken writer.new context.new (map without_empty records.now.rows)) }
+    ensures globals { OnOk result (Means context.new snapshot.new records.now.globals) }
+{
+    take_rows(alloc, context, writer, snapshot, records.rows.as_slice())?;
+    intern_record(alloc, context, &records.globals, snapshot)?;
+    Ok(())
 }
 
 /// Puts rows into a context, and hands each to a writer.

@@ -19,3 +19,13 @@ loop-definition-preserved c =
           c.loop-definition.definitions.items c.loop-definition.invariant.ready)
           (omega arith) c.definition-item.is c.in_ok-push.ensures.items c.in_ok-made.ensures.ready;
     }
+
+pub returns-in_err-made-clause-grows : goal.returns-in_err-made-clause-grows
+returns-in_err-made-clause-grows c =
+    Grows-trans c.args.context.now c.loop-definition.context c.new.new.context
+    c.loop-definition.invariant.grows c.in_err-made.ensures.grows
+
+pub returns-in_err-push-clause-grows : goal.returns-in_err-push-clause-grows
+returns-in_err-push-clause-grows c =
+    Grows-trans c.args.context.now c.loop-definition.context c.new.new.context
+    c.loop-definition.invariant.grows c.in_ok-made.ensures.grows

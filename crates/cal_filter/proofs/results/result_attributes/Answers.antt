@@ -17,3 +17,13 @@ loop-kind-preserved c = record {
       c.all_kinds-kinds.ensures c.loop-kind.invariant.counted c.in_ok-push.ensures.items
       c.in_ok-number.ensures.numbered c.loop-kind.invariant.numbered;
 }
+
+pub returns-in_err-number-clause-grows : goal.returns-in_err-number-clause-grows
+returns-in_err-number-clause-grows c =
+    Grows-trans c.args.context.now c.loop-kind.context c.result_attribute.new.context
+    c.loop-kind.invariant.grows c.in_err-number.ensures.grows
+
+pub returns-in_err-push-clause-grows : goal.returns-in_err-push-clause-grows
+returns-in_err-push-clause-grows c =
+    Grows-trans c.args.context.now c.loop-kind.context c.result_attribute.new.context
+    c.loop-kind.invariant.grows c.in_ok-number.ensures.grows

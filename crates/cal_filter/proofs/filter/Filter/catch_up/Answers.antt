@@ -1,7 +1,4 @@
-use Rattle.std.specs.List.{AllZip}
 use Rattle.std.specs.Vec.{with_items}
-use Rattle.cal_ql.specs.declared.query.Query.{Query}
-use Rattle.cal_filter.specs.Ready.{IsFilter, IsReadyFilter}
 use Rattle.cal_filter.specs.Replaced.{ConditionCatchesUp, DefinitionCatchesUp}
 use Rattle.cal_filter.specs.declared.filter.Filter.{Filter}
 use Rattle.cal_filter.proofs.ReadyLemmas.{filter_catches_up, filter_covered, written}

@@ -1,7 +1,7 @@
 use Rattle.std.proofs.Common.{subst, arith}
 use Rattle.cal_context.specs.Lists.{Interns}
 use Rattle.cal_write.proofs.BuiltInLemmas.{names-step}
-use Rattle.cal_write.proofs.built_in.built_in_nodes.Goals as goal
+use Rattle.cal_write.proofs.built_in.put_attributes.Goals as goal
 
 pub loop-attribute-preserved : goal.loop-attribute-preserved
 loop-attribute-preserved c =

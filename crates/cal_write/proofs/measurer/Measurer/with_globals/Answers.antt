@@ -1,6 +1,6 @@
 use Rattle.std.proofs.Common.{sym, ◌∙◌}
 use Rattle.cal_write.proofs.MeasureLemmas.{globals-measured}
-use Rattle.cal_write.proofs.measurer.Measurer.count_globals.Goals as goal
+use Rattle.cal_write.proofs.measurer.Measurer.with_globals.Goals as goal
 
 pub returns : goal.returns
 returns c =

@@ -1,7 +1,7 @@
 use Rattle.std.proofs.Common.{length}
 use Rattle.cal_script.specs.Rests.{bytes_in}
 use Rattle.cal_script.proofs.Runs.{IsRun}
-use Rattle.cal_script.proofs.reading.read_script.Given as goal
+use Rattle.cal_script.proofs.reading.read_lines.Given as goal
 
 -- the lines so far say what the reader has, and the others are those of the rest
 abbrev pub invariant-loop-text : goal.invariant-loop-text

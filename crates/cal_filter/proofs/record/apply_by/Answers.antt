@@ -8,19 +8,19 @@ use Rattle.cal_filter.specs.Ready.{IsFilter}
 use Rattle.cal_filter.proofs.FlatOnly.{flattened}
 use Rattle.cal_filter.proofs.Growing.{filter-Grows}
 use Rattle.cal_filter.proofs.ReadyLemmas.{weaker}
-use Rattle.cal_filter.proofs.record.apply.Goals as goal
+use Rattle.cal_filter.proofs.record.apply_by.Goals as goal
 
 pub returns : goal.returns
 returns c =
     let t = c.flat_snapshot.new.context in
     let rec = c.args.rec in
-    let filter = c.in_ok-filter.filter in
+    let filter = c.args.filter.now in
     let s = c.in_ok-snapshot.snapshot in
     weaker
     (λ (answer : Option Rec). (q : Query) → IsFilter t q filter → HasSmallNumbers rec
     → meaning t s ≡ flattened rec → answer ≡ kept q rec)
-    (λ answer. answer ≡ kept c.args.query.now rec) c.filtered.result
-    (λ answer h. h c.args.query.now
-    (filter-Grows c.in_ok-snapshot.ensures.grows c.args.query.now filter c.in_ok-filter.ensures.ready)
-    c.requires.small c.in_ok-snapshot.ensures.means)
+    (λ answer. (q : Query) → IsFilter c.args.context.now q filter → answer ≡ kept q rec)
+    c.filtered.result
+    (λ answer h q is. h q (filter-Grows c.in_ok-snapshot.ensures.grows q filter is)
+    c.requires c.in_ok-snapshot.ensures.means)
     c.filtered.ensures

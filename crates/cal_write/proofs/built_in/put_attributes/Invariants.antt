@@ -2,7 +2,7 @@ use Rattle.std.proofs.Common.{◌≡◌, ◌∷◌, ◌++◌, [], take, map}
 use Rattle.cal_write.specs.BuiltIn.{key_of_kind, key_of_built_in}
 use Rattle.cal_write.specs.Nodes.{first_kinds}
 use Rattle.cal_write.specs.declared.built_in.BuiltIn.TheVariants.{OfNames, OfKinds, OfProps}
-use Rattle.cal_write.proofs.built_in.built_in_nodes.Given as goal
+use Rattle.cal_write.proofs.built_in.put_attributes.Given as goal
 
 abbrev pub invariant-loop-attribute : goal.invariant-loop-attribute
 invariant-loop-attribute l =

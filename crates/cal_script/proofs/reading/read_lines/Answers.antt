@@ -1,7 +1,7 @@
 use Rattle.std.proofs.Common.{length, rules, ap}
 use Rattle.cal_script.specs.Rests.{bytes_in}
 use Rattle.cal_script.proofs.Runs.{run_on, run_falls, run_ends}
-use Rattle.cal_script.proofs.reading.read_script.Goals as goal
+use Rattle.cal_script.proofs.reading.read_lines.Goals as goal
 
 pub returns-in-Err-Bad-clause-fault : goal.returns-in-Err-Bad-clause-fault
 returns-in-Err-Bad-clause-fault c =
@@ -16,5 +16,4 @@ loop-text-preserved c =
 
 pub returns-clause-read : goal.returns-clause-read
 returns-clause-read c =
-    rw c.in_ok-into_script.ensures
-    (run_ends c.args.bytes.now c.loop-text.line c.loop-text.reader (bytes_in c.loop-text.rest) c.loop-text.invariant (ap length c.in_default.ensures.none))
+    run_ends c.args.bytes.now c.loop-text.line c.loop-text.reader (bytes_in c.loop-text.rest) c.loop-text.invariant (ap length c.in_default.ensures.none)
