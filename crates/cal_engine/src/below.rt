@@ -30,9 +30,23 @@ pub(crate) fn parts_below(
         (parts_where (is_below key) keys.now parts.now)) keys.now) }
 {
     let mut context = Context::new(alloc);
-    let nodes = ways_to(alloc, &mut context, keys)?;
-    let below = gathered_below(alloc, &context, &nodes, parts, none)?;
-    Ok(below)
+    parts_below_in(alloc, &mut context, keys, parts, none)
+}
+
+/// The same, by ways in a context that is empty.
+fn parts_below_in(
+    alloc: Global,
+    context: &mut Context,
+    keys: &[Rec],
+    parts: &[Seq<Part>],
+    none: &Seq<Part>,
+) -> Result<Vec<Seq<Part>>, OutOfMemory>
+    requires { length parts.now ≡ length keys.now }
+    ensures { IfOk result (λ below. below.items ≡ map (λ key. fold merged_by_place none.now
+        (parts_where (is_below key) keys.now parts.now)) keys.now) }
+{
+    let nodes = ways_to(alloc, context, keys)?;
+    gathered_below(alloc, context, &nodes, parts, none)
 }
 
 /// The same of groups whose keys lie in a tree. Where their nodes may stand for the ways to them,
@@ -70,9 +84,25 @@ fn parts_below_ways(
         (map (key_in tree.now) keys.now)) }
 {
     let mut context = Context::new(alloc);
-    let nodes = ways_to_keys(alloc, &mut context, tree, keys)?;
-    let below = gathered_below(alloc, &context, &nodes, parts, none)?;
-    Ok(below)
+    parts_below_ways_in(alloc, &mut context, tree, keys, parts, none)
+}
+
+/// The same, by ways in a context that is empty.
+fn parts_below_ways_in(
+    alloc: Global,
+    context: &mut Context,
+    tree: &Context,
+    keys: &[GroupKey],
+    parts: &[Seq<Part>],
+    none: &Seq<Part>,
+) -> Result<Vec<Seq<Part>>, OutOfMemory>
+    requires { length parts.now ≡ length keys.now }
+    ensures { IfOk result (λ below. below.items ≡ map (λ key. fold merged_by_place none.now
+        (parts_where (is_below key) (map (key_in tree.now) keys.now) parts.now))
+        (map (key_in tree.now) keys.now)) }
+{
+    let nodes = ways_to_keys(alloc, context, tree, keys)?;
+    gathered_below(alloc, context, &nodes, parts, none)
 }
 
 /// The parts of the groups below each group, by the nodes to which the ways to them lead.

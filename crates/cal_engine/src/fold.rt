@@ -3,7 +3,7 @@ ghost use Rattle.cal_ql.specs.Valid.{IsValidQuery};
 ghost use Rattle.cal_ql.specs.declared.query.Query.{Query as AQuery};
 ghost use Rattle.cal_value.specs.declared.record.Rec.{Rec as ARecord};
 ghost use Rattle.cal_engine.specs.Answers.{answer_of, answer_with};
-ghost use Rattle.cal_engine.specs.Folding.{StandsFor, IsFolded, folded};
+ghost use Rattle.cal_engine.specs.Folding.{StandsFor, IsFolded, folded, groups_over};
 ghost use Rattle.cal_engine.specs.Rows.{is_aggregated as is_aggregated_by, rows_of};
 
 use crate::columns::columns_of;
@@ -104,10 +104,7 @@ impl Fold {
             groups,
             rows,
         } = other;
-        let groups = Groups::merged(self.alloc, &self.groups, &groups)?;
-        append(self.alloc, &mut self.rows, rows)?;
-        self.groups = groups;
-        Ok(())
+        merge_held(self.alloc, &mut self.groups, &mut self.rows, &groups, rows)
     }
 
     /// The answer over the records that were added. It takes memory and time in what the fold
@@ -123,10 +120,42 @@ impl Fold {
             groups,
             rows,
         } = self;
-        let rows = made_rows(alloc, &query, &groups, rows)?;
-        let answer = finished(alloc, &query, rows)?;
-        Ok(answer)
+        answer_over(alloc, &query, &groups, rows)
     }
+}
+
+/// Adds the groups and the rows of another fold at the end.
+fn merge_held(
+    alloc: Global,
+    groups: &mut Groups,
+    rows: &mut Seq<Rec>,
+    others: &Groups,
+    more: Seq<Rec>,
+) -> Result<(), OutOfMemory>
+    ensures ok { OnOk result (((q : AQuery) (rs ss : List ARecord) → groups.old ≡ groups_over q rs
+        → others.now ≡ groups_over q ss → groups.new ≡ groups_over q (rs ++ ss))
+        × (rows.new ≡ rows.old ++ more)) }
+    ensures err { OnErr result ((groups.new ≡ groups.old) × (rows.new ≡ rows.old)) }
+{
+    let merged = Groups::merged(alloc, groups, others)?;
+    append(alloc, rows, more)?;
+    *groups = merged;
+    Ok(())
+}
+
+/// The answer over the groups and the rows of a fold.
+fn answer_over(
+    alloc: Global,
+    query: &Query,
+    groups: &Groups,
+    rows: Seq<Rec>,
+) -> Result<Rowset, OutOfMemory>
+    ensures { IfOk result (λ answer. (rs : List ARecord)
+        → IsFolded query.now groups.now rows rs
+        → answer ≡ answer_with query.now (rows_of query.now rs)) }
+{
+    let rows = made_rows(alloc, query, groups, rows)?;
+    finished(alloc, query, rows)
 }
 
 /// Adds rows at the end.

@@ -53,6 +53,22 @@ impl GroupedRows {
         ensures grows { Grows context.old context.new }
     {
         let results = result_attributes(alloc, context, query.aggs.as_slice())?;
+        GroupedRows::with_results(alloc, query, groups, results, context)
+    }
+
+    /// The same, where the attributes of results are known.
+    fn with_results(
+        alloc: Global,
+        query: &Query,
+        groups: NumberedGroups,
+        results: Vec<ResultAttributes>,
+        context: &Context,
+    ) -> Result<GroupedRows, OutOfMemory>
+        requires { AllZip (IsResultOf context.now) query.now.aggs results.items }
+        ensures { IfOk result (λ made. (rs : List ARecord)
+            → AreGroups context.now query.now rs groups → MakesRows context.now query.now.aggs made
+            (map (row_by query.now rs) (groups_of query.now.group rs))) }
+    {
         let others = OtherParts::of(alloc, query, context, &groups)?;
         Ok(GroupedRows {
             alloc,

@@ -40,13 +40,24 @@ impl Moved {
         ensures moved { IfOk result (IsMoved to.new) }
         ensures grows { Grows to.old to.new }
     {
-        let attributes = moved_attributes(alloc, &from, to)?;
-        let nodes = moved_nodes(alloc, &from, to, keys)?;
-        Ok(Moved {
+        let mut moved = Moved {
             from,
-            attributes,
-            nodes,
-        })
+            attributes: Vec::new(alloc),
+            nodes: Vec::new(alloc),
+        };
+        moved.put(alloc, keys, to)?;
+        Ok(moved)
+    }
+
+    /// Puts what is of keys into another context, where nothing was put yet.
+    fn put(&mut self, alloc: Global, keys: &[GroupKey], to: &mut Context) -> Result<(), OutOfMemory>
+        ensures from { self.new.from ≡ self.old.from }
+        ensures moved { OnOk result (IsMoved to.new self.new) }
+        ensures grows { Grows to.old to.new }
+    {
+        self.attributes = moved_attributes(alloc, &self.from, to)?;
+        self.nodes = moved_nodes(alloc, &self.from, to, keys)?;
+        Ok(())
     }
 
     /// The context from which they are.

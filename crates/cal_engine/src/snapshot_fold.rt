@@ -223,5 +223,8 @@ fn room(by_name: bool, context: Context, own: Context) -> Context
     ensures { (names : Option (List (List ℕ))) → by_name ≡ is_some names
         → result ≡ room_of names context own }
 {
-    if by_name { own } else { context }
+    if by_name {
+        return own;
+    }
+    context
 }

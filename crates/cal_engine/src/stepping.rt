@@ -1,6 +1,7 @@
-ghost use Rattle.std.specs.Prelude.{◌≡◌, [], ◌++◌, List, IfOk, IfSome, IsTrue, OnOk};
-ghost use Rattle.cal_context.specs.Snapshots.{IsBelowRoot};
+ghost use Rattle.std.specs.Prelude.{◌≡◌, [], ◌∷◌, ◌++◌, List, IfOk, IfSome, IsTrue, OnOk};
+ghost use Rattle.cal_context.specs.Snapshots.{IsBelowRoot, IsIn};
 ghost use Rattle.cal_context.specs.Tree.{Grows, path_at};
+ghost use Rattle.cal_context.specs.declared.numbers.NodeNumber.{NodeNumber as ANode};
 ghost use Rattle.cal_engine.specs.Totals.{IsStep, Leads};
 ghost use Rattle.cal_filter.specs.Results.{IsNumbered};
 ghost use Rattle.cal_value.specs.declared.attribute.Entry.{Entry as AnEntry};
@@ -159,7 +160,20 @@ fn path_below(alloc: Global, context: &Context, node: NodeNumber) -> Result<Seq<
 {
     let mut snapshot = Snapshot::new(alloc);
     snapshot.nodes.push(node)?;
-    let mut paths = expand(alloc, context, &snapshot)?.paths;
+    only_path(alloc, context, &snapshot)
+}
+
+/// The path of a snapshot's node, where it has one.
+fn only_path(
+    alloc: Global,
+    context: &Context,
+    snapshot: &Snapshot,
+) -> Result<Seq<Entry>, OutOfMemory>
+    requires { IsIn context.now snapshot.now }
+    ensures { IfOk result (λ path. (n : ANode) → snapshot.now.nodes.items ≡ n ∷ []
+        → path ≡ path_at context.now n) }
+{
+    let mut paths = expand(alloc, context, snapshot)?.paths;
     match paths.pop() {
         Some(path) => Ok(path),
         None => Ok(Seq::new(alloc)),

@@ -23,8 +23,7 @@ pub(crate) fn ways_to(
 {
     let mut nodes = Vec::with_capacity(alloc, keys.len())?;
     for key in keys {
-        let trail = trail(alloc, key)?;
-        let node = reach(context, &trail)?;
+        let node = way_to(alloc, context, key)?;
         nodes.push(node)?;
     }
     Ok(nodes)
@@ -43,12 +42,33 @@ pub(crate) fn ways_to_keys(
 {
     let mut nodes = Vec::with_capacity(alloc, keys.len())?;
     for key in keys {
-        let key = expanded(alloc, tree, key)?;
-        let trail = trail(alloc, &key)?;
-        let node = reach(context, &trail)?;
+        let node = way_to_key(alloc, context, tree, key)?;
         nodes.push(node)?;
     }
     Ok(nodes)
+}
+
+/// The node to which the way to a group leads whose key lies in a tree.
+fn way_to_key(
+    alloc: Global,
+    context: &mut Context,
+    tree: &Context,
+    key: &GroupKey,
+) -> Result<NodeNumber, OutOfMemory>
+    ensures leads { IfOk result (λ n. Leads context.new (trail_of (key_in tree.now key.now)) n) }
+    ensures grows { OnOk result (Grows context.old context.new) }
+{
+    let key = expanded(alloc, tree, key)?;
+    way_to(alloc, context, &key)
+}
+
+/// The node to which the way to a group leads.
+fn way_to(alloc: Global, context: &mut Context, key: &Rec) -> Result<NodeNumber, OutOfMemory>
+    ensures leads { IfOk result (λ n. Leads context.new (trail_of key.now) n) }
+    ensures grows { OnOk result (Grows context.old context.new) }
+{
+    let trail = trail(alloc, key)?;
+    reach(context, &trail)
 }
 
 /// The node that a path leads to.

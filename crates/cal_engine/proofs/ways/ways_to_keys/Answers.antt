@@ -1,15 +1,14 @@
-use Rattle.std.proofs.Common.{List, sym, subst, ap, take, map, ◌∙◌, ◌+◌}
+use Rattle.std.proofs.Common.{List, sym, subst, take, map, refl, ◌+◌}
 use Rattle.cal_context.specs.declared.numbers.NodeNumber.{NodeNumber}
 use Rattle.cal_engine.specs.Keys.{key_in}
 use Rattle.cal_engine.specs.Totals.{AreWays}
-use Rattle.cal_engine.specs.Trails.{trail}
 use Rattle.cal_engine.proofs.KeyWays.{ways-next}
 use Rattle.cal_engine.proofs.ways.ways_to_keys.Goals as goal
 
 pub loop-key-preserved : goal.loop-key-preserved
 loop-key-preserved c =
     let done = map (key_in c.args.tree.now) (take (c.loop-key.key-index + 1) c.args.keys.now) in
-    subst (λ (nodes : List NodeNumber). AreWays c.reach.new.context done nodes) (sym c.in_ok-push.ensures.items)
-    (ways-next c.args.tree.now c.loop-key.context c.reach.new.context c.args.keys.now c.loop-key.key-index c.key-item.result c.loop-key.nodes.items c.in_ok-node.node _
+    subst (λ (nodes : List NodeNumber). AreWays c.way_to_key.new.context done nodes) (sym c.in_ok-push.ensures.items)
+    (ways-next c.args.tree.now c.loop-key.context c.way_to_key.new.context c.args.keys.now c.loop-key.key-index c.key-item.result c.loop-key.nodes.items c.in_ok-node.node _
     c.in_ok-node.ensures.grows c.loop-key-test.true c.key-item.is c.loop-key.invariant
-    (c.deref.ensures.value ∙ c.in_ok-trail.ensures ∙ ap trail c.in_ok-key.ensures) c.in_ok-node.ensures.leads)
+    refl c.in_ok-node.ensures.leads)

@@ -1,0 +1,14 @@
+use Rattle.std.proofs.Common.{[], map, sym, subst}
+use Rattle.std.proofs.lemmas.Result.{IfOk-weaker}
+use Rattle.cal_engine.specs.Keys.{key_in}
+use Rattle.cal_engine.specs.Totals.{AreWaysBehind}
+use Rattle.cal_engine.proofs.Totalling.{ways_behind}
+use Rattle.cal_engine.proofs.below.parts_below_ways_in.Goals as goal
+
+pub returns : goal.returns
+returns c =
+    let t = c.ways_to_keys.new.context in
+    let keys = map (key_in c.args.tree.now) c.args.keys.now in
+    let ways = subst (AreWaysBehind t [] keys) (sym c.deref.ensures.value)
+    (ways_behind t keys c.in_ok-nodes.nodes.items c.in_ok-nodes.ensures) in
+    IfOk-weaker c.gathered_below.result _ _ (λ below h. h [] keys ways) c.gathered_below.ensures
