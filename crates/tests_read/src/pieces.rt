@@ -126,7 +126,9 @@ fn fronts() -> &'static [(usize, &'static str)] {
 fn wrong_front(alloc: Global) -> Result<Option<usize>, OutOfMemory> {
     let rows = fronts();
     for row in 0..rows.len() {
-        let front = b"__rec=ctx,ref=3\n__rec=ctx,ref=".get(..rows[row].0).unwrap_or(&[]);
+        let front = b"__rec=ctx,ref=3\n__rec=ctx,ref="
+            .get(..rows[row].0)
+            .unwrap_or(&[]);
         if !reads_as(alloc, front, rows[row].1)? {
             return Ok(Some(row));
         }
