@@ -7,7 +7,7 @@ use cal_context::{
 };
 use cal_value::{Attribute, Entry, Kind, OutOfMemory, Props, Rec, Seq, Text, Variant};
 use std::alloc::Global;
-use std::test::Fail;
+use std::process::Abort;
 
 // Functions on the way from the root down, and the node's number, in the order in which they are
 // interned.
@@ -64,55 +64,85 @@ fn node(alloc: Global, context: &mut Context, path: &[&str]) -> Result<NodeNumbe
     Ok(node)
 }
 
-/// A context with the nodes of the table.
-fn filled(alloc: Global) -> Result<Context, OutOfMemory> {
-    let mut context = Context::new(alloc);
-    for (path, _) in nodes() {
-        let _ = node(alloc, &mut context, path)?;
+/// The first row whose functions are another node than its number says.
+fn wrong_node(alloc: Global, context: &mut Context) -> Result<Option<usize>, OutOfMemory> {
+    let rows = nodes();
+    for row in 0..rows.len() {
+        if node(alloc, context, rows[row].0)?.0 != rows[row].1 {
+            return Ok(Some(row));
+        }
     }
-    Ok(context)
+    Ok(None)
+}
+
+/// No row of a table is wrong, and the memory was enough.
+fn all_hold(rt: &impl Abort, wrong: Result<Option<usize>, OutOfMemory>) {
+    assert_eq!(rt; wrong, Ok(None), "the first wrong row");
+}
+
+fn is_count(rt: &impl Abort, count: usize, wanted: usize) {
+    assert_eq!(rt; count, wanted);
 }
 
 #[test]
-fn equal_paths_are_one_node(rt: HostRuntime) -> Result<(), Fail> {
+fn equal_paths_are_one_node(rt: HostRuntime) {
     let mut context = Context::new(rt.alloc());
-    for (path, number) in nodes() {
-        let node = node(rt.alloc(), &mut context, path)?;
-        assert_eq!(rt; node, NodeNumber(*number), "{path:?}");
+    all_hold(&rt, wrong_node(rt.alloc(), &mut context));
+    is_count(&rt, context.node_count(), 6);
+    is_count(&rt, context.attribute_count(), 1);
+    is_count(&rt, context.value_count(), 2);
+    drop(context);
+}
+
+/// Whether a node hangs from its parent by its function.
+fn hangs(context: &Context, node: u32, parent: u32, name: &str) -> bool {
+    let Some(link) = link(context, NodeNumber(node)) else {
+        return false;
+    };
+    let Some(Variant::Text(text)) = value(context, link.value) else {
+        return false;
+    };
+    link.parent == NodeNumber(parent) && text.as_str() == name
+}
+
+fn wrong_link(context: &Context) -> Option<usize> {
+    let rows = links();
+    for row in 0..rows.len() {
+        if !hangs(context, rows[row].0, rows[row].1, rows[row].2) {
+            return Some(row);
+        }
     }
-    assert_eq!(rt; context.node_count(), 6);
-    assert_eq!(rt; context.attribute_count(), 1);
-    assert_eq!(rt; context.value_count(), 2);
-    Ok(())
+    None
 }
 
 #[test]
-fn nodes_hang_by_links(rt: HostRuntime) -> Result<(), Fail> {
-    let context = filled(rt.alloc())?;
-    for (node, parent, name) in links() {
-        let Some(link) = link(&context, NodeNumber(*node)) else {
-            return Err("no link".into());
-        };
-        assert_eq!(rt; link.parent, NodeNumber(*parent), "of node {node}");
-        assert_eq!(rt;
-            value(&context, link.value),
-            Some(&text(rt.alloc(), name)?),
-            "of {node}"
-        );
-    }
+fn nodes_hang_by_links(rt: HostRuntime) {
+    let mut context = Context::new(rt.alloc());
+    all_hold(&rt, wrong_node(rt.alloc(), &mut context));
+    all_hold(&rt, Ok(wrong_link(&context)));
     assert!(rt; link(&context, NodeNumber::ROOT).is_none());
-    Ok(())
+    drop(context);
+}
+
+/// The first row whose node isn't found by its own link.
+fn wrong_find(context: &mut Context) -> Result<Option<usize>, OutOfMemory> {
+    let rows = links();
+    for row in 0..rows.len() {
+        let node = NodeNumber(rows[row].0);
+        if found(context, node)? != Some(node) {
+            return Ok(Some(row));
+        }
+    }
+    Ok(None)
 }
 
 #[test]
-fn a_link_finds_its_node(rt: HostRuntime) -> Result<(), Fail> {
-    let mut context = filled(rt.alloc())?;
-    for (node, _, _) in links() {
-        let node = NodeNumber(*node);
-        assert_eq!(rt; found(&mut context, node)?, Some(node));
-    }
-    assert_eq!(rt; context.node_count(), 6);
-    Ok(())
+fn a_link_finds_its_node(rt: HostRuntime) {
+    let mut context = Context::new(rt.alloc());
+    all_hold(&rt, wrong_node(rt.alloc(), &mut context));
+    all_hold(&rt, wrong_find(&mut context));
+    is_count(&rt, context.node_count(), 6);
+    drop(context);
 }
 
 /// The link of a node, if there is such a node.
@@ -154,45 +184,125 @@ fn records() -> &'static [(&'static [u32], i128, &'static [&'static [&'static st
     &RECORDS
 }
 
+/// Whether the snapshot of a row means the row's record.
+fn means(
+    alloc: Global,
+    context: &mut Context,
+    snapshot: &mut Snapshot,
+    row: usize,
+) -> Result<bool, OutOfMemory> {
+    let Some((nodes, number, paths)) = records().get(row) else {
+        return Ok(false);
+    };
+    fill(alloc, context, snapshot, nodes, *number)?;
+    let expected = record(alloc, paths, *number)?;
+    Ok(expand(alloc, context, snapshot)? == expected)
+}
+
+/// The first row whose snapshot doesn't mean its record.
+fn wrong_record(
+    alloc: Global,
+    context: &mut Context,
+    snapshot: &mut Snapshot,
+) -> Result<Option<usize>, OutOfMemory> {
+    for row in 0..records().len() {
+        if !means(alloc, context, snapshot, row)? {
+            return Ok(Some(row));
+        }
+    }
+    Ok(None)
+}
+
 #[test]
-fn a_snapshot_means_its_record(rt: HostRuntime) -> Result<(), Fail> {
-    let mut context = filled(rt.alloc())?;
+fn a_snapshot_means_its_record(rt: HostRuntime) {
+    let mut context = Context::new(rt.alloc());
+    all_hold(&rt, wrong_node(rt.alloc(), &mut context));
     let mut snapshot = Snapshot::new(rt.alloc());
-    for (nodes, number, paths) in records() {
-        fill(rt.alloc(), &mut context, &mut snapshot, nodes, *number)?;
-        let expected = record(rt.alloc(), paths, *number)?;
-        assert_eq!(rt; expand(rt.alloc(), &context, &snapshot)?, expected);
+    all_hold(&rt, wrong_record(rt.alloc(), &mut context, &mut snapshot));
+    drop(snapshot);
+    drop(context);
+}
+
+/// Passes the snapshot of each row to a taker.
+fn pass_all(
+    alloc: Global,
+    context: &mut Context,
+    snapshot: &mut Snapshot,
+    taken: &mut Taken,
+) -> Result<(), OutOfMemory> {
+    for (nodes, number, _) in records() {
+        fill(alloc, context, snapshot, nodes, *number)?;
+        pass(context, snapshot, taken)?;
     }
     Ok(())
 }
 
+/// The records of the table.
+fn wanted(alloc: Global) -> Result<Seq<Rec>, OutOfMemory> {
+    let mut all = Seq::new(alloc);
+    for (_, number, paths) in records() {
+        all.push(record(alloc, paths, *number)?)?;
+    }
+    Ok(all)
+}
+
+/// Whether what was taken is the records of the table.
+fn is_wanted(alloc: Global, taken: Taken) -> Result<bool, OutOfMemory> {
+    let rows = taken.into_rows();
+    Ok(rows == wanted(alloc)?)
+}
+
 #[test]
-fn plain_records_take_each_snapshot(rt: HostRuntime) -> Result<(), Fail> {
-    let mut context = filled(rt.alloc())?;
+fn plain_records_take_each_snapshot(rt: HostRuntime) {
+    let mut context = Context::new(rt.alloc());
+    all_hold(&rt, wrong_node(rt.alloc(), &mut context));
     let mut snapshot = Snapshot::new(rt.alloc());
     let mut taken = Taken::new(rt.alloc());
-    let mut expected = Seq::new(rt.alloc());
-    for (nodes, number, paths) in records() {
-        fill(rt.alloc(), &mut context, &mut snapshot, nodes, *number)?;
-        pass(&context, &snapshot, &mut taken)?;
-        expected.push(record(rt.alloc(), paths, *number)?)?;
+    let passed = pass_all(rt.alloc(), &mut context, &mut snapshot, &mut taken);
+    drop(snapshot);
+    drop(context);
+    assert!(rt; passed.is_ok());
+    assert_eq!(rt; is_wanted(rt.alloc(), taken), Ok(true));
+}
+
+const WORDS: [(&str, u32); 5] = [("b", 0), ("a", 1), ("b", 0), ("c", 2), ("a", 1)];
+
+fn words() -> &'static [(&'static str, u32)] {
+    &WORDS
+}
+
+/// Whether a word has this number, lent and given.
+fn has_number(
+    alloc: Global,
+    words: &mut Interner<Text>,
+    word: &str,
+    number: u32,
+) -> Result<bool, OutOfMemory> {
+    let word = Text::from_str(alloc, word)?;
+    let lent = words.intern_copy(&word)?;
+    let given = words.intern(word)?;
+    Ok(lent == number && given == number)
+}
+
+/// The first row whose word has another number.
+fn wrong_word(alloc: Global, interner: &mut Interner<Text>) -> Result<Option<usize>, OutOfMemory> {
+    let rows = words();
+    for row in 0..rows.len() {
+        if !has_number(alloc, interner, rows[row].0, rows[row].1)? {
+            return Ok(Some(row));
+        }
     }
-    assert_eq!(rt; taken.into_rows(), expected);
-    Ok(())
+    Ok(None)
 }
 
 #[test]
-fn an_interner_numbers_each_item_once(rt: HostRuntime) -> Result<(), Fail> {
+fn an_interner_numbers_each_item_once(rt: HostRuntime) {
     let mut words = Interner::new(rt.alloc());
-    for (word, number) in [("b", 0), ("a", 1), ("b", 0), ("c", 2), ("a", 1)] {
-        let word = Text::from_str(rt.alloc(), word)?;
-        assert_eq!(rt; words.intern_copy(&word)?, number, "{word:?} lent");
-        assert_eq!(rt; words.intern(word)?, number);
-    }
+    all_hold(&rt, wrong_word(rt.alloc(), &mut words));
     words.truncate(1);
-    assert_eq!(rt; words.intern(Text::from_str(rt.alloc(), "c")?)?, 1);
-    assert_eq!(rt; words.as_slice().len(), 2);
-    Ok(())
+    assert_eq!(rt; has_number(rt.alloc(), &mut words, "c", 1), Ok(true));
+    is_count(&rt, words.as_slice().len(), 2);
+    drop(words);
 }
 
 #[test]

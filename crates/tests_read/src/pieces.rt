@@ -1,12 +1,11 @@
 ghost use Rattle.cal_read.specs.Owned.{IsOwnedReady};
 ghost use Rattle.cal_read.specs.Reading.{IsReady};
 
-use crate::shown::{read, show_end, show_record};
+use crate::shown::{all_hold, is_true, reads_as, show_all, show_end};
 use cal_context::{Context, Taken};
 use cal_read::{Reader, StreamEnd, StreamKind, StreamReader, one_reading, readings_stay};
-use cal_value::{Rec, Seq, Text};
+use cal_value::{OutOfMemory, Rec, Seq, Text};
 use std::alloc::Global;
-use std::test::Fail;
 
 // a node for a unit, a blank line and globals
 const STREAM: &str = "__rec=node,id=12,attr=10,data=276,parent=3\n\
@@ -25,7 +24,9 @@ const RECORDS: &str = "function=main,|time.duration=0.25,;function=main,|;";
 /// Reads a stream in these pieces.
 fn in_pieces(alloc: Global, pieces: &[&[u8]], rows: &mut Seq<Rec>) -> Result<Rec, StreamEnd> {
     let mut reader = Reader::new(alloc)?;
-    feed_all(&mut reader, pieces, rows)
+    let read = feed_all(&mut reader, pieces, rows);
+    drop(reader);
+    read
 }
 
 fn feed_all(reader: &mut Reader, pieces: &[&[u8]], rows: &mut Seq<Rec>) -> Result<Rec, StreamEnd>
@@ -40,7 +41,9 @@ fn feed_all(reader: &mut Reader, pieces: &[&[u8]], rows: &mut Seq<Rec>) -> Resul
 /// Reads a stream byte by byte.
 fn in_bytes(alloc: Global, bytes: &[u8], rows: &mut Seq<Rec>) -> Result<Rec, StreamEnd> {
     let mut reader = Reader::new(alloc)?;
-    feed_bytes(&mut reader, bytes, rows)
+    let read = feed_bytes(&mut reader, bytes, rows);
+    drop(reader);
+    read
 }
 
 fn feed_bytes(reader: &mut Reader, bytes: &[u8], rows: &mut Seq<Rec>) -> Result<Rec, StreamEnd>
@@ -52,71 +55,90 @@ fn feed_bytes(reader: &mut Reader, bytes: &[u8], rows: &mut Seq<Rec>) -> Result<
     reader.finish(rows)
 }
 
-/// The records, the globals last, or the fault.
-fn show(alloc: Global, rows: &Seq<Rec>, read: Result<Rec, StreamEnd>) -> Result<Text, Fail> {
-    match read {
-        Ok(globals) => {
-            let mut out = Text::new(alloc);
-            for row in rows.as_slice() {
-                show_record(&mut out, row)?;
-            }
-            show_record(&mut out, &globals)?;
-            Ok(out)
-        }
-        Err(end) => show_end(alloc, end),
-    }
+/// Whether the records, the globals last, or the fault are the stream's.
+fn is_shown(
+    alloc: Global,
+    rows: &[Rec],
+    read: Result<Rec, StreamEnd>,
+) -> Result<bool, OutOfMemory> {
+    let mut out = Text::new(alloc);
+    let shown = match read {
+        Ok(globals) => show_all(&mut out, rows, &globals),
+        Err(end) => show_end(alloc, &mut out, end),
+    };
+    shown?;
+    Ok(out.as_str() == RECORDS)
 }
 
-fn in_two(alloc: Global, one: &[u8], two: &[u8]) -> Result<Text, Fail> {
+fn is_read_in_two(alloc: Global, one: &[u8], two: &[u8]) -> Result<bool, OutOfMemory> {
     let mut rows = Seq::new(alloc);
     let read = in_pieces(alloc, &[one, two], &mut rows);
-    show(alloc, &rows, read)
+    is_shown(alloc, rows.as_slice(), read)
 }
 
-#[test]
-fn a_stream_in_one_piece(rt: HostRuntime) -> Result<(), Fail> {
-    let read = read(rt.alloc(), STREAM.as_bytes())?;
-    assert_eq!(rt; read.as_str(), RECORDS);
-    Ok(())
+fn is_read_in_bytes(alloc: Global) -> Result<bool, OutOfMemory> {
+    let mut rows = Seq::new(alloc);
+    let read = in_bytes(alloc, STREAM.as_bytes(), &mut rows);
+    is_shown(alloc, rows.as_slice(), read)
 }
 
-#[test]
-fn a_stream_in_two_pieces_at_each_place(rt: HostRuntime) -> Result<(), Fail> {
+/// The first place where the stream can't be cut in two.
+fn wrong_cut(alloc: Global) -> Result<Option<usize>, OutOfMemory> {
     let bytes = STREAM.as_bytes();
     for place in 0..bytes.len() {
-        let read = in_two(rt.alloc(), &bytes[..place], &bytes[place..])?;
-        assert_eq!(rt; read.as_str(), RECORDS, "cut at {place}");
+        if !is_read_in_two(alloc, &bytes[..place], &bytes[place..])? {
+            return Ok(Some(place));
+        }
     }
-    Ok(())
+    Ok(None)
 }
 
 #[test]
-fn a_stream_in_single_bytes(rt: HostRuntime) -> Result<(), Fail> {
-    let mut rows = Seq::new(rt.alloc());
-    let read = in_bytes(rt.alloc(), STREAM.as_bytes(), &mut rows);
-    let shown = show(rt.alloc(), &rows, read)?;
-    assert_eq!(rt; shown.as_str(), RECORDS);
-    Ok(())
+fn a_stream_in_one_piece(rt: HostRuntime) {
+    is_true(&rt, reads_as(rt.alloc(), STREAM.as_bytes(), RECORDS));
 }
 
 #[test]
-fn a_front_has_its_records_or_its_fault(rt: HostRuntime) -> Result<(), Fail> {
-    let row = "__rec=ctx,ref=3\n__rec=ctx,ref=";
-    let rows = [
-        (16, "cali.attribute.type=string,|;;"),
-        (15, "cali.attribute.type=string,|;;"),
-        (14, "line 1: BadNumber"),
-        (5, "line 1: BadField"),
-        (0, ";"),
-        (20, "line 2: BadField"),
-        (30, "line 2: BadNumber"),
-    ];
-    for (place, wanted) in rows {
-        let front = row.as_bytes().get(..place).ok_or("cut")?;
-        let read = read(rt.alloc(), front)?;
-        assert_eq!(rt; read.as_str(), wanted, "cut at {place}");
+fn a_stream_in_two_pieces_at_each_place(rt: HostRuntime) {
+    all_hold(&rt, wrong_cut(rt.alloc()));
+}
+
+#[test]
+fn a_stream_in_single_bytes(rt: HostRuntime) {
+    is_true(&rt, is_read_in_bytes(rt.alloc()));
+}
+
+/// The places of a cut, and what is read up to it.
+const FRONTS: [(usize, &str); 7] = [
+    (16, "cali.attribute.type=string,|;;"),
+    (15, "cali.attribute.type=string,|;;"),
+    (14, "line 1: BadNumber"),
+    (5, "line 1: BadField"),
+    (0, ";"),
+    (20, "line 2: BadField"),
+    (30, "line 2: BadNumber"),
+];
+
+fn fronts() -> &'static [(usize, &'static str)] {
+    &FRONTS
+}
+
+fn wrong_front(alloc: Global) -> Result<Option<usize>, OutOfMemory> {
+    let rows = fronts();
+    for row in 0..rows.len() {
+        let front = b"__rec=ctx,ref=3\n__rec=ctx,ref="
+            .get(..rows[row].0)
+            .unwrap_or(&[]);
+        if !reads_as(alloc, front, rows[row].1)? {
+            return Ok(Some(row));
+        }
     }
-    Ok(())
+    Ok(None)
+}
+
+#[test]
+fn a_front_has_its_records_or_its_fault(rt: HostRuntime) {
+    all_hold(&rt, wrong_front(rt.alloc()));
 }
 
 const REFUSED: StreamEnd = StreamEnd::BadLine {
@@ -134,19 +156,25 @@ fn refuses(reader: &mut Reader, rows: &mut Seq<Rec>) -> bool
         && matches!(reader.finish(rows), Err(end) if end == REFUSED)
 }
 
+fn is_refused(alloc: Global) -> Result<bool, OutOfMemory> {
+    let mut rows = Seq::new(alloc);
+    let mut reader = Reader::new(alloc)?;
+    let refused = refuses(&mut reader, &mut rows);
+    drop(reader);
+    Ok(refused && rows.is_empty())
+}
+
 #[test]
-fn a_refusal_is_answered_again(rt: HostRuntime) -> Result<(), Fail> {
-    let mut rows = Seq::new(rt.alloc());
-    let mut reader = Reader::new(rt.alloc())?;
-    assert!(rt; refuses(&mut reader, &mut rows));
-    assert_eq!(rt; rows.len(), 0);
-    Ok(())
+fn a_refusal_is_answered_again(rt: HostRuntime) {
+    is_true(&rt, is_refused(rt.alloc()));
 }
 
 /// The numbers of nodes of the globals.
 fn by_number(alloc: Global, context: &mut Context, taken: &mut Taken) -> Result<usize, StreamEnd> {
     let mut reader = StreamReader::new(alloc, context)?;
-    feed_by_number(&mut reader, context, taken)
+    let read = feed_by_number(&mut reader, context, taken);
+    drop(reader);
+    read
 }
 
 fn feed_by_number(
@@ -162,13 +190,13 @@ fn feed_by_number(
 }
 
 #[test]
-fn a_taker_takes_the_rows_by_number(rt: HostRuntime) -> Result<(), Fail> {
+fn a_taker_takes_the_rows_by_number(rt: HostRuntime) {
     let mut taken = Taken::new(rt.alloc());
     let mut context = Context::new(rt.alloc());
     let globals = by_number(rt.alloc(), &mut context, &mut taken);
-    assert_eq!(rt; globals, Ok(1));
-    assert_eq!(rt; taken.into_rows().len(), 1);
+    drop(context);
+    assert!(rt; globals == Ok(1));
+    assert!(rt; taken.into_rows().len() == 1);
     one_reading();
     readings_stay();
-    Ok(())
 }

@@ -1,7 +1,7 @@
 use cal_read::{StreamEnd, read_records};
 use cal_value::{Entry, OutOfMemory, Rec, Text, print_value};
 use std::alloc::Global;
-use std::test::Fail;
+use std::process::Abort;
 
 /// `name=value` of each entry, with a comma behind it.
 fn show_entries(out: &mut Text, entries: &[Entry]) -> Result<(), OutOfMemory> {
@@ -25,28 +25,57 @@ pub(crate) fn show_record(out: &mut Text, record: &Rec) -> Result<(), OutOfMemor
     Ok(())
 }
 
-/// The number of the line and the kind.
-pub(crate) fn show_end(alloc: Global, end: StreamEnd) -> Result<Text, Fail> {
-    match end {
-        StreamEnd::BadLine { line, kind } => {
-            let text = format!(in alloc; "line {line}: {kind}")?;
-            Ok(Text::from_string(text))
-        }
-        StreamEnd::OutOfMemory => Err(OutOfMemory.into()),
+/// The rows, and then the globals.
+pub(crate) fn show_all(out: &mut Text, rows: &[Rec], globals: &Rec) -> Result<(), OutOfMemory> {
+    for row in rows {
+        show_record(out, row)?;
     }
+    show_record(out, globals)
+}
+
+/// The number of the line and the kind.
+pub(crate) fn show_end(alloc: Global, out: &mut Text, end: StreamEnd) -> Result<(), OutOfMemory> {
+    let StreamEnd::BadLine { line, kind } = end else {
+        return Err(OutOfMemory);
+    };
+    let text = format!(in alloc; "line {line}: {kind}")?;
+    out.push_str(text.as_str())
 }
 
 /// The records of a stream, the globals last, or its fault.
-pub(crate) fn read(alloc: Global, stream: &[u8]) -> Result<Text, Fail> {
+pub(crate) fn show(alloc: Global, out: &mut Text, stream: &[u8]) -> Result<(), OutOfMemory> {
     match read_records(alloc, stream) {
-        Ok(records) => {
-            let mut out = Text::new(alloc);
-            for row in records.rows.as_slice() {
-                show_record(&mut out, row)?;
-            }
-            show_record(&mut out, &records.globals)?;
-            Ok(out)
-        }
-        Err(end) => show_end(alloc, end),
+        Ok(records) => show_all(out, records.rows.as_slice(), &records.globals),
+        Err(end) => show_end(alloc, out, end),
     }
+}
+
+/// Whether a stream has these records, or this fault.
+pub(crate) fn reads_as(alloc: Global, stream: &[u8], wanted: &str) -> Result<bool, OutOfMemory> {
+    let mut out = Text::new(alloc);
+    show(alloc, &mut out, stream)?;
+    Ok(out.as_str() == wanted)
+}
+
+/// The first row of a table whose stream has other records.
+pub(crate) fn wrong_row(
+    alloc: Global,
+    rows: &[(&str, &str)],
+) -> Result<Option<usize>, OutOfMemory> {
+    for row in 0..rows.len() {
+        if !reads_as(alloc, rows[row].0.as_bytes(), rows[row].1)? {
+            return Ok(Some(row));
+        }
+    }
+    Ok(None)
+}
+
+/// No row of a table is wrong, and the memory was enough.
+pub(crate) fn all_hold(rt: &impl Abort, wrong: Result<Option<usize>, OutOfMemory>) {
+    assert_eq!(rt; wrong, Ok(None), "the first wrong row");
+}
+
+/// The answer is yes, and the memory was enough.
+pub(crate) fn is_true(rt: &impl Abort, answer: Result<bool, OutOfMemory>) {
+    assert_eq!(rt; answer, Ok(true));
 }

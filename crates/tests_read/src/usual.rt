@@ -1,5 +1,6 @@
-use crate::shown::read;
-use std::test::Fail;
+use crate::shown::{all_hold, reads_as};
+use cal_value::OutOfMemory;
+use std::alloc::Global;
 
 const HEAD: &str = "\
 __rec=node,id=12,attr=10,data=65,parent=1
@@ -66,14 +67,28 @@ const LINES: [(&str, &str, &str); 12] = [
     ),
 ];
 
-#[test]
-fn usual_lines_say_what_others_say(rt: HostRuntime) -> Result<(), Fail> {
-    for (usual, other, wanted) in LINES {
-        for line in [usual, other] {
-            let text = format!(in rt.alloc(); "{HEAD}__rec={line}\n")?;
-            let shown = read(rt.alloc(), text.as_bytes())?;
-            assert_eq!(rt; shown.as_str(), wanted, "{line}");
+fn lines() -> &'static [(&'static str, &'static str, &'static str)] {
+    &LINES
+}
+
+/// Whether a line says so behind the lines of the head.
+fn says(alloc: Global, line: &str, wanted: &str) -> Result<bool, OutOfMemory> {
+    let text = format!(in alloc; "{HEAD}__rec={line}\n")?;
+    reads_as(alloc, text.as_bytes(), wanted)
+}
+
+fn wrong_line(alloc: Global) -> Result<Option<usize>, OutOfMemory> {
+    let rows = lines();
+    for row in 0..rows.len() {
+        let (usual, other, wanted) = rows[row];
+        if !says(alloc, usual, wanted)? || !says(alloc, other, wanted)? {
+            return Ok(Some(row));
         }
     }
-    Ok(())
+    Ok(None)
+}
+
+#[test]
+fn usual_lines_say_what_others_say(rt: HostRuntime) {
+    all_hold(&rt, wrong_line(rt.alloc()));
 }

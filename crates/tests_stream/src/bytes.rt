@@ -1,34 +1,53 @@
+use crate::table::all_hold;
 use cal_base::{Failed, MemSink, MemSource, ReadEnd, Sink, Source, StdSink, StdSource, read_all};
 use cal_value::{OutOfMemory, Seq};
-use std::alloc::Global;
+use std::alloc::{AllocError, Global};
 use std::cell::Cell;
 use std::io;
 use std::io::{ErrorKind, Read, Write};
-use std::test::Fail;
+
+fn source(alloc: Global, bytes: &[u8], failing: u64) -> Result<MemSource, AllocError> {
+    let bytes = Seq::from_vec(bytes.to_vec(alloc)?);
+    let failing = Seq::from_vec([failing].to_vec(alloc)?);
+    Ok(MemSource::new(bytes, failing))
+}
 
 /// Reads a source of these bytes, of which one call fails, up to four bytes. It says whether all came.
 fn read_four(alloc: Global, bytes: &[u8], failing: u64) -> Result<bool, ReadEnd> {
-    let failing = Seq::from_vec([failing].to_vec(alloc)?);
-    let mut input = MemSource::new(Seq::from_vec(bytes.to_vec(alloc)?), failing);
+    let mut input = source(alloc, bytes, failing)?;
     let read = read_all(alloc, &mut input, 4)?;
     Ok(read.as_slice() == bytes)
 }
 
+/// Bytes, the call that fails, and what comes of it. The first read gives the bytes, the second
+/// meets the end, and there is no call 9.
+const READS: [(&str, u64, Result<bool, ReadEnd>); 6] = [
+    ("", 9, Ok(true)),
+    ("abcd", 9, Ok(true)),
+    ("abcde", 9, Err(ReadEnd::TooLong)),
+    ("abcd", 1, Err(ReadEnd::ReadFault)),
+    ("abcd", 2, Err(ReadEnd::ReadFault)),
+    ("abcd", 3, Ok(true)),
+];
+
+fn reads() -> &'static [(&'static str, u64, Result<bool, ReadEnd>)] {
+    &READS
+}
+
+fn wrong_read(alloc: Global) -> Option<usize> {
+    let rows = reads();
+    for row in 0..rows.len() {
+        let (bytes, failing, wanted) = rows[row];
+        if read_four(alloc, bytes.as_bytes(), failing) != wanted {
+            return Some(row);
+        }
+    }
+    None
+}
+
 #[test]
 fn reads_to_the_limit(rt: HostRuntime) {
-    // The first read gives the bytes, the second meets the end, and there is no call 9.
-    let rows = [
-        ("", 9, Ok(true)),
-        ("abcd", 9, Ok(true)),
-        ("abcde", 9, Err(ReadEnd::TooLong)),
-        ("abcd", 1, Err(ReadEnd::ReadFault)),
-        ("abcd", 2, Err(ReadEnd::ReadFault)),
-        ("abcd", 3, Ok(true)),
-    ];
-    for (bytes, failing, wanted) in rows {
-        let read = read_four(rt.alloc(), bytes.as_bytes(), failing);
-        assert_eq!(rt; read, wanted, "{bytes} with call {failing} failing");
-    }
+    all_hold(&rt, Ok(wrong_read(rt.alloc())));
 }
 
 /// Puts `abc` and `de` into a sink of so much room, of which one call fails, up to the first fault. It
@@ -41,34 +60,48 @@ fn put_two(alloc: Global, room: u64, failing: u64) -> Result<Option<usize>, OutO
     Ok(b"abcde".starts_with(held).then_some(held.len()))
 }
 
-#[test]
-fn sinks_take_what_fits(rt: HostRuntime) -> Result<(), OutOfMemory> {
-    // There is no call 9.
-    let rows = [
-        (0, 9, 0),
-        (1, 9, 1),
-        (2, 9, 2),
-        (3, 9, 3),
-        (4, 9, 4),
-        (5, 9, 5),
-        (6, 9, 5),
-        (6, 1, 0),
-        (6, 2, 3),
-        (6, 3, 5),
-    ];
-    for (room, failing, wanted) in rows {
-        let held = put_two(rt.alloc(), room, failing)?;
-        assert_eq!(rt; held, Some(wanted), "room {room}, call {failing} failing");
+/// The room, the call that fails, and how many bytes the sink holds. There is no call 9.
+const ROOMS: [(u64, u64, usize); 10] = [
+    (0, 9, 0),
+    (1, 9, 1),
+    (2, 9, 2),
+    (3, 9, 3),
+    (4, 9, 4),
+    (5, 9, 5),
+    (6, 9, 5),
+    (6, 1, 0),
+    (6, 2, 3),
+    (6, 3, 5),
+];
+
+fn rooms() -> &'static [(u64, u64, usize)] {
+    &ROOMS
+}
+
+fn wrong_room(alloc: Global) -> Result<Option<usize>, OutOfMemory> {
+    let rows = rooms();
+    for row in 0..rows.len() {
+        if put_two(alloc, rows[row].0, rows[row].1)? != Some(rows[row].2) {
+            return Ok(Some(row));
+        }
     }
-    Ok(())
+    Ok(None)
 }
 
 #[test]
-fn reads_a_reader_of_std_to_its_end(rt: HostRuntime) -> Result<(), Fail> {
-    let mut input = StdSource::new(b"all of it".as_slice());
-    let read = read_all(rt.alloc(), &mut input, 100)?;
-    assert_eq!(rt; read.as_slice(), b"all of it".as_slice());
-    Ok(())
+fn sinks_take_what_fits(rt: HostRuntime) {
+    all_hold(&rt, wrong_room(rt.alloc()));
+}
+
+fn is_read_whole(alloc: Global, bytes: &[u8]) -> Result<bool, ReadEnd> {
+    let mut input = StdSource::new(bytes);
+    let read = read_all(alloc, &mut input, 100)?;
+    Ok(read.as_slice() == bytes)
+}
+
+#[test]
+fn reads_a_reader_of_std_to_its_end(rt: HostRuntime) {
+    assert!(rt; is_read_whole(rt.alloc(), b"all of it") == Ok(true));
 }
 
 /// Fails once with this error, and then gives a byte.
@@ -88,20 +121,20 @@ impl Read for FailsOnce {
     }
 }
 
+/// What a reader gives that first fails with this error.
+fn read_after(kind: ErrorKind) -> Result<usize, Failed> {
+    let mut input = StdSource::new(FailsOnce(Some(kind)));
+    input.read(&mut [0u8; 4])
+}
+
 #[test]
 fn only_an_interrupted_read_is_tried_again(rt: HostRuntime) {
-    let rows = [
-        (ErrorKind::Interrupted, Ok(1)),
-        (ErrorKind::BrokenPipe, Err(Failed)),
-        (ErrorKind::WouldBlock, Err(Failed)),
-        (ErrorKind::TimedOut, Err(Failed)),
-        (ErrorKind::UnexpectedEof, Err(Failed)),
-        (ErrorKind::Other, Err(Failed)),
-    ];
-    for (kind, wanted) in rows {
-        let mut input = StdSource::new(FailsOnce(Some(kind)));
-        assert_eq!(rt; input.read(&mut [0u8; 4]), wanted, "{kind:?}");
-    }
+    assert!(rt; read_after(ErrorKind::Interrupted) == Ok(1));
+    assert!(rt; read_after(ErrorKind::BrokenPipe) == Err(Failed));
+    assert!(rt; read_after(ErrorKind::WouldBlock) == Err(Failed));
+    assert!(rt; read_after(ErrorKind::TimedOut) == Err(Failed));
+    assert!(rt; read_after(ErrorKind::UnexpectedEof) == Err(Failed));
+    assert!(rt; read_after(ErrorKind::Other) == Err(Failed));
 }
 
 /// Takes a byte at a time, up to its room.
@@ -129,11 +162,10 @@ impl Write for Slow<'_> {
 fn writes_all_of_a_piece_through_std(rt: HostRuntime) {
     let room = Cell::new(5);
     let mut output = StdSink::new(Slow { room: &room });
-    assert_eq!(rt; output.put(b"abc"), Ok(()));
-    assert_eq!(rt; room.get(), 2);
-    assert_eq!(rt; output.put(b"de"), Ok(()));
-    assert_eq!(rt; output.put(b""), Ok(()));
-    assert_eq!(rt; output.put(b"f"), Err(Failed));
+    assert!(rt; output.put(b"abc").is_ok());
+    assert!(rt; room.get() == 2);
+    assert!(rt; output.put(b"de").is_ok() && output.put(b"").is_ok());
+    assert!(rt; output.put(b"f") == Err(Failed));
 }
 
 /// Fails one write with an error, and each flush if it is stuck, and takes everything else.
@@ -159,17 +191,17 @@ impl Write for Wayward {
     }
 }
 
+/// What comes of a write through such a writer.
+fn put_through(write: Option<ErrorKind>, stuck: bool) -> Result<(), Failed> {
+    let mut output = StdSink::new(Wayward { write, stuck });
+    output.put(b"abc")
+}
+
 #[test]
 fn a_failed_write_or_flush_is_a_fault(rt: HostRuntime) {
-    let rows = [
-        (None, false, Ok(())),
-        (None, true, Err(Failed)),
-        (Some(ErrorKind::Interrupted), false, Ok(())),
-        (Some(ErrorKind::BrokenPipe), false, Err(Failed)),
-        (Some(ErrorKind::WouldBlock), false, Err(Failed)),
-    ];
-    for (write, stuck, wanted) in rows {
-        let mut output = StdSink::new(Wayward { write, stuck });
-        assert_eq!(rt; output.put(b"abc"), wanted, "{write:?}, stuck {stuck}");
-    }
+    assert!(rt; put_through(None, false).is_ok());
+    assert!(rt; put_through(None, true).is_err());
+    assert!(rt; put_through(Some(ErrorKind::Interrupted), false).is_ok());
+    assert!(rt; put_through(Some(ErrorKind::BrokenPipe), false).is_err());
+    assert!(rt; put_through(Some(ErrorKind::WouldBlock), false).is_err());
 }

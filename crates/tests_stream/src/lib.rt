@@ -9,6 +9,8 @@ mod bytes;
 #[cfg(test)]
 mod line;
 #[cfg(test)]
+mod table;
+#[cfg(test)]
 mod values;
 #[cfg(test)]
 mod writer;

@@ -1,11 +1,12 @@
+use crate::table::{all_hold, is_true};
 use cal_line::{
-    FieldEnd, Piece, Splitter, ended_line, escape, escaped_spells_the_text, lines_end_at_newlines,
-    next_line, one_list_of_fields, one_text, split_fields, unescape, written_fields_are_read,
+    Field, FieldEnd, FieldPieces, Piece, Splitter, ended_line, escape, escaped_spells_the_text,
+    lines_end_at_newlines, next_line, one_list_of_fields, one_text, split_fields, unescape,
+    written_fields_are_read,
 };
 use cal_value::{OutOfMemory, Text};
-use std::alloc::{AllocError, Global};
+use std::alloc::Global;
 use std::borrow::CowStr;
-use std::test::Fail;
 
 /// Lines, and each key with its values in brackets, or `bad`.
 const LINES: [(&str, &str); 16] = [
@@ -27,23 +28,51 @@ const LINES: [(&str, &str); 16] = [
     ("\\", "bad"),
 ];
 
-fn copied(alloc: Global, line: &str) -> Result<String, AllocError> {
-    let mut out = String::new(alloc);
-    match split_fields(alloc, line) {
-        Ok(fields) => {
-            for field in fields.as_slice() {
-                out.push_str(field.key.as_str())?;
-                for value in field.values.as_slice() {
-                    out.push_str("[")?;
-                    out.push_str(value.as_str())?;
-                    out.push_str("]")?;
-                }
-            }
-        }
-        Err(FieldEnd::BadField) => out.push_str("bad")?,
-        Err(FieldEnd::OutOfMemory) => return Err(AllocError),
+fn lines() -> &'static [(&'static str, &'static str)] {
+    &LINES
+}
+
+fn put_field(field: &Field, out: &mut Text) -> Result<(), OutOfMemory> {
+    out.push_str(field.key.as_str())?;
+    for value in field.values.as_slice() {
+        out.push_str("[")?;
+        out.push_str(value.as_str())?;
+        out.push_str("]")?;
     }
-    Ok(out)
+    Ok(())
+}
+
+fn copied(alloc: Global, line: &str, out: &mut Text) -> Result<(), FieldEnd> {
+    let fields = split_fields(alloc, line)?;
+    for field in fields.as_slice() {
+        put_field(field, out)?;
+    }
+    Ok(())
+}
+
+/// Whether these fields of a line are the wanted ones, or the line is bad where it should be.
+fn are_wanted(read: Result<(), FieldEnd>, out: &str, wanted: &str) -> Result<bool, OutOfMemory> {
+    match read {
+        Ok(()) => Ok(out == wanted),
+        Err(FieldEnd::BadField) => Ok(wanted == "bad"),
+        Err(FieldEnd::OutOfMemory) => Err(OutOfMemory),
+    }
+}
+
+fn is_copied(alloc: Global, line: &str, wanted: &str) -> Result<bool, OutOfMemory> {
+    let mut out = Text::new(alloc);
+    let read = copied(alloc, line, &mut out);
+    are_wanted(read, out.as_str(), wanted)
+}
+
+fn wrong_copy(alloc: Global) -> Result<Option<usize>, OutOfMemory> {
+    let rows = lines();
+    for row in 0..rows.len() {
+        if !is_copied(alloc, rows[row].0, rows[row].1)? {
+            return Ok(Some(row));
+        }
+    }
+    Ok(None)
 }
 
 fn split(splitter: &mut Splitter, line: &str, out: &mut Text) -> Result<(), FieldEnd> {
@@ -60,110 +89,180 @@ fn split(splitter: &mut Splitter, line: &str, out: &mut Text) -> Result<(), Fiel
     Ok(())
 }
 
-#[test]
-fn lines_have_their_fields(rt: HostRuntime) -> Result<(), Fail> {
-    for (line, wanted) in LINES {
-        assert_eq!(rt; copied(rt.alloc(), line)?.as_str(), wanted, "{line}");
-    }
-    Ok(())
+fn is_split(
+    alloc: Global,
+    splitter: &mut Splitter,
+    line: &str,
+    wanted: &str,
+) -> Result<bool, OutOfMemory> {
+    let mut out = Text::new(alloc);
+    let read = split(splitter, line, &mut out);
+    are_wanted(read, out.as_str(), wanted)
 }
 
-#[test]
-fn one_splitter_reads_line_after_line(rt: HostRuntime) -> Result<(), Fail> {
-    let mut splitter = Splitter::new(rt.alloc());
-    for (line, wanted) in LINES {
-        let mut out = Text::new(rt.alloc());
-        match split(&mut splitter, line, &mut out) {
-            Ok(()) => {}
-            Err(FieldEnd::BadField) => out.push_str("bad")?,
-            Err(end) => return Err(end.into()),
+fn wrong_split(alloc: Global, splitter: &mut Splitter) -> Result<Option<usize>, OutOfMemory> {
+    let rows = lines();
+    for row in 0..rows.len() {
+        if !is_split(alloc, splitter, rows[row].0, rows[row].1)? {
+            return Ok(Some(row));
         }
-        assert_eq!(rt; out.as_str(), wanted, "{line}");
     }
-    Ok(())
-}
-
-/// Its text, and whether it stays in the line.
-fn shown(alloc: Global, piece: &Piece) -> Result<(Text, bool), OutOfMemory> {
-    match piece.text(alloc)? {
-        CowStr::Borrowed(text) => Ok((Text::from_str(alloc, text)?, true)),
-        CowStr::Owned(text) => Ok((Text::from_string(text), false)),
-    }
+    Ok(None)
 }
 
 #[test]
-fn a_text_without_an_escape_stays_in_the_line(rt: HostRuntime) -> Result<(), Fail> {
+fn lines_have_their_fields(rt: HostRuntime) {
+    all_hold(&rt, wrong_copy(rt.alloc()));
+}
+
+#[test]
+fn one_splitter_reads_line_after_line(rt: HostRuntime) {
     let mut splitter = Splitter::new(rt.alloc());
-    let fields = splitter.split("a\\,b=plain=\\n==é")?;
-    assert_eq!(rt; fields.len(), 1);
-    let field = fields.get(0);
-    let (key, borrowed) = shown(rt.alloc(), &field.key())?;
-    assert_eq!(rt; key.as_str(), "a,b");
-    assert!(rt; !borrowed, "a key with an escape");
-    let wanted = [("plain", true), ("\n", false), ("", true), ("é", true)];
-    assert_eq!(rt; field.value_count(), wanted.len());
+    all_hold(&rt, wrong_split(rt.alloc(), &mut splitter));
+    drop(splitter);
+}
+
+/// Whether a piece is this text, and lies in the line just where it should.
+fn is_piece(alloc: Global, piece: &Piece, text: &str, lent: bool) -> Result<bool, OutOfMemory> {
+    match piece.text(alloc)? {
+        CowStr::Borrowed(found) => Ok(lent && found == text),
+        CowStr::Owned(found) => Ok(!lent && found.as_str() == text),
+    }
+}
+
+fn is_text(alloc: Global, piece: &Piece, text: &str) -> Result<bool, OutOfMemory> {
+    Ok(piece.to_text(alloc)?.as_str() == text)
+}
+
+/// Values, and whether each lies in the line.
+const PIECES: [(&str, bool); 4] = [("plain", true), ("\n", false), ("", true), ("é", true)];
+
+fn pieces() -> &'static [(&'static str, bool)] {
+    &PIECES
+}
+
+fn wrong_piece(alloc: Global, field: FieldPieces) -> Result<Option<usize>, OutOfMemory> {
+    let rows = pieces();
     for place in 0..field.value_count() {
         let value = field.value(place);
-        let (text, borrowed) = shown(rt.alloc(), &value)?;
-        assert_eq!(rt; (text.as_str(), borrowed), wanted[place]);
-        assert_eq!(rt; value.to_text(rt.alloc())?.as_str(), wanted[place].0);
+        let Some((text, lent)) = rows.get(place) else {
+            return Ok(Some(place));
+        };
+        if !is_piece(alloc, &value, text, *lent)? || !is_text(alloc, &value, text)? {
+            return Ok(Some(place));
+        }
     }
-    Ok(())
+    Ok((field.value_count() != rows.len()).then_some(field.value_count()))
 }
 
 #[test]
-fn texts_are_escaped_and_read_back(rt: HostRuntime) -> Result<(), Fail> {
-    let rows = [
-        ("", ""),
-        ("main", "main"),
-        ("a,b=c\\d\ne", "a\\,b\\=c\\\\d\\ne"),
-        ("né,\n", "né\\,\\n"),
-    ];
-    for (text, wanted) in rows {
-        let mut out = Text::from_str(rt.alloc(), "x=")?;
-        escape(text, &mut out)?;
-        let wanted_out = format!(in rt.alloc(); "x={wanted}")?;
-        assert_eq!(rt; out.as_str(), wanted_out.as_str(), "{text}");
-        assert_eq!(rt; unescape(rt.alloc(), wanted)?.as_str(), text, "{text}");
+fn a_text_without_an_escape_stays_in_the_line(rt: HostRuntime) {
+    let mut splitter = Splitter::new(rt.alloc());
+    if let Ok(fields) = splitter.split("a\\,b=plain=\\n==é")
+        && fields.len() == 1
+    {
+        let field = fields.get(0);
+        is_true(&rt, is_piece(rt.alloc(), &field.key(), "a,b", false));
+        all_hold(&rt, wrong_piece(rt.alloc(), field));
+    } else {
+        is_true(&rt, Ok(false));
     }
-    assert_eq!(rt; unescape(rt.alloc(), "a,b=c")?.as_str(), "a,b=c");
-    assert!(rt; matches!(unescape(rt.alloc(), "a\\"), Err(FieldEnd::BadField)));
-    assert!(rt; matches!(unescape(rt.alloc(), "\\\\\\"), Err(FieldEnd::BadField)));
-    Ok(())
+    drop(splitter);
+}
+
+/// Texts, and each escaped.
+const ESCAPES: [(&str, &str); 4] = [
+    ("", ""),
+    ("main", "main"),
+    ("a,b=c\\d\ne", "a\\,b\\=c\\\\d\\ne"),
+    ("né,\n", "né\\,\\n"),
+];
+
+fn escapes() -> &'static [(&'static str, &'static str)] {
+    &ESCAPES
+}
+
+fn is_escaped(alloc: Global, text: &str, wanted: &str) -> Result<bool, OutOfMemory> {
+    let mut out = Text::from_str(alloc, "x=")?;
+    escape(text, &mut out)?;
+    Ok(out.as_str().strip_prefix("x=") == Some(wanted))
+}
+
+fn reads_as(alloc: Global, escaped: &str, text: &str) -> bool {
+    match unescape(alloc, escaped) {
+        Ok(read) => read.as_str() == text,
+        Err(_) => false,
+    }
+}
+
+fn is_bad(alloc: Global, escaped: &str) -> bool {
+    matches!(unescape(alloc, escaped), Err(FieldEnd::BadField))
+}
+
+fn wrong_escape(alloc: Global) -> Result<Option<usize>, OutOfMemory> {
+    let rows = escapes();
+    for row in 0..rows.len() {
+        let (text, escaped) = rows[row];
+        if !is_escaped(alloc, text, escaped)? || !reads_as(alloc, escaped, text) {
+            return Ok(Some(row));
+        }
+    }
+    Ok(None)
+}
+
+#[test]
+fn texts_are_escaped_and_read_back(rt: HostRuntime) {
+    all_hold(&rt, wrong_escape(rt.alloc()));
+    assert!(rt; reads_as(rt.alloc(), "a,b=c", "a,b=c"));
+    assert!(rt; is_bad(rt.alloc(), "a\\"));
+    assert!(rt; is_bad(rt.alloc(), "\\\\\\"));
 }
 
 /// The lines of an input, with a semicolon behind each.
-fn lines_shown(alloc: Global, input: &[u8]) -> Result<Text, Fail> {
-    let mut out = Text::new(alloc);
+fn lines_shown(input: &[u8], out: &mut Text) -> Result<(), OutOfMemory> {
     let mut rest = input;
     while !rest.is_empty() {
         let (line, after) = next_line(rest);
-        out.push_str(std::str::from_utf8(line)?)?;
+        out.push_str(std::str::from_utf8(line).unwrap_or("no text"))?;
         out.push_str(";")?;
         rest = after;
     }
-    Ok(out)
+    Ok(())
+}
+
+const INPUTS: [(&[u8], &str); 5] = [
+    (b"", ""),
+    (b"a", "a;"),
+    (b"a\n", "a;"),
+    (b"\n\nb\r\nc", ";;b\r;c;"),
+    (b"a\n\n", "a;;"),
+];
+
+fn inputs() -> &'static [(&'static [u8], &'static str)] {
+    &INPUTS
+}
+
+fn has_lines(alloc: Global, input: &[u8], wanted: &str) -> Result<bool, OutOfMemory> {
+    let mut out = Text::new(alloc);
+    lines_shown(input, &mut out)?;
+    Ok(out.as_str() == wanted)
+}
+
+fn wrong_input(alloc: Global) -> Result<Option<usize>, OutOfMemory> {
+    let rows = inputs();
+    for row in 0..rows.len() {
+        if !has_lines(alloc, rows[row].0, rows[row].1)? {
+            return Ok(Some(row));
+        }
+    }
+    Ok(None)
 }
 
 #[test]
-fn an_input_has_its_lines(rt: HostRuntime) -> Result<(), Fail> {
-    let rows: [(&[u8], &str); 5] = [
-        (b"", ""),
-        (b"a", "a;"),
-        (b"a\n", "a;"),
-        (b"\n\nb\r\nc", ";;b\r;c;"),
-        (b"a\n\n", "a;;"),
-    ];
-    for (input, wanted) in rows {
-        assert_eq!(rt;
-            lines_shown(rt.alloc(), input)?.as_str(),
-            wanted,
-            "{input:?}"
-        );
-    }
+fn an_input_has_its_lines(rt: HostRuntime) {
+    all_hold(&rt, wrong_input(rt.alloc()));
     assert!(rt; ended_line(b"ab").is_none());
-    assert_eq!(rt; ended_line(b"a\nb").ok_or("ended")?.1, b"b".as_slice());
-    Ok(())
+    assert!(rt; matches!(ended_line(b"a\nb"), Some((_, b"b"))));
 }
 
 #[test]

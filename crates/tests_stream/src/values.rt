@@ -1,14 +1,12 @@
 //! Values, records and their texts, by worked rows.
 
+use crate::table::{all_hold, is_true, none_wrong};
 use cal_value::{
-    Attribute, Entry, Kind, Props, Rec, Records, Seq, Text, TryCopy, ValueFault, Variant,
-    order_is_exact, parse_value, print_value, printed_reads_back, same,
+    Attribute, Entry, Exact, Kind, OutOfMemory, Props, Rec, Records, Seq, Text, TryCopy,
+    ValueFault, Variant, order_is_exact, parse_value, print_value, printed_reads_back, same,
 };
 use std::alloc::Global;
-use std::fmt::Debug;
 use std::hash::{DefaultHasher, Hash, Hasher};
-use std::process::Abort;
-use std::test::Fail;
 
 // A kind, a text, and what its value prints as, or `!` where it is no value.
 const READINGS: &str = "\
@@ -129,7 +127,13 @@ const DECIMALS: &str = "\
 77371252455336267.181195265|!|77371252455336267.181195265
 -77371252455336267.181195264|-77371252455336267181195264|-77371252455336267.181195264
 -77371252455336267.181195265|!|-77371252455336267.181195265
-77371252455336268|!|77371252455336268";
+77371252455336268|!|77371252455336268
+0000000000000000000000000000000000000000000000000000000000000000000000000000000000\
+0000000000000000007.5|7500000000|7.5
+1111111111111111111111111111111111111111111111111111111111111111111111111111111111\
+111111111111111111|!|\
+1111111111111111111111111111111111111111111111111111111111111111111111111111111111\
+111111111111111111";
 
 // Values, each below the next. A `fixed` is written in nano-units.
 const VALUES: &str = "\
@@ -195,116 +199,167 @@ const GROUPS: &str = "\
 1 1;
 2;";
 
-fn printed(alloc: Global, value: &Variant) -> Result<Text, Fail> {
+/// Whether a value prints so.
+fn prints(alloc: Global, value: &Variant, wanted: &str) -> Result<bool, OutOfMemory> {
     let mut out = Text::new(alloc);
     print_value(value, &mut out)?;
-    Ok(out)
+    Ok(out.as_str() == wanted)
 }
 
-fn reading(alloc: Global, row: &str) -> Result<Text, Fail> {
-    let (name, text) = row.split_once('|').ok_or("no kind")?;
-    let kind = Kind::from_name(name).ok_or("no kind")?;
-    match parse_value(alloc, kind, text) {
-        Ok(value) => printed(alloc, &value),
-        Err(_) => Ok(Text::from_str(alloc, "!")?),
+fn is_read(alloc: Global, row: &str) -> Result<bool, OutOfMemory> {
+    let Some((read, wanted)) = row.rsplit_once('|') else {
+        return Ok(false);
+    };
+    match value_of(alloc, read) {
+        Ok(value) => prints(alloc, &value, wanted),
+        Err(ValueFault::BadValue) => Ok(wanted == "!"),
+        Err(ValueFault::OutOfMemory) => Err(OutOfMemory),
     }
 }
 
-#[test]
-fn reads_and_prints(rt: HostRuntime) -> Result<(), Fail> {
+/// The value of a kind and a text.
+fn value_of(alloc: Global, row: &str) -> Result<Variant, ValueFault> {
+    let Some((name, text)) = row.split_once('|') else {
+        return Err(ValueFault::OutOfMemory);
+    };
+    let Some(kind) = Kind::from_name(name) else {
+        return Err(ValueFault::OutOfMemory);
+    };
+    parse_value(alloc, kind, text)
+}
+
+fn wrong_reading(alloc: Global) -> Result<Option<&'static str>, OutOfMemory> {
     for row in READINGS.lines() {
-        let (read, want) = row.rsplit_once('|').ok_or("no result")?;
-        assert_eq!(rt; reading(rt.alloc(), read)?.as_str(), want, "{row}");
+        if !is_read(alloc, row)? {
+            return Ok(Some(row));
+        }
     }
-    Ok(())
+    Ok(None)
 }
 
-// its nano-units, or `!` of a text
-fn nanos(alloc: Global, value: &Variant) -> Result<Text, Fail> {
+#[test]
+fn reads_and_prints(rt: HostRuntime) {
+    none_wrong(&rt, wrong_reading(rt.alloc()));
+}
+
+/// Whether a value has these nano-units, or is a text for `!`.
+fn has_nanos(alloc: Global, value: &Variant, wanted: &str) -> Result<bool, OutOfMemory> {
     match value {
-        Variant::Fixed(nanos) => printed(alloc, &Variant::Int(*nanos)),
-        _ => Ok(Text::from_str(alloc, "!")?),
+        Variant::Fixed(nanos) => prints(alloc, &Variant::Int(*nanos), wanted),
+        _ => Ok(wanted == "!"),
     }
 }
 
-fn check_decimal(rt: &impl Abort, alloc: Global, row: &str) -> Result<(), Fail> {
-    let (text, wanted) = row.split_once('|').ok_or("no number")?;
-    let (number, print) = wanted.split_once('|').ok_or("no text")?;
-    let value = parse_value(alloc, Kind::Double, text)?;
-    assert_eq!(rt; nanos(alloc, &value)?.as_str(), number, "{row}");
-    assert_eq!(rt; printed(alloc, &value)?.as_str(), print, "{row}");
-    Ok(())
+fn is_decimal(alloc: Global, row: &str) -> Result<bool, OutOfMemory> {
+    let Some((text, wanted)) = row.split_once('|') else {
+        return Ok(false);
+    };
+    let Some((nanos, print)) = wanted.split_once('|') else {
+        return Ok(false);
+    };
+    let Ok(value) = parse_value(alloc, Kind::Double, text) else {
+        return Ok(false);
+    };
+    Ok(has_nanos(alloc, &value, nanos)? && prints(alloc, &value, print)?)
 }
 
-#[test]
-fn decimals_of_kind_double_are_numbers(rt: HostRuntime) -> Result<(), Fail> {
+fn wrong_decimal(alloc: Global) -> Result<Option<&'static str>, OutOfMemory> {
     for row in DECIMALS.lines() {
-        check_decimal(&rt, rt.alloc(), row)?;
+        if !is_decimal(alloc, row)? {
+            return Ok(Some(row));
+        }
     }
-    Ok(())
+    Ok(None)
 }
 
 #[test]
-fn a_hundred_digits_are_read(rt: HostRuntime) -> Result<(), Fail> {
-    let alloc = rt.alloc();
-    let zeros = "0".repeat(alloc, 100)?;
-    let long = format!(in alloc; "{zeros}7.5|7500000000|7.5")?;
-    check_decimal(&rt, alloc, long.as_str())?;
-    let ones = "1".repeat(alloc, 100)?;
-    let large = format!(in alloc; "{ones}|!|{ones}")?;
-    check_decimal(&rt, alloc, large.as_str())
+fn decimals_of_kind_double_are_numbers(rt: HostRuntime) {
+    none_wrong(&rt, wrong_decimal(rt.alloc()));
 }
 
 #[test]
-fn the_largest_numbers_are_printed(rt: HostRuntime) -> Result<(), Fail> {
-    let most = printed(rt.alloc(), &Variant::Fixed(i128::MAX))?;
-    assert_eq!(rt; most.as_str(), "170141183460469231731687303715.884105727");
-    let least = printed(rt.alloc(), &Variant::Fixed(i128::MIN))?;
-    assert_eq!(rt; least.as_str(), "-170141183460469231731687303715.884105728");
-    Ok(())
+fn the_largest_numbers_are_printed(rt: HostRuntime) {
+    let most = Variant::Fixed(i128::MAX);
+    is_true(
+        &rt,
+        prints(
+            rt.alloc(),
+            &most,
+            "170141183460469231731687303715.884105727",
+        ),
+    );
+    let least = Variant::Fixed(i128::MIN);
+    is_true(
+        &rt,
+        prints(
+            rt.alloc(),
+            &least,
+            "-170141183460469231731687303715.884105728",
+        ),
+    );
 }
 
-fn value(alloc: Global, row: &str) -> Result<Variant, Fail> {
-    let (name, text) = row.split_once('|').ok_or("no kind")?;
-    Ok(match name {
-        "int" => Variant::Int(text.parse()?),
-        "fixed" => Variant::Fixed(text.parse()?),
-        _ => parse_value(alloc, Kind::from_name(name).ok_or("no kind")?, text)?,
+fn number(text: &str) -> Result<i128, ValueFault> {
+    match text.parse() {
+        Ok(number) => Ok(number),
+        Err(_) => Err(ValueFault::BadValue),
+    }
+}
+
+fn value(alloc: Global, row: &str) -> Result<Variant, ValueFault> {
+    if let Some(text) = row.strip_prefix("int|") {
+        return Ok(Variant::Int(number(text)?));
+    }
+    if let Some(text) = row.strip_prefix("fixed|") {
+        return Ok(Variant::Fixed(number(text)?));
+    }
+    value_of(alloc, row)
+}
+
+fn region(alloc: Global) -> Result<Attribute, OutOfMemory> {
+    Ok(Attribute {
+        name: Text::from_str(alloc, "region")?,
+        kind: Kind::Int,
+        props: Props::NESTED,
     })
 }
 
-fn entry(alloc: Global, text: &str) -> Result<Entry, Fail> {
+fn entry(alloc: Global, text: &str) -> Result<Entry, ValueFault> {
+    let value = Variant::Int(number(text)?);
     Ok(Entry {
-        attr: Attribute {
-            name: Text::from_str(alloc, "region")?,
-            kind: Kind::Int,
-            props: Props::NESTED,
-        },
-        value: parse_value(alloc, Kind::Int, text)?,
+        attr: region(alloc)?,
+        value,
     })
 }
 
-fn path(alloc: Global, words: &str) -> Result<Seq<Entry>, Fail> {
-    let mut path = Seq::new(alloc);
+fn put_path(alloc: Global, words: &str, path: &mut Seq<Entry>) -> Result<(), ValueFault> {
     for word in words.split_whitespace() {
         path.push(entry(alloc, word)?)?;
     }
-    Ok(path)
+    Ok(())
 }
 
-fn group(alloc: Global, row: &str) -> Result<Rec, Fail> {
-    let (words, imms) = row.split_once(';').ok_or("no immediates")?;
-    let mut paths = Seq::new(alloc);
+fn put_paths(alloc: Global, words: &str, record: &mut Rec) -> Result<(), ValueFault> {
     for part in words.split('/') {
-        let path = path(alloc, part)?;
+        let mut path = Seq::new(alloc);
+        put_path(alloc, part, &mut path)?;
         if !path.is_empty() {
-            paths.push(path)?;
+            record.paths.push(path)?;
         }
     }
-    Ok(Rec {
-        paths,
-        imms: path(alloc, imms)?,
-    })
+    Ok(())
+}
+
+fn group(alloc: Global, row: &str) -> Result<Rec, ValueFault> {
+    let (words, imms) = row.split_once(';').unwrap_or((row, ""));
+    let mut record = Rec {
+        paths: Seq::new(alloc),
+        imms: Seq::new(alloc),
+    };
+    let put = put_paths(alloc, words, &mut record);
+    put_path(alloc, imms, &mut record.imms)?;
+    put?;
+    Ok(record)
 }
 
 fn hash_of<T: Hash>(value: &T) -> u64 {
@@ -313,82 +368,140 @@ fn hash_of<T: Hash>(value: &T) -> u64 {
     hasher.finish()
 }
 
-fn check_sorted<T: Ord + Hash + Debug>(rt: &impl Abort, sorted: &Seq<T>) {
-    for (i, one) in sorted.as_slice().iter().enumerate() {
-        for (j, other) in sorted.as_slice().iter().enumerate() {
-            assert_eq!(rt; one.cmp(other), i.cmp(&j), "{one:?} {other:?}");
-            assert_eq!(rt; one == other, i == j, "{one:?} {other:?}");
-            assert_eq!(rt; hash_of(one) == hash_of(other), i == j, "{one:?} {other:?}");
+/// Whether two of a sorted list compare as their places do.
+fn compare<T: Ord + Hash>(one: &T, other: &T, i: usize, j: usize) -> bool {
+    one.cmp(other) == i.cmp(&j)
+        && (one == other) == (i == j)
+        && (hash_of(one) == hash_of(other)) == (i == j)
+}
+
+fn compares_with_each<T: Ord + Hash>(one: &T, i: usize, sorted: &[T]) -> bool {
+    for j in 0..sorted.len() {
+        if !compare(one, &sorted[j], i, j) {
+            return false;
         }
     }
+    true
+}
+
+/// The first of a list that doesn't compare with each other one as their places do.
+fn wrong_place<T: Ord + Hash>(sorted: &[T]) -> Option<usize> {
+    for i in 0..sorted.len() {
+        if !compares_with_each(&sorted[i], i, sorted) {
+            return Some(i);
+        }
+    }
+    None
+}
+
+fn is_copied<T: TryCopy + Exact>(alloc: Global, value: &T) -> Result<bool, OutOfMemory> {
+    let copied = value.copy(alloc)?;
+    Ok(same(&copied, value))
+}
+
+fn put_values(alloc: Global, sorted: &mut Seq<Variant>) -> Result<(), ValueFault> {
+    for row in VALUES.lines() {
+        sorted.push(value(alloc, row)?)?;
+    }
+    Ok(())
 }
 
 #[test]
-fn orders_values(rt: HostRuntime) -> Result<(), Fail> {
+fn orders_values(rt: HostRuntime) {
     let mut sorted = Seq::new(rt.alloc());
-    for row in VALUES.lines() {
-        sorted.push(value(rt.alloc(), row)?)?;
-    }
-    check_sorted(&rt, &sorted);
-    assert!(rt; same(&sorted.copy(rt.alloc())?, &sorted));
+    assert!(rt; put_values(rt.alloc(), &mut sorted).is_ok());
+    all_hold(&rt, Ok(wrong_place(sorted.as_slice())));
+    is_true(&rt, is_copied(rt.alloc(), &sorted));
+    drop(sorted);
     order_is_exact();
     printed_reads_back(&Variant::Bool(true));
-    Ok(())
 }
 
-#[test]
-fn orders_groups(rt: HostRuntime) -> Result<(), Fail> {
-    let mut sorted = Seq::new(rt.alloc());
+fn put_groups(alloc: Global, sorted: &mut Seq<Rec>) -> Result<(), ValueFault> {
     for row in GROUPS.lines() {
-        sorted.push(group(rt.alloc(), row)?)?;
+        sorted.push(group(alloc, row)?)?;
     }
-    check_sorted(&rt, &sorted);
-    assert!(rt; same(&sorted.copy(rt.alloc())?, &sorted));
     Ok(())
 }
 
 #[test]
-fn records_are_copied_with_their_globals(rt: HostRuntime) -> Result<(), Fail> {
-    let alloc = rt.alloc();
+fn orders_groups(rt: HostRuntime) {
+    let mut sorted = Seq::new(rt.alloc());
+    assert!(rt; put_groups(rt.alloc(), &mut sorted).is_ok());
+    all_hold(&rt, Ok(wrong_place(sorted.as_slice())));
+    is_true(&rt, is_copied(rt.alloc(), &sorted));
+    drop(sorted);
+}
+
+fn two_records(alloc: Global) -> Result<Records, ValueFault> {
     let mut rows = Seq::new(alloc);
     rows.push(group(alloc, "1 2;3")?)?;
-    let records = Records {
+    Ok(Records {
         rows,
         globals: group(alloc, "4;5")?,
-    };
+    })
+}
+
+fn are_copied(alloc: Global, records: &Records) -> Result<bool, OutOfMemory> {
     let copied = records.copy(alloc)?;
-    assert!(rt; same(&copied.rows, &records.rows));
-    assert!(rt; same(&copied.globals, &records.globals));
-    Ok(())
+    Ok(same(&copied.rows, &records.rows) && same(&copied.globals, &records.globals))
+}
+
+fn two_are_copied(alloc: Global) -> Result<bool, ValueFault> {
+    let records = two_records(alloc)?;
+    Ok(are_copied(alloc, &records)?)
 }
 
 #[test]
-fn flattens_a_record(rt: HostRuntime) -> Result<(), Fail> {
-    let record = group(rt.alloc(), "1 2/3;4 5")?;
-    let mut wanted = 1;
+fn records_are_copied_with_their_globals(rt: HostRuntime) {
+    assert!(rt; two_are_copied(rt.alloc()) == Ok(true));
+}
+
+/// Whether a record's numbers are these in turn.
+fn has_in_turn(record: &Rec, numbers: &[i128]) -> bool {
+    let mut place = 0;
     for entry in record.flat() {
-        assert_eq!(rt; entry.value, Variant::Int(wanted));
-        wanted = wanted.wrapping_add(1);
+        let Variant::Int(number) = &entry.value else {
+            return false;
+        };
+        if numbers.get(place) != Some(number) {
+            return false;
+        }
+        place = place.wrapping_add(1);
     }
-    assert_eq!(rt; wanted, 6);
-    Ok(())
+    place == numbers.len()
+}
+
+fn is_flat(alloc: Global) -> Result<bool, ValueFault> {
+    let record = group(alloc, "1 2/3;4 5")?;
+    Ok(has_in_turn(&record, &[1, 2, 3, 4, 5]))
 }
 
 #[test]
-fn texts_and_lists_grow(rt: HostRuntime) -> Result<(), Fail> {
-    let mut text = Text::from_string(String::new(rt.alloc()));
-    assert!(rt; text.is_empty());
+fn flattens_a_record(rt: HostRuntime) {
+    assert!(rt; is_flat(rt.alloc()) == Ok(true));
+}
+
+fn a_text_grows(alloc: Global) -> Result<bool, OutOfMemory> {
+    let mut text = Text::from_string(String::new(alloc));
+    let was_empty = text.is_empty();
     text.push_str("nöt")?;
     text.push('.')?;
-    assert_eq!(rt; text.len(), 5);
-    assert_eq!(rt; text.into_string().as_str(), "nöt.");
-    let mut list = Seq::from_vec([1, 2].to_vec(rt.alloc())?);
+    Ok(was_empty && text.len() == 5 && text.into_string().as_str() == "nöt.")
+}
+
+fn a_list_grows(alloc: Global) -> Result<bool, OutOfMemory> {
+    let mut list = Seq::from_vec([1, 2].to_vec(alloc)?);
     list.push(3)?;
-    assert_eq!(rt; list.pop(), Some(3));
-    assert_eq!(rt; list.get(1), Some(&2));
-    assert_eq!(rt; list.len(), 2);
-    assert_eq!(rt; list.into_vec().as_slice(), [1, 2].as_slice());
-    Ok(())
+    let popped = list.pop();
+    let right = popped == Some(3) && list.get(1) == Some(&2) && list.len() == 2;
+    Ok(right && list.into_vec().as_slice() == [1, 2].as_slice())
+}
+
+#[test]
+fn texts_and_lists_grow(rt: HostRuntime) {
+    is_true(&rt, a_text_grows(rt.alloc()));
+    is_true(&rt, a_list_grows(rt.alloc()));
 }
 
 #[test]
@@ -397,31 +510,47 @@ fn a_fault_says_what_it_is(rt: HostRuntime) {
     assert!(rt; bad == Err(ValueFault::BadValue));
 }
 
-fn check_props(rt: &impl Abort, bits: u32, wanted: [bool; 6]) {
-    let props = Props(bits);
-    assert_eq!(rt; props.is_as_value(), wanted[0], "as value {bits}");
-    assert_eq!(rt; props.is_reference(), wanted[1], "reference {bits}");
-    assert_eq!(rt; props.is_nested(), wanted[2], "nested {bits}");
-    assert_eq!(rt;
+/// Bits, and whether they say: as value, reference, nested, process scope, skip events, global.
+const PROPERTIES: [(u32, [bool; 6]); 9] = [
+    (0, [false, true, false, false, false, false]),
+    (1, [true, false, false, false, false, false]),
+    (12, [false, true, false, true, false, false]),
+    (4, [false, true, false, false, false, false]),
+    (28, [false, true, false, false, false, false]),
+    (64, [false, true, false, false, true, false]),
+    (256, [false, true, true, false, false, false]),
+    (257, [true, false, false, false, false, false]),
+    (0xFFFF_FF8F, [true, false, false, true, false, true]),
+];
+
+fn properties() -> &'static [(u32, [bool; 6])] {
+    &PROPERTIES
+}
+
+fn said(props: Props) -> [bool; 6] {
+    [
+        props.is_as_value(),
+        props.is_reference(),
+        props.is_nested(),
         props.has_process_scope(),
-        wanted[3],
-        "process scope {bits}"
-    );
-    assert_eq!(rt; props.skips_events(), wanted[4], "skip events {bits}");
-    assert_eq!(rt; props.is_global(), wanted[5], "global {bits}");
+        props.skips_events(),
+        props.is_global(),
+    ]
+}
+
+fn wrong_properties() -> Option<usize> {
+    let rows = properties();
+    for row in 0..rows.len() {
+        if said(Props(rows[row].0)) != rows[row].1 {
+            return Some(row);
+        }
+    }
+    None
 }
 
 #[test]
 fn tells_properties(rt: HostRuntime) {
-    check_props(&rt, 0, [false, true, false, false, false, false]);
-    check_props(&rt, 1, [true, false, false, false, false, false]);
-    check_props(&rt, 12, [false, true, false, true, false, false]);
-    check_props(&rt, 4, [false, true, false, false, false, false]);
-    check_props(&rt, 28, [false, true, false, false, false, false]);
-    check_props(&rt, 64, [false, true, false, false, true, false]);
-    check_props(&rt, 256, [false, true, true, false, false, false]);
-    check_props(&rt, 257, [true, false, false, false, false, false]);
-    check_props(&rt, 0xFFFF_FF8F, [true, false, false, true, false, true]);
+    all_hold(&rt, Ok(wrong_properties()));
 }
 
 #[test]

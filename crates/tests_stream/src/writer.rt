@@ -1,11 +1,14 @@
+ghost use Rattle.std.specs.Prelude.{IfOk, OnOk};
+ghost use Rattle.cal_context.specs.Snapshots.{IsBelowRoot, IsIn};
+
+use crate::table::is_true;
 use cal_base::MemSink;
 use cal_context::{Context, NodeNumber, Snapshot, Taker};
-use cal_read::read_records;
-use cal_value::{Attribute, Kind, OutOfMemory, Props, Seq, Text, Variant};
+use cal_read::{StreamEnd, read_records};
+use cal_value::{Attribute, Kind, OutOfMemory, Props, Records, Seq, Text, Variant};
 use cal_write::{WriteEnd, Writer, cali_text, write_records};
 use std::alloc::Global;
 use std::process::Abort;
-use std::test::Fail;
 
 const DESCRIBED: &str = "\
 __rec=node,id=12,attr=10,data=276,parent=3
@@ -127,29 +130,48 @@ __rec=ctx,ref=15,attr=17=18,data=5=6
 __rec=ctx,ref=15,attr=18,data=7
 ";
 
-/// Each text is the one that is written of the records that it means.
-fn check<R: Abort + AllocGlobal>(rt: &R, texts: &[&str]) -> Result<(), Fail> {
-    for text in texts {
-        let records = read_records(rt.alloc(), text.as_bytes())?;
-        let written = cali_text(rt.alloc(), &records)?;
-        assert_eq!(rt; written.as_str(), *text);
+/// The records of a text, where it is one of a stream.
+fn records_of(alloc: Global, text: &str) -> Result<Option<Records>, OutOfMemory> {
+    match read_records(alloc, text.as_bytes()) {
+        Ok(records) => Ok(Some(records)),
+        Err(StreamEnd::OutOfMemory) => Err(OutOfMemory),
+        Err(StreamEnd::BadLine { .. }) => Ok(None),
     }
-    Ok(())
+}
+
+/// Whether a text is the one that is written of these records.
+fn is_written(alloc: Global, records: &Records, text: &str) -> Result<bool, OutOfMemory> {
+    Ok(cali_text(alloc, records)?.as_str() == text)
+}
+
+/// Whether a text is the one that is written of the records that it means.
+fn is_rewritten(alloc: Global, text: &str) -> Result<bool, OutOfMemory> {
+    match records_of(alloc, text)? {
+        Some(records) => is_written(alloc, &records, text),
+        None => Ok(false),
+    }
+}
+
+/// Each text is the one that is written of the records that it means.
+fn check<R: Abort + AllocGlobal>(rt: &R, texts: &[&str]) {
+    for text in texts {
+        is_true(rt, is_rewritten(rt.alloc(), text));
+    }
 }
 
 #[test]
-fn worked_rows(rt: HostRuntime) -> Result<(), Fail> {
-    check(&rt, &[MAIN, PROFILE, PHASES, LIMITS, EVENTS])
+fn worked_rows(rt: HostRuntime) {
+    check(&rt, &[MAIN, PROFILE, PHASES, LIMITS, EVENTS]);
 }
 
 #[test]
-fn kinds_escapes_and_turns(rt: HostRuntime) -> Result<(), Fail> {
-    check(&rt, &[KINDS, MIXED, IN_TURN])
+fn kinds_escapes_and_turns(rt: HostRuntime) {
+    check(&rt, &[KINDS, MIXED, IN_TURN]);
 }
 
 #[test]
-fn globals_and_built_in_nodes(rt: HostRuntime) -> Result<(), Fail> {
-    check(&rt, &[DESCRIBED, OF_BUILT_IN])
+fn globals_and_built_in_nodes(rt: HostRuntime) {
+    check(&rt, &[DESCRIBED, OF_BUILT_IN]);
 }
 
 fn function(alloc: Global) -> Result<Attribute, OutOfMemory> {
@@ -160,36 +182,78 @@ fn function(alloc: Global) -> Result<Attribute, OutOfMemory> {
     })
 }
 
-#[test]
-fn snapshots_by_number(rt: HostRuntime) -> Result<(), Fail> {
-    let alloc = rt.alloc();
-    let mut context = Context::new(alloc);
+/// The node of `main` below the root.
+fn main_node(alloc: Global, context: &mut Context) -> Result<NodeNumber, OutOfMemory>
+    ensures { IfOk result (IsBelowRoot context.new) }
+{
     let attribute = context.attribute(&function(alloc)?)?;
     let main = Variant::Text(Text::from_str(alloc, "main")?);
-    let node = context.child(NodeNumber::ROOT, attribute, &main)?;
-    let mut snapshot = Snapshot::new(alloc);
-    snapshot.nodes.push(node)?;
-    let mut writer = Writer::new(alloc)?;
-    writer.take(&context, &snapshot)?;
+    context.child(NodeNumber::ROOT, attribute, &main)
+}
+
+/// Makes the snapshot one of `main`.
+fn fill(alloc: Global, context: &mut Context, snapshot: &mut Snapshot) -> Result<(), OutOfMemory>
+    ensures { OnOk result (IsIn context.new snapshot.new) }
+{
     snapshot.clear();
-    let text = writer.finish(&context, &snapshot)?;
-    assert_eq!(rt; text.as_str(), MAIN);
+    snapshot.nodes.push(main_node(alloc, context)?)?;
     Ok(())
 }
 
-#[test]
-fn written_to_a_sink(rt: HostRuntime) -> Result<(), Fail> {
-    let alloc = rt.alloc();
-    let records = read_records(alloc, MAIN.as_bytes())?;
-    let mut sink = MemSink::new(alloc, 1000, Seq::new(alloc))?;
-    write_records(alloc, &mut sink, &records)?;
-    assert_eq!(rt; sink.bytes(), MAIN.as_bytes());
+/// What is written of this snapshot, with no globals.
+fn written(alloc: Global, context: &Context, snapshot: &mut Snapshot) -> Result<Text, OutOfMemory>
+    requires { IsIn context.now snapshot.old }
+{
+    let mut writer = Writer::new(alloc)?;
+    let taken = writer.take(context, snapshot);
+    snapshot.clear();
+    let text = writer.finish(context, snapshot)?;
+    taken?;
+    Ok(text)
+}
 
-    let mut narrow = MemSink::new(alloc, 20, Seq::new(alloc))?;
-    assert_eq!(rt;
-        write_records(alloc, &mut narrow, &records),
-        Err(WriteEnd::WriteFault)
-    );
-    assert_eq!(rt; narrow.bytes(), b"__rec=node,id=12,att".as_slice());
-    Ok(())
+fn is_by_number(
+    alloc: Global,
+    context: &mut Context,
+    snapshot: &mut Snapshot,
+) -> Result<bool, OutOfMemory> {
+    fill(alloc, context, snapshot)?;
+    Ok(written(alloc, context, snapshot)?.as_str() == MAIN)
+}
+
+#[test]
+fn snapshots_by_number(rt: HostRuntime) {
+    let mut context = Context::new(rt.alloc());
+    let mut snapshot = Snapshot::new(rt.alloc());
+    let held = is_by_number(rt.alloc(), &mut context, &mut snapshot);
+    drop(snapshot);
+    drop(context);
+    is_true(&rt, held);
+}
+
+/// Whether a sink of so much room ends so, and with this text.
+fn is_put(
+    alloc: Global,
+    records: &Records,
+    room: u64,
+    end: Result<(), WriteEnd>,
+    text: &str,
+) -> Result<bool, OutOfMemory> {
+    let mut sink = MemSink::new(alloc, room, Seq::new(alloc))?;
+    let written = write_records(alloc, &mut sink, records);
+    Ok(written == end && sink.bytes() == text.as_bytes())
+}
+
+fn are_put(alloc: Global) -> Result<bool, OutOfMemory> {
+    let Some(records) = records_of(alloc, MAIN)? else {
+        return Ok(false);
+    };
+    let all = is_put(alloc, &records, 1000, Ok(()), MAIN)?;
+    let end = Err(WriteEnd::WriteFault);
+    Ok(all && is_put(alloc, &records, 20, end, "__rec=node,id=12,att")?)
+}
+
+#[test]
+fn written_to_a_sink(rt: HostRuntime) {
+    is_true(&rt, are_put(rt.alloc()));
 }
