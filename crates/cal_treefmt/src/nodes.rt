@@ -39,15 +39,11 @@ impl Nodes {
             nodes.of_rows.items (map hierarchy rows.now)) }
     {
         let mut context = Context::new(alloc);
-        let mut of_rows = Vec::with_capacity(alloc, rows.len())?;
-        for row in rows {
-            let node = add_row(&mut context, row)?;
-            of_rows.push(node)?;
-        }
+        let of_rows = add_rows(alloc, &mut context, rows)?;
         Ok(Nodes { context, of_rows })
     }
 
-    /// The same of rows that snapshots mean. Each node of theirs is walked once for all rows.
+    /// The same of rows that snapshots mean.
     fn of_numbered(
         alloc: Global,
         numbers: &Context,
@@ -61,15 +57,53 @@ impl Nodes {
             nodes.of_rows.items
             (map hierarchy (map (meant numbers.now) (in_order rows.now order.now)))) }
     {
-        let mut ways = Ways::new(alloc, numbers)?;
         let mut context = Context::new(alloc);
-        let mut of_rows = Vec::with_capacity(alloc, order.len())?;
-        for place in order {
-            let node = ways.add_row(numbers, rows.nodes(*place), &mut context)?;
-            of_rows.push(node)?;
-        }
+        let of_rows = add_numbered(alloc, &mut context, numbers, rows, order)?;
         Ok(Nodes { context, of_rows })
     }
+}
+
+/// The nodes to which the rows' hierarchies lead, in a context that has none yet.
+fn add_rows(
+    alloc: Global,
+    context: &mut Context,
+    rows: &[Rec],
+) -> Result<Vec<NodeNumber>, OutOfMemory>
+    requires { HasNodes context.old [] }
+    ensures nodes { IfOk result (λ of_rows. HasNodes context.new rows.now) }
+    ensures of_rows { IfOk result (λ of_rows. AreAt context.new
+        of_rows.items (map hierarchy rows.now)) }
+{
+    let mut of_rows = Vec::with_capacity(alloc, rows.len())?;
+    for row in rows {
+        let node = add_row(context, row)?;
+        of_rows.push(node)?;
+    }
+    Ok(of_rows)
+}
+
+/// The same of rows that snapshots mean. Each node of theirs is walked once for all rows.
+fn add_numbered(
+    alloc: Global,
+    context: &mut Context,
+    numbers: &Context,
+    rows: &SnapshotList,
+    order: &[usize],
+) -> Result<Vec<NodeNumber>, OutOfMemory>
+    requires within { All (IsWithin numbers.now) rows.now }
+    requires nodes { HasNodes context.old [] }
+    ensures nodes { IfOk result (λ of_rows. HasNodes context.new
+        (map (meant numbers.now) (in_order rows.now order.now))) }
+    ensures of_rows { IfOk result (λ of_rows. AreAt context.new of_rows.items
+        (map hierarchy (map (meant numbers.now) (in_order rows.now order.now)))) }
+{
+    let mut ways = Ways::new(alloc, numbers)?;
+    let mut of_rows = Vec::with_capacity(alloc, order.len())?;
+    for place in order {
+        let node = ways.add_row(numbers, rows.nodes(*place), context)?;
+        of_rows.push(node)?;
+    }
+    Ok(of_rows)
 }
 
 /// The node to which a row's hierarchy leads.

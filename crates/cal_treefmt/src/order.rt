@@ -10,8 +10,19 @@ use cal_context::{Context, NodeNumber};
 use cal_value::{OutOfMemory, Seq};
 use std::alloc::Global;
 
+/// The places of the nodes from the root down, children in the order of their places.
+pub(crate) fn order(alloc: Global, context: &Context) -> Result<Vec<usize>, OutOfMemory>
+    ensures within { IfOk result (λ places.
+        All (λ k. k < length (nodes_in context.now)) places.items) }
+    ensures nodes { IfOk result (λ places. map (λ k. slice_index_or (nodes_in context.now) k [])
+        places.items ≡ below (nodes_in context.now) []) }
+{
+    let children = children(alloc, context)?;
+    places(alloc, context, &children)
+}
+
 /// The chains of the children of each node. A place is that of a node among those but the root.
-pub(crate) fn children(alloc: Global, context: &Context) -> Result<Chains, OutOfMemory>
+fn children(alloc: Global, context: &Context) -> Result<Chains, OutOfMemory>
     ensures { IfOk result (λ chains. AreChildren context.now chains) }
 {
     let parents = parents(alloc, context)?;
@@ -46,8 +57,8 @@ fn parent(context: &Context, number: usize) -> Result<NodeNumber, OutOfMemory>
     }
 }
 
-/// The places of the nodes from the root down, children in the order of their places.
-pub(crate) fn order(
+/// The same by the chains of the children.
+fn places(
     alloc: Global,
     context: &Context,
     children: &Chains,

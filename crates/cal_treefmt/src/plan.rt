@@ -4,7 +4,7 @@ ghost use Rattle.cal_treefmt.specs.Plans.{IsPlan};
 
 use crate::chains::Chains;
 use crate::nodes::Nodes;
-use crate::order::{children, order};
+use crate::order::order;
 use cal_context::Context;
 use cal_rowset::Rows;
 use cal_value::OutOfMemory;
@@ -26,8 +26,7 @@ impl Plan {
     {
         let nodes = Nodes::new(alloc, rows)?;
         nodes.context.has_each_once();
-        let children = children(alloc, &nodes.context)?;
-        let order = order(alloc, &nodes.context, &children)?;
+        let order = order(alloc, &nodes.context)?;
         let rows = Chains::new(alloc, &nodes.of_rows, nodes.context.node_count())?;
         Ok(Plan {
             context: nodes.context,

@@ -3,7 +3,7 @@ ghost use Rattle.std.specs.List.{All, flat_map};
 ghost use Rattle.cal_rowset.specs.declared.rowset.Column as columns;
 ghost use Rattle.cal_tabfmt.specs.Grid.{grid_line};
 ghost use Rattle.cal_treefmt.specs.Lines as lines;
-ghost use Rattle.cal_treefmt.specs.Plans.{IsWithin, shown};
+ghost use Rattle.cal_treefmt.specs.Plans.{IsPlan, IsWithin, shown};
 ghost use Rattle.cal_treefmt.specs.Shown.{ShowsLine};
 ghost use Rattle.cal_treefmt.specs.Tree.{header_texts, line_texts, tree};
 
@@ -25,8 +25,16 @@ pub fn tree_text<A: Answer>(alloc: Global, answer: &A) -> Result<Text, OutOfMemo
     ensures { IfOk result (λ text. text ≡ tree (A.answer answer.now)) }
 {
     let plan = Plan::new(alloc, answer.rows())?;
+    planned_text(alloc, answer, &plan)
+}
+
+/// The tree of an answer whose rows are planned.
+fn planned_text<A: Answer>(alloc: Global, answer: &A, plan: &Plan) -> Result<Text, OutOfMemory>
+    requires { IsPlan plan.now (A.answer answer.now).rows.rows }
+    ensures { IfOk result (λ text. text ≡ tree (A.answer answer.now)) }
+{
     let beside = columns_beside(alloc, answer.columns(), &plan.context)?;
-    let lines = lines(alloc, &plan)?;
+    let lines = lines(alloc, plan)?;
     let shapes = measured(alloc, &beside, &plan.context, answer, &lines)?;
     let mut out = Text::new(alloc);
     write_headers(alloc, &mut out, &shapes, &beside)?;

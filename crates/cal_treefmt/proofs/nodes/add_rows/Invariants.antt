@@ -1,7 +1,7 @@
 use Rattle.std.proofs.Common.{map, take}
 use Rattle.cal_rowset.specs.Hierarchy.{hierarchy}
 use Rattle.cal_treefmt.specs.Walks.{AreAt, HasNodes}
-use Rattle.cal_treefmt.proofs.nodes.Nodes.of_owned.Given as goal
+use Rattle.cal_treefmt.proofs.nodes.add_rows.Given as goal
 
 -- the nodes of the rows so far
 abbrev pub invariant-loop-row : goal.invariant-loop-row

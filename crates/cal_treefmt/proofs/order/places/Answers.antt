@@ -3,7 +3,7 @@ use Rattle.std.specs.Prelude.{option_to_list}
 use Rattle.cal_context.proofs.CallerLemmas.{root_within}
 use Rattle.cal_treefmt.specs.Chains.{IsNext}
 use Rattle.cal_treefmt.proofs.Ordering.{counted_in, long, ordering-place, ordering-smaller, ordering-start, ordering-turn}
-use Rattle.cal_treefmt.proofs.order.order.Goals as goal
+use Rattle.cal_treefmt.proofs.order.places.Goals as goal
 
 pub loop-place-init : goal.loop-place-init
 loop-place-init c =

@@ -1,6 +1,6 @@
 use Rattle.std.proofs.Common.{length}
 use Rattle.cal_treefmt.proofs.Ordering.{IsOrdering, to_do}
-use Rattle.cal_treefmt.proofs.order.order.Given as goal
+use Rattle.cal_treefmt.proofs.order.places.Given as goal
 
 abbrev pub invariant-loop-place : goal.invariant-loop-place
 invariant-loop-place l = IsOrdering l.context l.order.items l.left

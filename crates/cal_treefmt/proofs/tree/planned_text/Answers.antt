@@ -1,20 +1,20 @@
-use Rattle.std.proofs.Common.{◌≡◌, ℕ, suc, List, ◌∷◌, ◌++◌, length, map, sym, ap, ◌∙◌, subst}
+use Rattle.std.proofs.Common.{◌≡◌, ℕ, suc, List, ◌∷◌, ◌++◌, length, map, sym, ap, ◌∙◌}
 use Rattle.std.specs.List.{flat_map}
 use Rattle.cal_rowset.specs.declared.rowset.Column.{Column}
 use Rattle.cal_tabfmt.specs.Grid.{grid_line, shapes}
 use Rattle.cal_treefmt.specs.Columns.{columns_beside}
-use Rattle.cal_treefmt.specs.Plans.{IsPlan, shown}
+use Rattle.cal_treefmt.specs.Plans.{shown}
 use Rattle.cal_treefmt.specs.Tree.{header_texts, line_texts, rights, tree_of}
 use Rattle.cal_treefmt.specs.declared.lines.Line.{Line}
 use Rattle.cal_treefmt.proofs.Writing.{length-rights, length-shapes, tree-written}
-use Rattle.cal_treefmt.proofs.tree.tree_text.Goals as goal
+use Rattle.cal_treefmt.proofs.tree.planned_text.Goals as goal
 
 pub returns : goal.returns
 returns g c =
     let answer = g.A.Answer.answer c.args.answer.now in
     let rows = answer.rows.rows in
-    let plan = c.in_ok-plan.plan in
-    let is_plan = subst (IsPlan plan) c.rows.ensures.rows c.in_ok-plan.ensures in
+    let plan = c.args.plan.now in
+    let is_plan = c.requires in
     let beside = c.in_ok-beside.beside.items in
     let made = c.in_ok-shapes.shapes.items in
     let lines = c.in_ok-lines.lines.items in

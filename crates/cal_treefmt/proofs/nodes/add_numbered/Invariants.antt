@@ -3,7 +3,7 @@ use Rattle.cal_rowset.specs.Hierarchy.{hierarchy}
 use Rattle.cal_rowset.specs.NumberedRows.{in_order, meant}
 use Rattle.cal_treefmt.specs.Walks.{AreAt, HasNodes}
 use Rattle.cal_treefmt.specs.Ways.{AreWays}
-use Rattle.cal_treefmt.proofs.nodes.Nodes.of_numbered.Given as goal
+use Rattle.cal_treefmt.proofs.nodes.add_numbered.Given as goal
 
 -- the nodes of the rows so far
 abbrev pub invariant-loop-place : goal.invariant-loop-place
