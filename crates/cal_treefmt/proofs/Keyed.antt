@@ -1,16 +1,14 @@
 -- A list whose items are keyed by nodes: what is found of a node from one place on.
-use Rattle.std.proofs.Common.{◌≡◌, ℕ, zero, suc, ◌+◌, ◌<◌, ◌≤◌, Bool, true, false, List, [], ◌∷◌, ◌⊎◌, inl, inr, length, get_or, map, drop, filter, Option, None, Some, refl, sym, ap, ◌∙◌, subst, arith, drop-cons, true≢false, if◌then◌else◌, ◌-◌}
+use Rattle.std.proofs.Common.{◌≡◌, ℕ, zero, suc, ◌+◌, ◌<◌, ◌≤◌, Bool, true, false, List, [], ◌∷◌, ◌⊎◌, inl, inr, length, get_or, map, drop, refl, sym, ap, ◌∙◌, arith, drop-cons, ◌-◌}
 use Rattle.std.proofs.lemmas.Bool.{cases_lt}
 use Rattle.std.proofs.lemmas.List.{drop_all, get_or-map, length-map}
 use Rattle.cal_value.specs.ExactOrder.{exact_decides}
 use Rattle.cal_value.specs.OrderLaws.{path_exact}
 use Rattle.cal_value.specs.declared.attribute.Entry.{Entry}
-use Rattle.cal_value.specs.declared.record.Rec.{Rec}
 use Rattle.cal_context.specs.Tree.{Tree, IsContext, path_at}
 use Rattle.cal_context.specs.declared.numbers.NodeNumber.{NodeNumber}
 use Rattle.cal_context.proofs.CallerLemmas.{one_node}
-use Rattle.cal_rowset.specs.Hierarchy.{hierarchy}
-use Rattle.cal_treefmt.specs.Chains.{IsFirst, IsNext, LacksKey, key_at}
+use Rattle.cal_treefmt.specs.Chains.{IsFirst, LacksKey, key_at}
 use Rattle.cal_treefmt.specs.Nodes.{is_node}
 use Rattle.cal_treefmt.specs.Walks.{AreAt}
 

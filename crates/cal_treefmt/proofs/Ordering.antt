@@ -1,5 +1,5 @@
 -- The order of nodes, by what is left to be done.
-use Rattle.std.proofs.Common.{◌≡◌, ℕ, suc, ◌+◌, ◌-◌, ◌<◌, ◌≤◌, Bool, true, false, List, [], ◌∷◌, ◌++◌, ◌⊎◌, inl, inr, length, get_or, map, take, drop, reverse, Option, None, Some, refl, sym, ap, ◌∙◌, subst, arith, append_assoc, drop-cons, length-drop, if◌then◌else◌, All}
+use Rattle.std.proofs.Common.{◌≡◌, ℕ, suc, ◌+◌, ◌<◌, ◌≤◌, false, List, [], ◌∷◌, ◌++◌, ◌⊎◌, inl, inr, length, get_or, map, take, drop, reverse, Option, None, Some, refl, sym, ap, ◌∙◌, subst, arith, append_assoc, drop-cons, length-drop, if◌then◌else◌, All}
 use Rattle.std.specs.Prelude.{option_to_list}
 use Rattle.std.specs.List.{flat_map}
 use Rattle.std.proofs.lemmas.Bool.{cases_lt}
@@ -14,7 +14,7 @@ use Rattle.cal_context.specs.Tree.{Tree, IsContext, attribute_at, path_at, value
 use Rattle.cal_context.specs.declared.numbers.Link.{Link}
 use Rattle.cal_context.specs.declared.numbers.NodeNumber.{NodeNumber}
 use Rattle.cal_context.proofs.CallerLemmas.{root_path, root_within}
-use Rattle.cal_treefmt.specs.Chains.{IsFirst, IsNext, LacksKey, key_at}
+use Rattle.cal_treefmt.specs.Chains.{IsNext, key_at}
 use Rattle.cal_treefmt.specs.Nodes.{below, is_node, parent}
 use Rattle.cal_treefmt.specs.Orders.{AreParents, IsParent, nodes_in}
 use Rattle.cal_treefmt.specs.Walks.{AreAt}

@@ -1,5 +1,5 @@
 -- The places of a list at which a key stands, one after another.
-use Rattle.std.specs.Prelude.{◌≡◌, ℕ, suc, ◌<◌, ◌≤◌, List, Option, None, Some}
+use Rattle.std.specs.Prelude.{◌≡◌, ℕ, suc, ◌<◌, ◌≤◌, List, Option, None}
 use Rattle.std.specs.Prelude.{length, slice_index_or, MatchOption}
 use Rattle.cal_context.specs.declared.numbers.NodeNumber.{NodeNumber}
 use Rattle.cal_treefmt.specs.declared.chains.Chains.{Chains}

@@ -4,7 +4,7 @@ ghost use Rattle.cal_rowset.specs.declared.rowset.Column as columns;
 ghost use Rattle.cal_tabfmt.specs.Grid.{shapes as shapes_of};
 ghost use Rattle.cal_treefmt.specs.Lines as lines;
 ghost use Rattle.cal_treefmt.specs.Plans.{IsWithin, shown};
-ghost use Rattle.cal_treefmt.specs.Shown.{ShowsLine};
+ghost use Rattle.cal_treefmt.specs.Shown.{IsForLines, ShowsLine};
 ghost use Rattle.cal_treefmt.specs.Tree.{header_texts, line_texts, rights};
 
 use crate::headers::header_texts;
@@ -31,13 +31,54 @@ pub(crate) fn measured<A: Answer>(
         0 (rights columns.now)) }
 {
     let mut made = header_shapes(alloc, columns)?;
-    let mut shown = ShownLine::new(alloc, columns, answer)?;
-    for place in 0..lines.len() {
-        let line = line_at(lines, place);
-        shown.show(context, answer, line)?;
-        widen(alloc, &mut made, &shown)?;
-    }
+    widen_all(alloc, &mut made, columns, context, answer, lines)?;
     Ok(made)
+}
+
+/// Makes the columns of headers as wide as the texts of lines.
+fn widen_all<A: Answer>(
+    alloc: Global,
+    all: &mut Vec<Shape>,
+    columns: &[Column],
+    context: &Context,
+    answer: &A,
+    lines: &[Line],
+) -> Result<(), OutOfMemory>
+    requires { All (IsWithin context.now) lines.now }
+    ensures { OnOk result ((head : List (List ℕ))
+        → all.old.items ≡ shapes_of (head ∷ []) 0 (rights columns.now)
+        → all.new.items ≡ shapes_of (head ∷ map (λ line. line_texts columns.now
+        (shown context.now (A.answer answer.now).rows.rows line)) lines.now)
+        0 (rights columns.now)) }
+{
+    let mut shown = ShownLine::new(alloc, columns, answer)?;
+    widen_each(alloc, all, &mut shown, context, answer, lines)
+}
+
+/// Makes the columns as wide as the texts of lines, each of which is shown in place of the one
+/// before.
+fn widen_each<A: Answer>(
+    alloc: Global,
+    all: &mut Vec<Shape>,
+    at: &mut ShownLine,
+    context: &Context,
+    answer: &A,
+    lines: &[Line],
+) -> Result<(), OutOfMemory>
+    requires within { All (IsWithin context.now) lines.now }
+    requires ready { A.is_ready answer.now at.old.cells }
+    ensures { OnOk result ((columns : List columns.Column) (head : List (List ℕ))
+        → IsForLines columns at.old
+        → all.old.items ≡ shapes_of (head ∷ []) 0 (rights columns)
+        → all.new.items ≡ shapes_of (head ∷ map (λ line. line_texts columns
+        (shown context.now (A.answer answer.now).rows.rows line)) lines.now)
+        0 (rights columns)) }
+{
+    for place in 0..lines.len() {
+        at.show(context, answer, line_at(lines, place))?;
+        widen(alloc, all, at)?;
+    }
+    Ok(())
 }
 
 /// The columns of the headers alone.

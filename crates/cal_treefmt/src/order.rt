@@ -58,11 +58,7 @@ fn parent(context: &Context, number: usize) -> Result<NodeNumber, OutOfMemory>
 }
 
 /// The same by the chains of the children.
-fn places(
-    alloc: Global,
-    context: &Context,
-    children: &Chains,
-) -> Result<Vec<usize>, OutOfMemory>
+fn places(alloc: Global, context: &Context, children: &Chains) -> Result<Vec<usize>, OutOfMemory>
     requires { AreChildren context.now children.now }
     ensures within { IfOk result (λ places.
         All (λ k. k < length (nodes_in context.now)) places.items) }

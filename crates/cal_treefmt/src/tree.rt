@@ -4,7 +4,7 @@ ghost use Rattle.cal_rowset.specs.declared.rowset.Column as columns;
 ghost use Rattle.cal_tabfmt.specs.Grid.{grid_line};
 ghost use Rattle.cal_treefmt.specs.Lines as lines;
 ghost use Rattle.cal_treefmt.specs.Plans.{IsPlan, IsWithin, shown};
-ghost use Rattle.cal_treefmt.specs.Shown.{ShowsLine};
+ghost use Rattle.cal_treefmt.specs.Shown.{IsForLines, ShowsLine};
 ghost use Rattle.cal_treefmt.specs.Tree.{header_texts, line_texts, tree};
 
 use crate::columns::columns_beside;
@@ -78,10 +78,29 @@ fn write_lines<A: Answer>(
         (shown context.now (A.answer answer.now).rows.rows line))) lines.now) }
 {
     let mut shown = ShownLine::new(alloc, columns, answer)?;
+    write_each(alloc, out, shapes, &mut shown, context, answer, lines)
+}
+
+/// Writes lines, each of which is shown in place of the one before.
+fn write_each<A: Answer>(
+    alloc: Global,
+    out: &mut Text,
+    shapes: &[Shape],
+    at: &mut ShownLine,
+    context: &Context,
+    answer: &A,
+    lines: &[Line],
+) -> Result<(), OutOfMemory>
+    requires within { All (IsWithin context.now) lines.now }
+    requires ready { A.is_ready answer.now at.old.cells }
+    ensures { OnOk result ((columns : List columns.Column) → IsForLines columns at.old
+        → length shapes.now ≡ suc (length columns) → out.new ≡ out.old
+        ++ flat_map (λ line. grid_line shapes.now (line_texts columns
+        (shown context.now (A.answer answer.now).rows.rows line))) lines.now) }
+{
     for place in 0..lines.len() {
-        let line = line_at(lines, place);
-        shown.show(context, answer, line)?;
-        write_line(alloc, out, shapes, &shown)?;
+        at.show(context, answer, line_at(lines, place))?;
+        write_line(alloc, out, shapes, at)?;
     }
     Ok(())
 }

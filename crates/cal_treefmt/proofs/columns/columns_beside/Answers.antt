@@ -1,4 +1,4 @@
-use Rattle.std.proofs.Common.{List, ap, subst, ◌∙◌, take}
+use Rattle.std.proofs.Common.{ap, ◌∙◌}
 use Rattle.std.proofs.lemmas.List.{take_all}
 use Rattle.cal_rowset.specs.Texts.{is_same}
 use Rattle.cal_treefmt.specs.Columns.{columns_beside}

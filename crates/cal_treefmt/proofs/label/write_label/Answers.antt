@@ -1,5 +1,4 @@
 use Rattle.std.proofs.lemmas.Result.{on_ok_weaker}
-use Rattle.cal_treefmt.specs.Lines.{label}
 use Rattle.cal_treefmt.proofs.Lining.{label-written}
 use Rattle.cal_treefmt.proofs.label.write_label.Goals as goal
 

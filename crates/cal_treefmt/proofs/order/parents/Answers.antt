@@ -1,4 +1,4 @@
-use Rattle.std.proofs.Common.{arith, sym, subst}
+use Rattle.std.proofs.Common.{arith}
 use Rattle.cal_treefmt.proofs.Ordering.{parents-all, parents-more, parents-none}
 use Rattle.cal_treefmt.proofs.order.parents.Goals as goal
 

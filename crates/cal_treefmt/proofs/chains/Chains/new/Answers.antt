@@ -1,5 +1,4 @@
-use Rattle.std.proofs.Common.{arith}
-use Rattle.cal_treefmt.proofs.Chaining.{AreChains-more, AreChains-none}
+use Rattle.cal_treefmt.proofs.Chaining.{AreChains-none}
 use Rattle.cal_treefmt.proofs.chains.Chains.new.Goals as goal
 
 pub loop-place-init : goal.loop-place-init

@@ -1,4 +1,4 @@
-use Rattle.std.proofs.Common.{◌≡◌, Option, None, Some, slice_get, option_and_then, refl, sym, ap, ◌∙◌, subst, arith}
+use Rattle.std.proofs.Common.{◌≡◌, None, Some, slice_get, option_and_then, refl, sym, ap, ◌∙◌, subst, arith}
 use Rattle.cal_rowset.specs.Answers.{nth_row}
 use Rattle.cal_treefmt.specs.Shown.{ShowsBeside}
 use Rattle.cal_treefmt.proofs.Writing.{row-past, row-there}
