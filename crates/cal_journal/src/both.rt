@@ -1,7 +1,10 @@
-ghost use Rattle.std.specs.Prelude.{◌≡◌, ◌+◌, ◌<◌, ◌≤◌, ◌^◌, ◌∷◌, false, length, IfErr, IfNone};
-ghost use Rattle.std.specs.Prelude.{IfOk, IfSome};
+ghost use Rattle.std.specs.Prelude.{◌≡◌, ◌+◌, ◌<◌, ◌≤◌, ◌^◌, ◌∷◌, false, true, length, IfErr};
+ghost use Rattle.std.specs.Prelude.{IfNone, IfOk, IfSome};
+ghost use Rattle.cal_script.specs.Limits.{fits};
 ghost use Rattle.cal_script.specs.Lines.{lines_of};
+ghost use Rattle.cal_script.specs.Reader.{IsReading, state_of};
 ghost use Rattle.cal_script.specs.Rests.{bytes_in};
+ghost use Rattle.cal_script.specs.State.{no_lines, script_of};
 ghost use Rattle.cal_journal.specs.Both.{IsFront, IsRefusalOf, MeansBoth, begins, ends_word};
 ghost use Rattle.cal_journal.specs.Both.{script_length};
 
@@ -57,6 +60,26 @@ fn read_front(alloc: Global, bytes: &[u8]) -> Result<Front<'_>, BothEnd>
     ensures fault { IfErr result (λ end. IsRefusalOf bytes.now end) }
 {
     let mut reader = Reader::new(alloc);
+    let (line, rest) = read_lines(alloc, &mut reader, bytes)?;
+    let script = reader.into_script()?;
+    let rest = rest.bytes();
+    Ok(Front { script, line, rest })
+}
+
+/// Reads the lines of the script, by a reader of no lines. It gives how many they are, and the rest
+/// of the input.
+fn read_lines<'a>(
+    alloc: Global,
+    reader: &mut Reader,
+    bytes: &'a [u8],
+) -> Result<(u64, Rest<'a>), BothEnd>
+    requires start { state_of reader.old ≡ no_lines }
+    requires kept { IsReading reader.old }
+    requires fits { fits (state_of reader.old) ≡ true }
+    ensures front { IfOk result (λ at. IsFront bytes.now (script_of (state_of reader.new))
+        at.0 (bytes_in at.1)) }
+    ensures fault { IfErr result (λ end. IsRefusalOf bytes.now end) }
+{
     let mut rest = Rest::of(bytes);
     let mut line: u64 = 0;
     while let Some((text, after)) = script_line(rest) {
@@ -68,9 +91,7 @@ fn read_front(alloc: Global, bytes: &[u8]) -> Result<Front<'_>, BothEnd>
         }
         rest = after;
     }
-    let script = reader.into_script()?;
-    let rest = rest.bytes();
-    Ok(Front { script, line, rest })
+    Ok((line, rest))
 }
 
 /// The script and the journal that the bytes mean, or the script alone where no line begins a

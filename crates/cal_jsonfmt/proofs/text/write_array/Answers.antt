@@ -2,17 +2,16 @@ use Rattle.std.proofs.Common.{◌<◌, List, length, map, take, ap, subst, arith
 use Rattle.std.proofs.lemmas.List.{take_all}
 use Rattle.cal_value.specs.declared.record.Rec.{Rec}
 use Rattle.cal_rowset.specs.Answers.{nth_row}
-use Rattle.cal_rowset.specs.declared.rowset.Column.{Column}
-use Rattle.cal_jsonfmt.specs.Json.{array_json, row_json}
-use Rattle.cal_jsonfmt.specs.Writing.{WritesEach, WritesValue}
+use Rattle.cal_jsonfmt.specs.Json.{row_json}
+use Rattle.cal_jsonfmt.specs.Writing.{WritesEach}
 use Rattle.cal_jsonfmt.proofs.ObjectLemmas.{rows-more}
 use Rattle.cal_jsonfmt.proofs.WritingLemmas.{WritesValue-array}
-use Rattle.cal_jsonfmt.proofs.text.write_rows.Goals as goal
+use Rattle.cal_jsonfmt.proofs.text.write_array.Goals as goal
 
 pub loop-place-preserved : goal.loop-place-preserved
 loop-place-preserved g c =
     let kept = c.loop-place.invariant in
-    let columns = c.columns-columns.result.now in
+    let columns = c.args.columns.now in
     let rows = (g.A.Answer.answer c.args.answer.now).rows.rows in
     let place = c.loop-place.place in
     let within : place < length rows = omega (arith, c.row_count-place-end.ensures, c.loop-place-test.true) in
@@ -26,10 +25,9 @@ loop-place-preserved g c =
 
 pub returns : goal.returns
 returns g c =
-    let columns = c.columns-columns.result.now in
+    let columns = c.args.columns.now in
     let rows = (g.A.Answer.answer c.args.answer.now).rows.rows in
     let each = subst (λ (rs : List Rec). WritesEach c.begin_array.new.self c.loop-place.writer (map (row_json columns) rs))
     (take_all c.loop-place.place rows (omega (arith, c.row_count-place-end.ensures, c.loop-place-test.false))) c.loop-place.invariant.each in
-    subst (λ (cs : List Column). WritesValue c.args.writer.now c.end_array.new.self (array_json (map (row_json cs) rows))) c.columns-columns.ensures
-    (WritesValue-array c.args.writer.now c.begin_array.new.self c.loop-place.writer c.end_array.new.self (map (row_json columns) rows)
-    (c.in_ok-begin_array.ensures.room.0, c.in_ok-begin_array.ensures.ok) each (c.in_ok-end_array.ensures.room.0, c.in_ok-end_array.ensures.ok))
+    WritesValue-array c.args.writer.now c.begin_array.new.self c.loop-place.writer c.end_array.new.self (map (row_json columns) rows)
+    (c.in_ok-begin_array.ensures.room.0, c.in_ok-begin_array.ensures.ok) each (c.in_ok-end_array.ensures.room.0, c.in_ok-end_array.ensures.ok)

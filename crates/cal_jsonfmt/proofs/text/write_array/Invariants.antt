@@ -3,7 +3,7 @@ use Rattle.cal_rowset.specs.Showing.{IsFor}
 use Rattle.cal_jsonfmt.specs.Choosing.{AreFor}
 use Rattle.cal_jsonfmt.specs.Json.{row_json}
 use Rattle.cal_jsonfmt.specs.Writing.{WritesEach}
-use Rattle.cal_jsonfmt.proofs.text.write_rows.Given as goal
+use Rattle.cal_jsonfmt.proofs.text.write_array.Given as goal
 
 -- the objects of the rows so far
 abbrev pub invariant-loop-place : goal.invariant-loop-place

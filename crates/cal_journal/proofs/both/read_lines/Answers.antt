@@ -1,7 +1,7 @@
 use Rattle.std.proofs.Common.{rules}
 use Rattle.cal_script.specs.Rests.{bytes_in}
 use Rattle.cal_journal.proofs.JournalRuns.{front_on, front_falls, front_ends}
-use Rattle.cal_journal.proofs.both.read_front.Goals as goal
+use Rattle.cal_journal.proofs.both.read_lines.Goals as goal
 
 pub returns-in-Err-Bad-clause-fault : goal.returns-in-Err-Bad-clause-fault
 returns-in-Err-Bad-clause-fault c =
@@ -16,5 +16,4 @@ loop-text-preserved c =
 
 pub returns-clause-front : goal.returns-clause-front
 returns-clause-front c =
-    rw (c.in_ok-script.ensures, c.bytes-rest.ensures)
-    (front_ends c.args.bytes.now c.loop-text.line c.loop-text.reader (bytes_in c.loop-text.rest) c.loop-text.invariant c.in_default.ensures.none)
+    front_ends c.args.bytes.now c.loop-text.line c.loop-text.reader (bytes_in c.loop-text.rest) c.loop-text.invariant c.in_default.ensures.none
