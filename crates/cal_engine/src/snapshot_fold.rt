@@ -1,21 +1,24 @@
 ghost use Rattle.std.specs.Prelude.{◌≡◌, ℕ, [], ◌∷◌, ◌++◌, List, Option, is_some, length};
 ghost use Rattle.std.specs.Prelude.{map, IfOk, OnOk};
-ghost use Rattle.std.specs.List.{All};
+ghost use Rattle.std.specs.List.{All, filter_map};
 ghost use Rattle.cal_context.specs.Snapshots.{IsIn, meaning};
 ghost use Rattle.cal_context.specs.Taking.{TakesMore};
 ghost use Rattle.cal_context.specs.Tree.{Grows};
+ghost use Rattle.cal_filter.specs.Kept.{kept as kept_by};
 ghost use Rattle.cal_ql.specs.Valid.{IsValidQuery};
+ghost use Rattle.cal_rowset.specs.NumberedRows.{NumberedRow};
 ghost use Rattle.cal_rowset.specs.Numbers.{rowset_of};
 ghost use Rattle.cal_value.specs.declared.record.Rec.{Rec as ARecord};
 ghost use Rattle.cal_engine.specs.Answers.{answer_of};
 ghost use Rattle.cal_engine.specs.Keys.{room_of};
 ghost use Rattle.cal_engine.specs.Making.{MakesRows};
 ghost use Rattle.cal_engine.specs.Standing.{HasFolded};
-ghost use Rattle.cal_engine.specs.Tallies.{Holds};
+ghost use Rattle.cal_engine.specs.Tallies.{Holds, HoldsIn};
 
 use crate::fold::is_aggregated;
 use crate::gate::{Gate, copy_into};
 use crate::grouped_rows::GroupedRows;
+use crate::numbered::NumberedGroups;
 use crate::snapshot_columns::snapshot_columns;
 use crate::snapshot_rows::{OrderedRows, ordered_rows};
 use crate::tally::{TalliedGroups, Tally};
@@ -89,20 +92,7 @@ impl SnapshotFold {
             rows: _,
             full: _,
         } = self;
-        context.has_each_once();
-        if !is_aggregated(&query) {
-            return Err(OutOfMemory);
-        }
-        if !query.order.is_empty() {
-            return Err(OutOfMemory);
-        }
-        let TalliedGroups { own, groups } = tally.into_groups();
-        if query.group.is_some() {
-            let made = GroupedRows::moved(alloc, &query, own, groups, context)?;
-            return Ok(made);
-        }
-        let made = GroupedRows::new(alloc, &query, groups, context)?;
-        Ok(made)
+        rows_of_tally(alloc, &query, tally, context)
     }
 
     /// The answer over the records that were taken from a context as it stands. It takes memory and
@@ -120,11 +110,8 @@ impl SnapshotFold {
             full: _,
         } = self;
         let TalliedGroups { own, groups } = tally.into_groups();
-        let mut room = room(query.group.is_some(), context, own);
-        let OrderedRows { rows, order } = ordered_rows(alloc, &query, &mut room, groups, rows)?;
-        let columns = snapshot_columns(alloc, &query, &room, &rows, &order)?;
-        let all = query.select.is_none();
-        Ok(SnapshotRowset::new(room, rows, order, columns, all))
+        let room = room(query.group.is_some(), context, own);
+        answer_in(alloc, &query, room, groups, rows)
     }
 }
 
@@ -216,6 +203,48 @@ fn take_kept(
     }
     rows.push(alloc, snapshot)?;
     Ok(())
+}
+
+/// The rows of the groups of a tally, for a query that is aggregated and has no ORDER BY.
+fn rows_of_tally(
+    alloc: Global,
+    query: &Query,
+    tally: Tally,
+    context: &mut Context,
+) -> Result<GroupedRows, OutOfMemory>
+    ensures rows { IfOk result (λ made. (rs : List ARecord) (others : List NumberedRow)
+        → Holds context.old query.now (filter_map (kept_by query.now) rs) tally others
+        → MakesRows context.new query.now.aggs made (answer_of query.now rs).rows.rows) }
+    ensures grows { Grows context.old context.new }
+{
+    context.has_each_once();
+    if !is_aggregated(query) || !query.order.is_empty() {
+        return Err(OutOfMemory);
+    }
+    let TalliedGroups { own, groups } = tally.into_groups();
+    if query.group.is_some() {
+        return GroupedRows::moved(alloc, query, own, groups, context);
+    }
+    GroupedRows::new(alloc, query, groups, context)
+}
+
+/// The answer of groups or kept records in a context in which the keys of groups lie.
+fn answer_in(
+    alloc: Global,
+    query: &Query,
+    context: Context,
+    groups: NumberedGroups,
+    kept: SnapshotList,
+) -> Result<SnapshotRowset, OutOfMemory>
+    ensures { IfOk result (λ answer. (rs : List ARecord)
+        → HoldsIn context query.now (filter_map (kept_by query.now) rs) groups kept
+        → rowset_of answer ≡ answer_of query.now rs) }
+{
+    let mut context = context;
+    let OrderedRows { rows, order } = ordered_rows(alloc, query, &mut context, groups, kept)?;
+    let columns = snapshot_columns(alloc, query, &context, &rows, &order)?;
+    let all = query.select.is_none();
+    Ok(SnapshotRowset::new(context, rows, order, columns, all))
 }
 
 /// The tree in which the keys of groups lie. The other one is dropped.
