@@ -7,13 +7,14 @@ ghost use Rattle.cal_filter.specs.Filtered.{IsFiltered};
 ghost use Rattle.cal_ql.specs.Valid.{IsValidQuery};
 ghost use Rattle.cal_ql.specs.declared.query.Query.{Query as AQuery};
 ghost use Rattle.cal_value.specs.Reading.{IsSmall};
+ghost use Rattle.cal_value.specs.declared.variant.Variant.TheVariants as variant;
 ghost use Rattle.cal_engine.specs.Gates.{AreSmallBefore, IsGate, IsSmallAt};
 
 use crate::small::is_small;
 use cal_context::{Context, Immediate, NodeNumber, Snapshot};
 use cal_filter::Filter;
 use cal_ql::Query;
-use cal_value::{OutOfMemory, TryCopy, Variant};
+use cal_value::{OutOfMemory, Text, TryCopy, Variant};
 use std::alloc::Global;
 
 /// LET and WHERE of a query over records by number, whose numbers are no larger than 2^86.
@@ -188,16 +189,28 @@ fn copy_immediate(alloc: Global, imm: &mut Immediate, other: &Immediate) -> Resu
     copy_value(alloc, &mut imm.value, &other.value)
 }
 
-/// Makes a value the same as another.
+/// Makes a value the same as another. A number takes no call.
 fn copy_value(alloc: Global, value: &mut Variant, other: &Variant) -> Result<(), OutOfMemory>
     ensures { OnOk result (value.new ≡ other.now) }
 {
-    if let Variant::Text(text) = value {
-        if let Variant::Text(other) = other {
-            text.truncate(0);
-            return text.push_str(other.as_str());
-        }
+    match other {
+        Variant::Int(number) => *value = Variant::Int(*number),
+        Variant::Uint(number) => *value = Variant::Uint(*number),
+        Variant::Fixed(nanos) => *value = Variant::Fixed(*nanos),
+        Variant::Text(text) => return copy_text(alloc, value, text),
+        _ => *value = other.copy(alloc)?,
     }
-    *value = other.copy(alloc)?;
+    Ok(())
+}
+
+/// Makes a value a text.
+fn copy_text(alloc: Global, value: &mut Variant, other: &Text) -> Result<(), OutOfMemory>
+    ensures { OnOk result (value.new ≡ variant.Text other.now) }
+{
+    if let Variant::Text(text) = value {
+        text.truncate(0);
+        return text.push_str(other.as_str());
+    }
+    *value = Variant::Text(other.copy(alloc)?);
     Ok(())
 }
