@@ -7,14 +7,13 @@ ghost use Rattle.cal_filter.specs.Filtered.{IsFiltered};
 ghost use Rattle.cal_ql.specs.Valid.{IsValidQuery};
 ghost use Rattle.cal_ql.specs.declared.query.Query.{Query as AQuery};
 ghost use Rattle.cal_value.specs.Reading.{IsSmall};
-ghost use Rattle.cal_value.specs.declared.variant.Variant.TheVariants as variant;
 ghost use Rattle.cal_engine.specs.Gates.{AreSmallBefore, IsGate, IsSmallAt};
 
 use crate::small::is_small;
 use cal_context::{Context, Immediate, NodeNumber, Snapshot};
 use cal_filter::Filter;
 use cal_ql::Query;
-use cal_value::{OutOfMemory, Text, TryCopy, Variant};
+use cal_value::{OutOfMemory, TryCopy, Variant};
 use std::alloc::Global;
 
 /// LET and WHERE of a query over records by number, whose numbers are no larger than 2^86.
@@ -173,11 +172,24 @@ fn put_copy(
     if place < imms.len() {
         copy_immediate(alloc, &mut imms[place], imm)?;
     } else {
-        imms.push(Immediate {
-            attribute: imm.attribute,
-            value: imm.value.copy(alloc)?,
-        })?;
+        push_copy(alloc, imms, imm)?;
     }
+    Ok(())
+}
+
+/// Puts the copy of an immediate behind the others.
+#[inline(never)]
+fn push_copy(
+    alloc: Global,
+    imms: &mut Vec<Immediate>,
+    imm: &Immediate,
+) -> Result<(), OutOfMemory>
+    ensures { OnOk result (imms.new.items ≡ imms.old.items ++ imm.now ∷ []) }
+{
+    imms.push(Immediate {
+        attribute: imm.attribute,
+        value: imm.value.copy(alloc)?,
+    })?;
     Ok(())
 }
 
@@ -189,7 +201,7 @@ fn copy_immediate(alloc: Global, imm: &mut Immediate, other: &Immediate) -> Resu
     copy_value(alloc, &mut imm.value, &other.value)
 }
 
-/// Makes a value the same as another. A number takes no call.
+/// Makes a value the same as another. The kinds without memory of their own are written in place.
 fn copy_value(alloc: Global, value: &mut Variant, other: &Variant) -> Result<(), OutOfMemory>
     ensures { OnOk result (value.new ≡ other.now) }
 {
@@ -197,20 +209,22 @@ fn copy_value(alloc: Global, value: &mut Variant, other: &Variant) -> Result<(),
         Variant::Int(number) => *value = Variant::Int(*number),
         Variant::Uint(number) => *value = Variant::Uint(*number),
         Variant::Fixed(nanos) => *value = Variant::Fixed(*nanos),
-        Variant::Text(text) => return copy_text(alloc, value, text),
-        _ => *value = other.copy(alloc)?,
+        _ => return copy_larger(alloc, value, other),
     }
     Ok(())
 }
 
-/// Makes a value a text.
-fn copy_text(alloc: Global, value: &mut Variant, other: &Text) -> Result<(), OutOfMemory>
-    ensures { OnOk result (value.new ≡ variant.Text other.now) }
+/// The same, for a value with memory of its own.
+#[inline(never)]
+fn copy_larger(alloc: Global, value: &mut Variant, other: &Variant) -> Result<(), OutOfMemory>
+    ensures { OnOk result (value.new ≡ other.now) }
 {
     if let Variant::Text(text) = value {
-        text.truncate(0);
-        return text.push_str(other.as_str());
+        if let Variant::Text(other) = other {
+            text.truncate(0);
+            return text.push_str(other.as_str());
+        }
     }
-    *value = Variant::Text(other.copy(alloc)?);
+    *value = other.copy(alloc)?;
     Ok(())
 }
