@@ -218,9 +218,9 @@ module _ (t : Tree) (old new : Visits) (node top : NodeNumber) (visit : IsVisit 
       let above = attributes_on t top in
       let trail = map (attribute_at t) new.trail.items in
       sym (
-        ap (learned names) (names_plain (path_at t node) ∙ ap plain_names visit.path ∙ plain_names-append above trail)
-        ∙ fold-append learned_one names (plain_names above) (plain_names trail)
-        ∙ ap (λ ns. learned ns (plain_names trail)) (learned_again names above (holds_above (IsLearned names) t old new node top visit met))
+      ap (learned names) (names_plain (path_at t node) ∙ ap plain_names visit.path ∙ plain_names-append above trail)
+      ∙ fold-append learned_one names (plain_names above) (plain_names trail)
+      ∙ ap (λ ns. learned ns (plain_names trail)) (learned_again names above (holds_above (IsLearned names) t old new node top visit met))
       )
 
   -- and then what is on the paths of nodes that are met now is learned

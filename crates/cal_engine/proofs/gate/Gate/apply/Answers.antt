@@ -16,5 +16,4 @@ pub returns-clause-filtered : goal.returns-clause-filtered
 returns-clause-filtered c = λ q h.
     c.in_ok-keeps.ensures.filtered q
     (subst (λ f. IsFilter c.args.context.now q f) (sym c.in_ok-know_small.ensures.same) h.filter)
-    (small_record c.args.context.now c.args.snapshot.now c.requires (c.in_ok-know_small.ensures.small h.small)
-    (subst (λ (is : List Immediate). All (λ i. IsSmall i.value) is) c.deref.ensures.value (c.are_small.ensures c.if-not-are_small.false)))
+    (small_record c.args.context.now c.args.snapshot.now c.requires.within (c.in_ok-know_small.ensures.small h.small) c.requires.small)
