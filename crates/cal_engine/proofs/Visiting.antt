@@ -59,6 +59,7 @@ module _ (t : Tree) (link : Link) (at : NodeNumber) (linked : IsLinked t link at
           higher (inl m) = inl m
           higher (inr m) = inr (omega (arith, m.0, linked.child.later), m.1)
 
+-- what holds of each item holds of those in front
 All-front : {A : Type 0} (P : A → Type 0) (xs ys : List A) → All P (xs ++ ys) → All P xs
 All-front P xs ys all k d l = subst P (get_or_append_left xs ys d k l) (all k d (omega (arith, l, length-append xs ys)))
 
@@ -133,6 +134,7 @@ same_text = eq_by_cmp text_cmp
 pub learned_there : (names : List (List ℕ)) (name : List ℕ) → HasName names name → learned_one names name ≡ names
 learned_there names name has = ap (λ b. if b then names else names ++ name ∷ []) has
 
+-- a name that is there or comes last is there
 has-push : (name other : List ℕ) (names : List (List ℕ)) → (list_any (same_text name) names || same_text name other) ≡ true → HasName (names ++ other ∷ []) name
 has-push name other [] is = ap (λ b. b || false) is
 has-push name other (first ∷ names) is = by (same_text name first) is (has-push name other names)
@@ -167,6 +169,7 @@ pub kept : (names more : List (List ℕ)) (name : List ℕ) → HasName names na
 kept names [] name has = has
 kept names (other ∷ more) name has = kept (learned_one names other) more name (kept_one names other name has)
 
+-- the names of attributes, where the first is of the hierarchy or not
 abbrev names_of : Attribute → List Attribute → Bool → List (List ℕ)
 names_of a attributes nested = map (λ a. a.name) (if not nested then a ∷ filter (λ a. not (is_of_hierarchy a)) attributes else filter (λ a. not (is_of_hierarchy a)) attributes)
 

@@ -17,11 +17,12 @@ use Rattle.cal_engine.specs.declared.visits.Visits.{Visits}
 abbrev pub attributes_on : Tree → NodeNumber → List Attribute
 attributes_on t n = map (λ e. e.attr) (path_at t n)
 
+-- a node was met
 abbrev pub IsMet : List Bool → NodeNumber → Type 0
 IsMet met n = slice_index_or met n.0 false ≡ true
 
--- A way up from a node met the nodes of a trail and ended below the root's parent or at one that
--- was met before; no other is met now.
+-- A way up from a node met the nodes whose attributes are a trail, and ended at the root or at a
+-- node that was met before. What is met now was met before, or begins the node's path.
 pub record IsClimb (t : Tree) (old : List Bool) (node : NodeNumber) (new : List Bool)
     (trail : List AttributeNumber) (top : NodeNumber) : Type 0 where
   pub long : length new ≡ length t.paths
@@ -52,6 +53,7 @@ pub record MetWith (Q : Attribute → Type 0) (t : Tree) (v : Visits) : Type 0 w
 abbrev pub IsPlain : Attribute → Type 0
 IsPlain a = is_of_hierarchy a ≡ false
 
+-- a name is among these
 abbrev pub HasName : List (List ℕ) → List ℕ → Type 0
 HasName names name = list_any (eq_by_cmp text_cmp name) names ≡ true
 
@@ -59,7 +61,7 @@ HasName names name = list_any (eq_by_cmp text_cmp name) names ≡ true
 abbrev pub IsLearned : List (List ℕ) → Attribute → Type 0
 IsLearned names a = IsPlain a → HasName names a.name
 
--- what is kept of attributes by number is right
+-- of each attribute that is known, the name was learned
 pub record KnowsNames (t : Tree) (shown : ShownNames) : Type 0 where
   pub long : length shown.known.items ≡ length t.attributes
   pub known : (a : AttributeNumber) → slice_index_or shown.known.items a.0 false ≡ true

@@ -134,8 +134,7 @@ pub(crate) fn copy_into(
     put_copies(alloc, &mut copy.imms, &snapshot.imms)
 }
 
-/// Puts nodes in the place of those that are there. They are few, so that no call is worth its
-/// while.
+/// Puts nodes, of which a record has few, in the place of those that are there.
 fn put_nodes(nodes: &mut Vec<NodeNumber>, others: &[NodeNumber]) -> Result<(), OutOfMemory>
     ensures { OnOk result (nodes.new.items ≡ others.now) }
 {
@@ -218,7 +217,7 @@ fn copy_immediate(alloc: Global, imm: &mut Immediate, other: &Immediate) -> Resu
     copy_value(alloc, &mut imm.value, &other.value)
 }
 
-/// Makes a value the same as another. Whole numbers, which are the most, are written in place.
+/// Makes a value the same as another. A number is written in place.
 fn copy_value(alloc: Global, value: &mut Variant, other: &Variant) -> Result<(), OutOfMemory>
     ensures same { OnOk result (value.new ≡ other.now) }
     ensures small { OnOk result (IsSmall other.now) }
@@ -226,6 +225,7 @@ fn copy_value(alloc: Global, value: &mut Variant, other: &Variant) -> Result<(),
     match other {
         Variant::Int(number) if is_small(other) => *value = Variant::Int(*number),
         Variant::Uint(number) => *value = Variant::Uint(*number),
+        Variant::Fixed(nanos) if is_small(other) => *value = Variant::Fixed(*nanos),
         _ => return copy_other(alloc, value, other),
     }
     Ok(())

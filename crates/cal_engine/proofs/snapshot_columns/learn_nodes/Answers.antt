@@ -1,7 +1,6 @@
-use Rattle.std.proofs.Common.{List, get_or, map, subst, sym, ap, ◌∙◌, take, arith}
-use Rattle.std.proofs.lemmas.Grind.{common_steps}
-use Rattle.cal_context.specs.Tree.{attribute_at, path_at}
-use Rattle.cal_engine.specs.Learning.{learned, names_beside, plain_names}
+use Rattle.std.proofs.Common.{get_or, map, ap, ◌∙◌, arith}
+use Rattle.cal_context.specs.Tree.{attribute_at}
+use Rattle.cal_engine.specs.Learning.{learned, plain_names}
 use Rattle.cal_engine.proofs.Visiting.{learned_more, learned_trail, met_learned}
 use Rattle.cal_engine.proofs.snapshot_columns.learn_nodes.Goals as goal
 

@@ -1,8 +1,5 @@
-use Rattle.std.proofs.Common.{List, subst, sym}
-use Rattle.std.specs.List.{All}
+use Rattle.std.proofs.Common.{subst, sym}
 use Rattle.cal_filter.specs.Ready.{IsFilter}
-use Rattle.cal_value.specs.Reading.{IsSmall}
-use Rattle.cal_context.specs.declared.snapshot.Immediate.{Immediate}
 use Rattle.cal_engine.proofs.Gating.{small_record}
 use Rattle.cal_engine.proofs.gate.Gate.apply.Goals as goal
 
