@@ -1,9 +1,10 @@
 -- Names learned in turn are those names in first-seen order.
-use Rattle.std.proofs.Common.{◌≡◌, ℕ, zero, suc, ◌<◌, Bool, true, false, not, ◌||◌, if◌then◌else◌, List, [], ◌∷◌, ◌++◌, codes, filter, get_or, length, map, refl, sym, ap, ◌∙◌, append_assoc, append-nil, arith}
+use Rattle.std.proofs.Common.{◌≡◌, ℕ, zero, suc, ◌+◌, ◌<◌, Bool, true, false, not, ◌||◌, if◌then◌else◌, List, [], ◌∷◌, ◌++◌, codes, filter, get_or, length, map, take, refl, sym, ap, ◌∙◌, append_assoc, append-nil, arith}
 use Rattle.std.specs.List.{flat_map, list_any}
 use Rattle.std.specs.Ordering.{eq_by_cmp}
 use Rattle.std.proofs.lemmas.Grind.{fold-append}
-use Rattle.std.proofs.lemmas.List.{map-append}
+use Rattle.std.proofs.lemmas.List.{map-append, map_more}
+use Rattle.std.proofs.lemmas.List.Folds.{list_any-append}
 use Rattle.cal_rowset.specs.Hierarchy.{hierarchy, is_of_hierarchy, other_entries}
 use Rattle.cal_rowset.specs.Texts.{first_seen}
 use Rattle.cal_value.specs.ExactOrder.{exact_equiv, exact_tells, text_exact}
@@ -71,15 +72,6 @@ learned_row names mid now row first step =
     all (e ∷ es) = ap (λ fs. e ∷ fs) (all es)
 
 -- a row has a hierarchy where some entry of some path is of it
-list_any-append : (q : Entry → Bool) (es fs : List Entry) → list_any q (es ++ fs) ≡ (list_any q es || list_any q fs)
-list_any-append q [] fs = refl
-list_any-append q (e ∷ es) fs = by (q e) (list_any-append q es fs)
-  where
-    by : (b : Bool) → list_any q (es ++ fs) ≡ (list_any q es || list_any q fs)
-        → (b || list_any q (es ++ fs)) ≡ ((b || list_any q es) || list_any q fs)
-    by true rest = refl
-    by false rest = rest
-
 has_entries-filter : (q : Entry → Bool) (es : List Entry) → list_any q es ≡ has_entries (filter q es)
 has_entries-filter q [] = refl
 has_entries-filter q (e ∷ es) = by (q e) (has_entries-filter q es)
@@ -107,3 +99,14 @@ any_at q f (y ∷ ys) (suc i) x l e h = by (q (f y)) (any_at q f ys i x (omega a
     by : (b : Bool) → list_any q (map f ys) ≡ true → (b || list_any q (map f ys)) ≡ true
     by true rest = refl
     by false rest = rest
+
+-- no item passes a test where none before it does and it does not
+pub none_both : (a b : Bool) → a ≡ false → b ≡ false → (a || (b || false)) ≡ false
+none_both a b ea eb = ap (λ x. x || (b || false)) ea ∙ ap (λ x. x || false) eb
+
+pub none_more : {A B : Type 0} (q : B → Bool) (f : A → B) (xs : List A) (i : ℕ) (d : A) → i < length xs
+    → list_any q (map f (take i xs)) ≡ false → q (f (get_or xs i d)) ≡ false → list_any q (map f (take (i + 1) xs)) ≡ false
+none_more q f xs i d l before here =
+    ap (list_any q) (map_more f xs i d l)
+    ∙ list_any-append q (map f (take i xs)) (f (get_or xs i d) ∷ [])
+    ∙ none_both _ _ before here

@@ -13,6 +13,7 @@ pub mod InPlace
 pub mod Ranking
 pub mod Folds
 pub mod Learned
+pub mod Visiting
 pub mod Trails
 pub mod Ascents
 pub mod Reaching

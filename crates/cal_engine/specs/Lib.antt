@@ -9,6 +9,7 @@ pub mod Rows
 pub mod Answers
 pub mod Folding
 pub mod Learning
+pub mod Visiting
 pub mod Trails
 pub mod Totals
 pub mod Finishing

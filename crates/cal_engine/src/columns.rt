@@ -133,11 +133,7 @@ fn learn_rows(alloc: Global, names: &mut IndexSet<Text>, rows: &[Rec]) -> Result
     Ok(())
 }
 
-pub(crate) fn learn_row(
-    alloc: Global,
-    names: &mut IndexSet<Text>,
-    row: &Rec,
-) -> Result<(), OutOfMemory>
+fn learn_row(alloc: Global, names: &mut IndexSet<Text>, row: &Rec) -> Result<(), OutOfMemory>
     ensures { OnOk result (names.new.keys
         ≡ learned names.old.keys (map (λ e. e.attr.name) (other_entries row.now))) }
 {
@@ -167,7 +163,11 @@ fn learn_entries(
 }
 
 /// Learns a name, which is copied where it is new.
-fn learn(alloc: Global, names: &mut IndexSet<Text>, name: &Text) -> Result<(), OutOfMemory>
+pub(crate) fn learn(
+    alloc: Global,
+    names: &mut IndexSet<Text>,
+    name: &Text,
+) -> Result<(), OutOfMemory>
     ensures { OnOk result (names.new.keys ≡ learned_one names.old.keys name.now) }
 {
     if !names.contains(name) {
@@ -177,7 +177,7 @@ fn learn(alloc: Global, names: &mut IndexSet<Text>, name: &Text) -> Result<(), O
 }
 
 /// Whether a row has entries of the hierarchy.
-pub(crate) fn has_hierarchy(row: &Rec) -> bool
+fn has_hierarchy(row: &Rec) -> bool
     ensures { result ≡ has_entries (hierarchy row.now) }
 {
     some_nested(row.paths.as_slice())

@@ -56,13 +56,14 @@ impl Gate {
     }
 
     /// Appends the immediates of LET to a snapshot, and answers whether WHERE keeps it. A number
-    /// above 2^86 in magnitude is answered as want of memory is.
+    /// above 2^86 in magnitude at a node is answered as want of memory is.
     pub(crate) fn apply(
         &mut self,
         context: &Context,
         snapshot: &mut Snapshot,
     ) -> Result<bool, OutOfMemory>
-        requires { IsIn context.now snapshot.old }
+        requires within { IsIn context.now snapshot.old }
+        requires small { All (λ imm. IsSmall imm.value) snapshot.old.imms.items }
         ensures within { OnOk result (IsIn context.now snapshot.new) }
         ensures stays { OnOk result ((q : AQuery) → IsGate context.now q self.old
             → IsGate context.now q self.new) }
@@ -71,9 +72,6 @@ impl Gate {
             keeps) }
     {
         self.know_small(context)?;
-        if !are_small(&snapshot.imms) {
-            return Err(OutOfMemory);
-        }
         let keeps = self.filter.apply(context, snapshot)?;
         Ok(keeps)
     }
@@ -92,12 +90,6 @@ impl Gate {
         self.small = context.node_count();
         Ok(())
     }
-}
-
-fn are_small(imms: &[Immediate]) -> bool
-    ensures { IsTrue result → All (λ imm. IsSmall imm.value) imms.now }
-{
-    imms.iter().all(|imm| is_small(&imm.value))
 }
 
 fn are_small_from(context: &Context, from: usize) -> bool
@@ -126,7 +118,8 @@ fn has_small_entry(context: &Context, node: NodeNumber) -> bool
     }
 }
 
-/// Makes a snapshot the same as another. The memory of its texts serves again.
+/// Makes a snapshot the same as another. The memory of its texts serves again. A number above 2^86
+/// in magnitude is answered as want of memory is.
 pub(crate) fn copy_into(
     alloc: Global,
     snapshot: &Snapshot,
@@ -134,11 +127,31 @@ pub(crate) fn copy_into(
 ) -> Result<(), OutOfMemory>
     ensures nodes { OnOk result (copy.new.nodes.items ≡ snapshot.now.nodes.items) }
     ensures imms { OnOk result (copy.new.imms.items ≡ snapshot.now.imms.items) }
+    ensures small { OnOk result (All (λ imm. IsSmall imm.value) snapshot.now.imms.items) }
 {
-    copy.nodes.clear();
-    copy.nodes.extend_from_slice(&snapshot.nodes)?;
-    copy.imms.truncate(snapshot.imms.len());
+    put_nodes(&mut copy.nodes, &snapshot.nodes)?;
+    shorten(&mut copy.imms, snapshot.imms.len());
     put_copies(alloc, &mut copy.imms, &snapshot.imms)
+}
+
+/// Puts nodes, of which a record has few, in the place of those that are there.
+fn put_nodes(nodes: &mut Vec<NodeNumber>, others: &[NodeNumber]) -> Result<(), OutOfMemory>
+    ensures { OnOk result (nodes.new.items ≡ others.now) }
+{
+    nodes.clear();
+    for node in others {
+        nodes.push(*node)?;
+    }
+    Ok(())
+}
+
+/// Takes the immediates behind the first ones away.
+fn shorten(imms: &mut Vec<Immediate>, count: usize)
+    ensures { length imms.new.items ≤ count }
+{
+    while imms.len() > count {
+        let _ = imms.pop();
+    }
 }
 
 /// Puts copies of immediates in the place of those that are there.
@@ -148,7 +161,8 @@ fn put_copies(
     others: &[Immediate],
 ) -> Result<(), OutOfMemory>
     requires { length imms.old.items ≤ length others.now }
-    ensures { OnOk result (imms.new.items ≡ others.now) }
+    ensures same { OnOk result (imms.new.items ≡ others.now) }
+    ensures small { OnOk result (All (λ imm. IsSmall imm.value) others.now) }
 {
     for (place, imm) in others.iter().enumerate() {
         put_copy(alloc, imms, place, imm)?;
@@ -168,30 +182,64 @@ fn put_copy(
         (take (place + 1) imms.new.items ≡ take place imms.old.items ++ imm.now ∷ []) }
     ensures long { OnOk result
         (length imms.new.items ≡ max (length imms.old.items) (place + 1)) }
+    ensures small { OnOk result (IsSmall imm.now.value) }
 {
     if place < imms.len() {
         copy_immediate(alloc, &mut imms[place], imm)?;
     } else {
-        imms.push(Immediate {
-            attribute: imm.attribute,
-            value: imm.value.copy(alloc)?,
-        })?;
+        push_copy(alloc, imms, imm)?;
     }
+    Ok(())
+}
+
+/// Puts the copy of an immediate behind the others.
+#[inline(never)]
+fn push_copy(alloc: Global, imms: &mut Vec<Immediate>, imm: &Immediate) -> Result<(), OutOfMemory>
+    ensures pushed { OnOk result (imms.new.items ≡ imms.old.items ++ imm.now ∷ []) }
+    ensures small { OnOk result (IsSmall imm.now.value) }
+{
+    if !is_small(&imm.value) {
+        return Err(OutOfMemory);
+    }
+    imms.push(Immediate {
+        attribute: imm.attribute,
+        value: imm.value.copy(alloc)?,
+    })?;
     Ok(())
 }
 
 /// Makes an immediate the same as another.
 fn copy_immediate(alloc: Global, imm: &mut Immediate, other: &Immediate) -> Result<(), OutOfMemory>
-    ensures { OnOk result (imm.new ≡ other.now) }
+    ensures same { OnOk result (imm.new ≡ other.now) }
+    ensures small { OnOk result (IsSmall other.now.value) }
 {
     imm.attribute = other.attribute;
     copy_value(alloc, &mut imm.value, &other.value)
 }
 
-/// Makes a value the same as another.
+/// Makes a value the same as another. A number is written in place.
 fn copy_value(alloc: Global, value: &mut Variant, other: &Variant) -> Result<(), OutOfMemory>
-    ensures { OnOk result (value.new ≡ other.now) }
+    ensures same { OnOk result (value.new ≡ other.now) }
+    ensures small { OnOk result (IsSmall other.now) }
 {
+    match other {
+        Variant::Int(number) if is_small(other) => *value = Variant::Int(*number),
+        Variant::Uint(number) => *value = Variant::Uint(*number),
+        Variant::Fixed(nanos) if is_small(other) => *value = Variant::Fixed(*nanos),
+        _ => return copy_other(alloc, value, other),
+    }
+    Ok(())
+}
+
+/// The same, for a value of any kind.
+#[inline(never)]
+fn copy_other(alloc: Global, value: &mut Variant, other: &Variant) -> Result<(), OutOfMemory>
+    ensures same { OnOk result (value.new ≡ other.now) }
+    ensures small { OnOk result (IsSmall other.now) }
+{
+    if !is_small(other) {
+        return Err(OutOfMemory);
+    }
     if let Variant::Text(text) = value {
         if let Variant::Text(other) = other {
             text.truncate(0);

@@ -26,6 +26,7 @@ mod other_parts;
 mod own_ways;
 mod part;
 mod reading;
+mod shown_names;
 mod sieve;
 mod sieves;
 mod small;
@@ -37,6 +38,7 @@ mod sorting;
 mod stepping;
 mod tally;
 mod upwards;
+mod visits;
 mod ways;
 mod within;
 

@@ -1,19 +1,24 @@
-ghost use Rattle.std.specs.Prelude.{◌≡◌, map, IfOk, OnOk};
+ghost use Rattle.std.specs.Prelude.{◌≡◌, ◌<◌, false, true, length, map, IfOk, OnOk};
 ghost use Rattle.std.specs.List.{All, flat_map, list_any};
-ghost use Rattle.cal_rowset.specs.Hierarchy.{hierarchy, other_entries};
+ghost use Rattle.cal_context.specs.Snapshots.{IsBelowRoot};
+ghost use Rattle.cal_context.specs.Tree.{attribute_at, path_at};
+ghost use Rattle.cal_rowset.specs.Hierarchy.{hierarchy, is_of_hierarchy as is_nested};
+ghost use Rattle.cal_rowset.specs.Hierarchy.{other_entries};
 ghost use Rattle.cal_rowset.specs.NumberedRows.{IsWithin, in_order, meant, nth_numbered};
+ghost use Rattle.cal_value.specs.Flat.{joined};
 ghost use Rattle.cal_engine.specs.Answers.{columns_of as columns_by, plain_column};
 ghost use Rattle.cal_engine.specs.Answers.{shown_names};
 ghost use Rattle.cal_engine.specs.Groups.{has_entries};
-ghost use Rattle.cal_engine.specs.Learning.{learned};
+ghost use Rattle.cal_engine.specs.Learning.{learned, names_beside};
+ghost use Rattle.cal_engine.specs.Visiting.{IsLearned, IsPlain, KnowsNames, MetWith};
 
-use crate::columns::{
-    add_columns, first_names, group_columns, has_hierarchy, item_columns, learn_row,
-};
-use cal_context::{Context, Snapshot, expand};
+use crate::columns::{add_columns, first_names, group_columns, item_columns};
+use crate::shown_names::ShownNames;
+use crate::visits::Visits;
+use cal_context::{AttributeNumber, Context, NodeNumber};
 use cal_ql::Query;
-use cal_rowset::{Column, SnapshotList};
-use cal_value::{OutOfMemory, Rec, Seq, Text};
+use cal_rowset::{Column, SnapshotList, is_of_hierarchy};
+use cal_value::{OutOfMemory, Seq, Text};
 use indexmap::IndexSet;
 use std::alloc::Global;
 
@@ -68,9 +73,9 @@ fn shown(
         names.keys ≡ shown_names (map (meant context.now) (in_order rows.now order.now))) }
 {
     let nested = some_hierarchy(alloc, context, rows, order)?;
-    let mut names = first_names(alloc, nested)?;
-    learn_rows(alloc, &mut names, context, rows, order)?;
-    Ok(names)
+    let mut shown = ShownNames::new(alloc, context, first_names(alloc, nested)?)?;
+    learn_rows(alloc, &mut shown, context, rows, order)?;
+    Ok(shown.names)
 }
 
 /// Whether some row has entries of the hierarchy.
@@ -85,50 +90,115 @@ fn some_hierarchy(
         ≡ list_any (λ row. has_entries (hierarchy row))
         (map (meant context.now) (in_order rows.now order.now))) }
 {
-    let mut room = Snapshot::new(alloc);
+    let mut visits = Visits::new(alloc, context)?;
     for place in order {
-        let row = row_at(alloc, context, rows, *place, &mut room)?;
-        if has_hierarchy(&row) {
+        if some_nested(context, rows.nodes(*place), &mut visits)? {
             return Ok(true);
         }
     }
     Ok(false)
 }
 
-/// Learns the names of the entries of rows, those of hierarchies aside. One row at a time is
-/// expanded.
+/// Whether some path has entries of the hierarchy, where those of nodes that were met have none.
+fn some_nested(
+    context: &Context,
+    nodes: &[NodeNumber],
+    visits: &mut Visits,
+) -> Result<bool, OutOfMemory>
+    requires within { All (IsBelowRoot context.now) nodes.now }
+    requires met { MetWith IsPlain context.now visits.old }
+    ensures met { IfOk result (λ some. some ≡ false → MetWith IsPlain context.now visits.new) }
+    ensures some { IfOk result (λ some. some ≡ list_any (λ path. list_any
+        (λ e. is_nested e.attr) path) (map (path_at context.now) nodes.now)) }
+{
+    for node in nodes {
+        let _ = visits.visit(context, *node)?;
+        if has_nested(context, &visits.trail) {
+            return Ok(true);
+        }
+    }
+    Ok(false)
+}
+
+fn has_nested(context: &Context, trail: &[AttributeNumber]) -> bool
+    requires { All (λ a. a.0 < length context.now.attributes) trail.now }
+    ensures { result ≡ list_any is_nested (map (attribute_at context.now) trail.now) }
+{
+    for attribute in trail {
+        if is_of_hierarchy(context.attribute_at(*attribute)) {
+            return true;
+        }
+    }
+    false
+}
+
+/// Learns the names of the entries of rows, those of hierarchies aside. Each node is looked at
+/// once, however many rows have it on their paths.
 fn learn_rows(
     alloc: Global,
-    names: &mut IndexSet<Text>,
+    shown: &mut ShownNames,
     context: &Context,
     rows: &SnapshotList,
     order: &[usize],
 ) -> Result<(), OutOfMemory>
-    requires { All (IsWithin context.now) rows.now }
-    ensures { OnOk result (names.new.keys ≡ learned names.old.keys
+    requires within { All (IsWithin context.now) rows.now }
+    requires knows { KnowsNames context.now shown.old }
+    ensures { OnOk result (shown.new.names.keys ≡ learned shown.old.names.keys
         (flat_map (λ row. map (λ e. e.attr.name) (other_entries row))
         (map (meant context.now) (in_order rows.now order.now)))) }
 {
-    let mut room = Snapshot::new(alloc);
+    let mut visits = Visits::new(alloc, context)?;
     for place in order {
-        let row = row_at(alloc, context, rows, *place, &mut room)?;
-        learn_row(alloc, names, &row)?;
+        learn_row(alloc, shown, context, rows, *place, &mut visits)?;
     }
     Ok(())
 }
 
-/// The record that the row at a place means. `room` is what a snapshot of it may take.
-fn row_at(
+/// Learns the names of the entries of a row, where those on the paths of nodes that were met are
+/// learned.
+fn learn_row(
     alloc: Global,
+    shown: &mut ShownNames,
     context: &Context,
     rows: &SnapshotList,
     place: usize,
-    room: &mut Snapshot,
-) -> Result<Rec, OutOfMemory>
-    requires { All (IsWithin context.now) rows.now }
-    ensures { IfOk result (λ row. row ≡ meant context.now (nth_numbered rows.now place)) }
+    visits: &mut Visits,
+) -> Result<(), OutOfMemory>
+    requires within { All (IsWithin context.now) rows.now }
+    requires knows { KnowsNames context.now shown.old }
+    requires met { MetWith (IsLearned shown.old.names.keys) context.now visits.old }
+    ensures knows { OnOk result (KnowsNames context.now shown.new) }
+    ensures met { OnOk result
+        (MetWith (IsLearned shown.new.names.keys) context.now visits.new) }
+    ensures learned { OnOk result (shown.new.names.keys ≡ learned shown.old.names.keys
+        (map (λ e. e.attr.name)
+        (other_entries (meant context.now (nth_numbered rows.now place))))) }
 {
-    rows.copy_to(alloc, place, room)?;
-    let row = expand(alloc, context, room)?;
-    Ok(row)
+    learn_nodes(alloc, shown, context, rows.nodes(place), visits)?;
+    shown.learn_immediates(alloc, context, rows.imms(place))?;
+    Ok(())
+}
+
+/// Learns the names on the paths of nodes, in the same way.
+fn learn_nodes(
+    alloc: Global,
+    shown: &mut ShownNames,
+    context: &Context,
+    nodes: &[NodeNumber],
+    visits: &mut Visits,
+) -> Result<(), OutOfMemory>
+    requires within { All (IsBelowRoot context.now) nodes.now }
+    requires knows { KnowsNames context.now shown.old }
+    requires met { MetWith (IsLearned shown.old.names.keys) context.now visits.old }
+    ensures knows { OnOk result (KnowsNames context.now shown.new) }
+    ensures met { OnOk result
+        (MetWith (IsLearned shown.new.names.keys) context.now visits.new) }
+    ensures learned { OnOk result (shown.new.names.keys ≡ learned shown.old.names.keys
+        (names_beside true (joined (map (path_at context.now) nodes.now)))) }
+{
+    for node in nodes {
+        let _ = visits.visit(context, *node)?;
+        shown.learn_trail(alloc, context, &visits.trail)?;
+    }
+    Ok(())
 }

@@ -1,8 +1,5 @@
-use Rattle.std.proofs.Common.{List, subst, sym}
-use Rattle.std.specs.List.{All}
+use Rattle.std.proofs.Common.{subst, sym}
 use Rattle.cal_filter.specs.Ready.{IsFilter}
-use Rattle.cal_value.specs.Reading.{IsSmall}
-use Rattle.cal_context.specs.declared.snapshot.Immediate.{Immediate}
 use Rattle.cal_engine.proofs.Gating.{small_record}
 use Rattle.cal_engine.proofs.gate.Gate.apply.Goals as goal
 
@@ -16,5 +13,4 @@ pub returns-clause-filtered : goal.returns-clause-filtered
 returns-clause-filtered c = λ q h.
     c.in_ok-keeps.ensures.filtered q
     (subst (λ f. IsFilter c.args.context.now q f) (sym c.in_ok-know_small.ensures.same) h.filter)
-    (small_record c.args.context.now c.args.snapshot.now c.requires (c.in_ok-know_small.ensures.small h.small)
-    (subst (λ (is : List Immediate). All (λ i. IsSmall i.value) is) c.deref.ensures.value (c.are_small.ensures c.if-not-are_small.false)))
+    (small_record c.args.context.now c.args.snapshot.now c.requires.within (c.in_ok-know_small.ensures.small h.small) c.requires.small)
