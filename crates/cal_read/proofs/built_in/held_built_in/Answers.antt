@@ -2,6 +2,7 @@ use Rattle.std.proofs.Common.{Some, sym, ap, ◌∙◌, subst}
 use Rattle.std.proofs.lemmas.Result.{IfOk-weaker}
 use Rattle.cal_value.specs.Kinds.{kind_node}
 use Rattle.cal_value.specs.declared.variant.Variant.TheVariants as value
+use Rattle.cal_context.proofs.CallerLemmas.{Grows-trans}
 use Rattle.cal_read.specs.BuiltIn.{node_of_built_in, node_of_kind}
 use Rattle.cal_read.specs.Held.{IsAt}
 use Rattle.cal_read.specs.Nodes.{steps_to}
@@ -18,3 +19,12 @@ returns-clause-held c =
       value = ap value.Text (sym (c.in_ok-from_str.ensures ∙ c.name.ensures));
       parent = ap (λ k. Some (kind_node k)) (sym c.kind-2.ensures) ∙ ap Some (sym c.node.ensures);
     })) c.held_there.ensures.held
+
+pub returns-in_err-attribute-2-clause-grows : goal.returns-in_err-attribute-2-clause-grows
+returns-in_err-attribute-2-clause-grows c = Grows-trans _ _ _ c.held_kind.ensures.grows c.attribute-2.ensures.grows
+
+pub returns-in_err-from_str-clause-grows : goal.returns-in_err-from_str-clause-grows
+returns-in_err-from_str-clause-grows c = Grows-trans _ _ _ c.held_kind.ensures.grows c.attribute-2.ensures.grows
+
+pub returns-clause-grows : goal.returns-clause-grows
+returns-clause-grows c = Grows-trans _ _ _ c.held_kind.ensures.grows (Grows-trans _ _ _ c.attribute-2.ensures.grows c.held_there.ensures.grows)

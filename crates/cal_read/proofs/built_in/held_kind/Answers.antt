@@ -1,5 +1,6 @@
 use Rattle.std.proofs.Common.{sym, ◌∙◌, refl}
 use Rattle.std.proofs.lemmas.Result.{IfOk-weaker}
+use Rattle.cal_context.proofs.CallerLemmas.{Grows-trans}
 use Rattle.cal_read.specs.BuiltIn.{node_of_kind}
 use Rattle.cal_read.proofs.HeldLemmas.{added_attribute}
 use Rattle.cal_read.proofs.built_in.held_kind.Goals as goal
@@ -13,3 +14,6 @@ returns-clause-held c =
       value = refl;
       parent = refl;
     })) c.held_there.ensures.held
+
+pub returns-clause-grows : goal.returns-clause-grows
+returns-clause-grows c = Grows-trans _ _ _ c.attribute-2.ensures.grows c.held_there.ensures.grows

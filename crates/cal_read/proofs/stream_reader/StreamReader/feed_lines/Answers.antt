@@ -83,3 +83,9 @@ returns-clause-taken g c =
     on_ok_weaker c.begin.result (λ read bytes h. subst (TakesUpTo had has (rows_before bytes))
     (sym (rows_begun c.loop-line.self c.loop-line.context (bytes ++ turn.0) (turn.2 bytes h) (bytes_in c.loop-line.rest) c.in_default.ensures.none)
     ∙ ap rows_before (append_assoc bytes turn.0 (bytes_in c.loop-line.rest) ∙ ap (λ p. bytes ++ p) (sym turn.1))) (turn.3 bytes h)) c.begin.ensures.read
+
+pub returns-in_err-end_line-clause-grows : goal.returns-in_err-end_line-clause-grows
+returns-in_err-end_line-clause-grows g c = Grows-trans _ _ _ c.loop-line.invariant.0 c.end_line.ensures.grows
+
+pub returns-in_err-rest-clause-grows : goal.returns-in_err-rest-clause-grows
+returns-in_err-rest-clause-grows g c = Grows-trans _ _ _ c.loop-line.invariant.0 c.in_ok-end_line.ensures.grows
