@@ -1,16 +1,14 @@
 use crate::drawn::fault_of;
-use cal_script::{Line, ProbeKind, ScriptKind, meaning_law, read_script};
-use cal_value::{Kind, Props, Variant};
-use std::test::Fail;
+use cal_script::{Line, ProbeKind, Script, ScriptKind, meaning_law, read_script};
+use cal_value::{Kind, OutOfMemory, Props, Variant};
+use std::alloc::Global;
+use std::process::Abort;
 
 const WHOLE: &str = "attribute f string 276\nattribute h string 512\nglobal h n\\n1\n\
     channel t region.count,trace,event,region.depth\nchannel p timer,aggregate\nkey path f\n\
     thread\nbegin f main\nset f  a b\nend f\nsnapshot\nflush p\ntick 007\nthread\n";
 
-#[test]
-fn a_script_is_plain_data(rt: HostRuntime) -> Result<(), Fail> {
-    meaning_law();
-    let script = read_script(rt.alloc(), WHOLE.as_bytes())?;
+fn has_lines(script: &Script) -> bool {
     let lines = [
         Line::Begin { attr: 0, value: 0 },
         Line::Set { attr: 0, value: 1 },
@@ -19,75 +17,123 @@ fn a_script_is_plain_data(rt: HostRuntime) -> Result<(), Fail> {
         Line::Flush { channel: 1 },
         Line::Tick { n: 7 },
     ];
-    assert_eq!(rt; script.threads.len(), 2);
-    let first = script.threads.get(0).ok_or("a thread")?;
-    assert_eq!(rt; first.as_slice(), lines.as_slice());
-    let second = script.threads.get(1).ok_or("a thread")?;
-    assert!(rt; second.is_empty());
-    assert_eq!(rt; script.values.len(), 2);
-    let value = script.values.get(1).ok_or("a value")?;
-    assert!(rt; matches!(value, Variant::Text(text) if text.as_str() == " a b"));
-    Ok(())
+    let [first, second] = script.threads.as_slice() else {
+        return false;
+    };
+    first.as_slice() == lines.as_slice() && second.is_empty()
+}
+
+fn has_values(script: &Script) -> bool {
+    let Some(Variant::Text(text)) = script.values.get(1) else {
+        return false;
+    };
+    script.values.len() == 2 && text.as_str() == " a b"
+}
+
+fn has_attribute(script: &Script) -> bool {
+    let Some(attribute) = script.attributes.get(0) else {
+        return false;
+    };
+    attribute.name.as_str() == "f" && attribute.kind == Kind::Str && attribute.props == Props(276)
+}
+
+fn has_global(script: &Script) -> bool {
+    let Some(global) = script.globals.get(0) else {
+        return false;
+    };
+    let Variant::Text(text) = &global.value else {
+        return false;
+    };
+    global.attr.name.as_str() == "h" && text.as_str() == "n\n1"
+}
+
+fn has_trace(script: &Script) -> bool {
+    let Some(trace) = script.channels.get(0) else {
+        return false;
+    };
+    trace.event
+        && trace.trace
+        && !trace.timer
+        && !trace.aggregate
+        && trace.probes.as_slice() == [ProbeKind::Count, ProbeKind::Depth].as_slice()
+        && trace.query.by_default
+        && trace.query.values.is_empty()
+}
+
+fn has_profile(script: &Script) -> bool {
+    let Some(profile) = script.channels.get(1) else {
+        return false;
+    };
+    let Some(value) = profile.query.values.get(0) else {
+        return false;
+    };
+    !profile.query.by_default
+        && profile.query.keys.len() == 2
+        && value.as_str() == "time.duration.ns"
+}
+
+/// The script above is plain data.
+fn check_whole(rt: &impl Abort, script: &Script) {
+    assert!(rt; has_lines(script) && has_values(script), "lines");
+    assert!(rt; has_attribute(script) && has_global(script), "attributes");
+    assert!(rt; has_trace(script) && has_profile(script), "channels");
 }
 
 #[test]
-fn attributes_and_globals_are_plain_data(rt: HostRuntime) -> Result<(), Fail> {
-    let script = read_script(rt.alloc(), WHOLE.as_bytes())?;
-    let attribute = script.attributes.get(0).ok_or("an attribute")?;
-    assert_eq!(rt; attribute.name.as_str(), "f");
-    assert_eq!(rt; attribute.kind, Kind::Str);
-    assert_eq!(rt; attribute.props, Props(276));
-    let global = script.globals.get(0).ok_or("a global")?;
-    assert_eq!(rt; global.attr.name.as_str(), "h");
-    assert!(rt; matches!(&global.value, Variant::Text(text) if text.as_str() == "n\n1"));
-    Ok(())
-}
-
-#[test]
-fn channels_are_plain_data(rt: HostRuntime) -> Result<(), Fail> {
-    let script = read_script(rt.alloc(), WHOLE.as_bytes())?;
-    let trace = script.channels.get(0).ok_or("a channel")?;
-    assert!(rt; trace.event && trace.trace && !trace.timer && !trace.aggregate);
-    let probes = [ProbeKind::Count, ProbeKind::Depth];
-    assert_eq!(rt; trace.probes.as_slice(), probes.as_slice());
-    assert!(rt; trace.query.by_default && trace.query.values.is_empty());
-    let profile = script.channels.get(1).ok_or("a channel")?;
-    assert!(rt; !profile.query.by_default);
-    assert_eq!(rt; profile.query.keys.len(), 2);
-    let value = profile.query.values.get(0).ok_or("a value attribute")?;
-    assert_eq!(rt; value.as_str(), "time.duration.ns");
-    Ok(())
-}
-
-#[test]
-fn values_are_of_their_kinds(rt: HostRuntime) -> Result<(), Fail> {
-    let cases = [
-        ("int", "-9223372036854775808", true),
-        ("int", "9223372036854775807", true),
-        ("int", "-9223372036854775809", false),
-        ("int", "9223372036854775808", false),
-        ("int", "", false),
-        ("uint", "18446744073709551615", true),
-        ("uint", "18446744073709551616", false),
-        ("addr", "0xFFFFFFFFFFFFFFFF", true),
-        ("addr", "0x", false),
-        ("bool", "true", true),
-        ("bool", "yes", false),
-        ("double", "9223372036.854775807", true),
-        ("double", "9223372036.854775808", false),
-        ("double", "77371252455336267.181195265", true),
-        ("double", "", true),
-        ("string", "", true),
-    ];
-    for (kind, value, fine) in cases {
-        let text = format!(in rt.alloc(); "attribute a {kind} 0\nthread\nset a {value}\n")?;
-        let fault = fault_of(rt.alloc(), text.as_bytes())?;
-        let wanted = if fine {
-            None
-        } else {
-            Some((3, ScriptKind::BadValue))
-        };
-        assert_eq!(rt; fault, wanted, "{kind} {value}");
+fn a_script_is_plain_data(rt: HostRuntime) {
+    meaning_law();
+    match read_script(rt.alloc(), WHOLE.as_bytes()) {
+        Ok(script) => check_whole(&rt, &script),
+        Err(_) => assert!(rt; false, "no script"),
     }
-    Ok(())
+}
+
+/// Kinds, values, and whether each is one of its kind.
+const VALUES: [(&str, &str, bool); 16] = [
+    ("int", "-9223372036854775808", true),
+    ("int", "9223372036854775807", true),
+    ("int", "-9223372036854775809", false),
+    ("int", "9223372036854775808", false),
+    ("int", "", false),
+    ("uint", "18446744073709551615", true),
+    ("uint", "18446744073709551616", false),
+    ("addr", "0xFFFFFFFFFFFFFFFF", true),
+    ("addr", "0x", false),
+    ("bool", "true", true),
+    ("bool", "yes", false),
+    ("double", "9223372036.854775807", true),
+    ("double", "9223372036.854775808", false),
+    ("double", "77371252455336267.181195265", true),
+    ("double", "", true),
+    ("string", "", true),
+];
+
+fn values() -> &'static [(&'static str, &'static str, bool)] {
+    &VALUES
+}
+
+fn fault_of_value(
+    alloc: Global,
+    kind: &str,
+    value: &str,
+) -> Result<Option<(u64, ScriptKind)>, OutOfMemory> {
+    let text = format!(in alloc; "attribute a {kind} 0\nthread\nset a {value}\n")?;
+    fault_of(alloc, text.as_bytes())
+}
+
+fn wrong_value(alloc: Global) -> Result<Option<usize>, OutOfMemory> {
+    let rows = values();
+    for row in 0..rows.len() {
+        let (kind, value, fine) = rows[row];
+        let wanted = (!fine).then_some((3, ScriptKind::BadValue));
+        if fault_of_value(alloc, kind, value)? != wanted {
+            return Ok(Some(row));
+        }
+    }
+    Ok(None)
+}
+
+#[test]
+fn values_are_of_their_kinds(rt: HostRuntime) {
+    assert_eq!(rt; wrong_value(rt.alloc()), Ok(None), "the first wrong row");
 }

@@ -186,6 +186,7 @@ fn function(alloc: Global) -> Result<Attribute, OutOfMemory> {
 fn main_node(alloc: Global, context: &mut Context) -> Result<NodeNumber, OutOfMemory>
     ensures { IfOk result (IsBelowRoot context.new) }
 {
+    context.has_each_once();
     let attribute = context.attribute(&function(alloc)?)?;
     let main = Variant::Text(Text::from_str(alloc, "main")?);
     context.child(NodeNumber::ROOT, attribute, &main)
