@@ -1,10 +1,13 @@
-ghost use Rattle.std.specs.Prelude.{List, map, IfOk, IfSome, OnOk, option_copied};
+ghost use Rattle.std.specs.Prelude.{◌≡◌, [], List, map, IfOk, IfSome, OnOk, option_copied};
 ghost use Rattle.cal_context.specs.Taking.{TakesMore};
 ghost use Rattle.cal_context.specs.Tree.{Grows};
 ghost use Rattle.cal_engine.specs.Answers.{answer_of};
 ghost use Rattle.cal_engine.specs.Making.{MakesRows};
+ghost use Rattle.cal_engine.specs.Sorting.{sorted};
+ghost use Rattle.cal_engine.specs.Standing.{HasFolded};
 ghost use Rattle.cal_ql.specs.Valid.{IsValidQuery};
 ghost use Rattle.cal_ql.specs.declared.query.Agg.{Agg as AnAgg};
+ghost use Rattle.cal_records.specs.Groups.{group_records, rows_cmp};
 ghost use Rattle.cal_records.specs.Records.{grouped};
 ghost use Rattle.cal_records.specs.Told.{CountsRefused, told};
 ghost use Rattle.cal_rowset.specs.Answers.{nth_row};
@@ -20,7 +23,7 @@ use crate::same::same_query;
 use crate::sorting::sorted_by_group;
 use cal_context::{Context, Snapshot, Taker};
 use cal_engine::{GroupedRows, SnapshotFold};
-use cal_ql::Query;
+use cal_ql::{Agg, Query};
 use cal_run::Numbers;
 use cal_script::{Channel, Journal, Script};
 use cal_value::OutOfMemory;
@@ -51,9 +54,36 @@ pub(crate) fn take_groups<T: Taker>(
         return Ok(None);
     }
     let query = channel_query(alloc, &channel.query)?;
-    let (rows, refused) = group_rows(alloc, script, journal, channel, &query, numbers, context)?;
-    let order = sorted_by_group(alloc, context, query.aggs.as_slice(), &rows)?;
-    take_rows(alloc, &rows, order.as_slice(), context, taker)?;
+    take_query(
+        alloc, script, journal, channel, &query, numbers, context, taker,
+    )
+}
+
+/// The same by the channel's query.
+fn take_query<T: Taker>(
+    alloc: Global,
+    script: &Script,
+    journal: Option<&Journal>,
+    channel: &Channel,
+    query: &Query,
+    numbers: &Numbers,
+    context: &mut Context,
+    taker: &mut T,
+) -> Result<Option<u64>, OutOfMemory>
+    requires runnable { IsRunnable script.now }
+    requires read { IfSome journal (λ journal. CanBeRead script.now journal.now) }
+    requires numbered { AreNumbered context.old script.now numbers.now }
+    requires valid { IsValidQuery query.now }
+    ensures taken { OnOk result (TakesMore
+        (T.has_taken taker.old context.old)
+        (T.has_taken taker.new context.new)
+        (group_records query.now (snapshots script.now (told script.now
+        (option_copied journal.entry)) channel.now))) }
+    ensures refused { IfOk result (CountsRefused script.now) }
+    ensures grows { Grows context.old context.new }
+{
+    let (rows, refused) = group_rows(alloc, script, journal, channel, query, numbers, context)?;
+    take_sorted(alloc, &rows, query.aggs.as_slice(), context, taker)?;
     Ok(refused)
 }
 
@@ -78,13 +108,58 @@ fn group_rows(
     ensures grows { Grows context.old context.new }
 {
     let mut fold = SnapshotFold::new(alloc, query, context)?;
-    let refused = take_snapshots(alloc, script, journal, channel, numbers, context, &mut fold)?;
+    let refused = fold_snapshots(
+        alloc, script, journal, channel, query, numbers, context, &mut fold,
+    )?;
+    let rows = fold.grouped_rows(context)?;
+    Ok((rows, refused))
+}
+
+/// Adds the snapshots of a channel to its query's fold of none.
+fn fold_snapshots(
+    alloc: Global,
+    script: &Script,
+    journal: Option<&Journal>,
+    channel: &Channel,
+    query: &Query,
+    numbers: &Numbers,
+    context: &mut Context,
+    fold: &mut SnapshotFold,
+) -> Result<Option<u64>, OutOfMemory>
+    requires runnable { IsRunnable script.now }
+    requires read { IfSome journal (λ journal. CanBeRead script.now journal.now) }
+    requires numbered { AreNumbered context.old script.now numbers.now }
+    requires none { HasFolded fold.old context.old [] }
+    ensures query { OnOk result (fold.new.query ≡ query.now) }
+    ensures folded { OnOk result (HasFolded fold.new context.new
+        (snapshots script.now (told script.now (option_copied journal.entry)) channel.now)) }
+    ensures refused { IfOk result (CountsRefused script.now) }
+    ensures grows { Grows context.old context.new }
+{
+    let refused = take_snapshots(alloc, script, journal, channel, numbers, context, fold)?;
     // a taker's contract doesn't say that it is still about this query
     if !same_query(fold.query(), query) {
         return Err(OutOfMemory);
     }
-    let rows = fold.grouped_rows(context)?;
-    Ok((rows, refused))
+    Ok(refused)
+}
+
+/// Hands the rows of groups to a taker, in the order of groups.
+fn take_sorted<T: Taker>(
+    alloc: Global,
+    rows: &GroupedRows,
+    aggs: &[Agg],
+    context: &Context,
+    taker: &mut T,
+) -> Result<(), OutOfMemory>
+    ensures { OnOk result ((rs : List ARecord)
+        → MakesRows context.now aggs.now rows.now rs → TakesMore
+        (T.has_taken taker.old context.now)
+        (T.has_taken taker.new context.now)
+        (sorted (rows_cmp aggs.now) rs)) }
+{
+    let order = sorted_by_group(alloc, context, aggs, rows)?;
+    take_rows(alloc, rows, order.as_slice(), context, taker)
 }
 
 /// Makes the rows of these numbers, and hands each to a taker.
