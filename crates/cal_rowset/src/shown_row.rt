@@ -1,5 +1,6 @@
 ghost use Rattle.std.specs.Prelude.{◌≡◌, ◌<◌, List, [], length, slice_get, true, false};
-ghost use Rattle.std.specs.Prelude.{ℕ, None, slice_index_or, is_none, IfOk, IsSomeAnd, MatchOption, OnOk, Some};
+ghost use Rattle.std.specs.Prelude.{is_none, IfOk, IsSomeAnd, MatchOption, OnOk, Some};
+ghost use Rattle.std.specs.Prelude.{ℕ, None, slice_index_or};
 ghost use Rattle.std.specs.List.{list_any};
 ghost use Rattle.cal_value.specs.declared.attribute.Entry.{Entry};
 ghost use Rattle.cal_value.specs.declared.record.Rec.{Rec};
