@@ -1,4 +1,4 @@
-ghost use Rattle.std.specs.Prelude.{◌≡◌, IfErr, IfOk, IfSome, OnOk, option_copied};
+ghost use Rattle.std.specs.Prelude.{◌≡◌, [], IfErr, IfOk, IfSome, OnOk, option_copied};
 ghost use Rattle.cal_context.specs.Taking.{TakesMore};
 ghost use Rattle.cal_context.specs.Tree.{Grows};
 ghost use Rattle.cal_records.specs.Records.{channel_rows, records_of, run_rows, traced};
@@ -192,13 +192,28 @@ pub fn run_records(
     ensures { IfOk result (λ records. records ≡ records_of script.now journal.now) }
 {
     let mut context = Context::new(alloc);
-    let numbers = Numbers::of(alloc, script, &mut context)?;
+    run_records_in(alloc, script, journal, &mut context)
+}
+
+/// The same in a context without attributes.
+fn run_records_in(
+    alloc: Global,
+    script: &Script,
+    journal: &Journal,
+    context: &mut Context,
+) -> Result<Records, OutOfMemory>
+    requires runnable { IsRunnable script.now }
+    requires read { CanBeRead script.now journal.now }
+    requires none { context.old.attributes ≡ [] }
+    ensures { IfOk result (λ records. records ≡ records_of script.now journal.now) }
+{
+    let numbers = Numbers::of(alloc, script, context)?;
     let mut taken = Taken::new(alloc);
-    take_run(alloc, script, journal, &numbers, &mut context, &mut taken)?;
-    let globals = put_globals(alloc, script.globals.as_slice(), &mut context)?;
+    take_run(alloc, script, journal, &numbers, context, &mut taken)?;
+    let globals = put_globals(alloc, script.globals.as_slice(), context)?;
     Ok(Records {
         rows: taken.into_rows(),
-        globals: expand(alloc, &context, &globals)?,
+        globals: expand(alloc, context, &globals)?,
     })
 }
 

@@ -1,6 +1,6 @@
 use Rattle.std.proofs.Common.{[], ap, ◌∙◌}
 use Rattle.cal_records.specs.Records.{globals_of}
-use Rattle.cal_records.proofs.run.run_records.Goals as goal
+use Rattle.cal_records.proofs.run.run_records_in.Goals as goal
 
 pub expand-requires : goal.expand-requires
 expand-requires c = c.in_ok-globals.ensures.means.within
