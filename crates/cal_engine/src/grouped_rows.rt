@@ -226,7 +226,8 @@ fn move_groups(
     results: &mut Vec<ResultAttributes>,
     context: &mut Context,
 ) -> Result<OtherParts, OutOfMemory>
-    ensures results { OnOk result (AllZip (IsResultOf context.new) query.now.aggs results.new.items) }
+    ensures results { OnOk result
+        (AllZip (IsResultOf context.new) query.now.aggs results.new.items) }
     ensures moved { OnOk result (IsMoved context.new moved.new) }
     ensures from { OnOk result (moved.new.from ≡ moved.old.from) }
     ensures others { IfOk result (λ others. (rs : List ARecord)
