@@ -8,7 +8,8 @@ ghost use Rattle.cal_value.specs.declared.record.Rec.{Rec as ARecord};
 ghost use Rattle.cal_engine.specs.Finishing.{AreKept, Lists, entries_of_results};
 ghost use Rattle.cal_engine.specs.Groups.{groups_of};
 ghost use Rattle.cal_engine.specs.Keys.{key_in};
-ghost use Rattle.cal_engine.specs.Making.{AreMoved, MakesRows, below_in};
+ghost use Rattle.cal_engine.specs.Making.{AreMoved, AreOthers, IsMoved, MakesRows};
+ghost use Rattle.cal_engine.specs.Making.{below_in, below_of};
 ghost use Rattle.cal_engine.specs.Making.{group_count, key_at, room_in};
 ghost use Rattle.cal_engine.specs.Numbered.{AreGroups};
 ghost use Rattle.cal_engine.specs.Results.{AddsResults, IsResultOf};
@@ -93,9 +94,9 @@ impl GroupedRows {
             (map (row_by query.now rs) (groups_of query.now.group rs))) }
         ensures grows { Grows context.old context.new }
     {
-        let results = result_attributes(alloc, context, query.aggs.as_slice())?;
-        let others = OtherParts::of(alloc, query, &own, &groups)?;
-        let moved = Moved::of(alloc, own, groups.keys(), context)?;
+        let mut moved = Moved::none(alloc, own);
+        let mut results = Vec::new(alloc);
+        let others = move_groups(alloc, query, &groups, &mut moved, &mut results, context)?;
         Ok(GroupedRows {
             alloc,
             groups,
@@ -213,6 +214,31 @@ impl GroupedRows {
         let below = self.others.below_at(number, own);
         add_result_immediates(imms, &self.results, own, self.others.all(), below)
     }
+}
+
+/// Puts groups into the context of the rows, behind the attributes of results, which take the place
+/// of those that are there. What is kept of other records is answered.
+fn move_groups(
+    alloc: Global,
+    query: &Query,
+    groups: &NumberedGroups,
+    moved: &mut Moved,
+    results: &mut Vec<ResultAttributes>,
+    context: &mut Context,
+) -> Result<OtherParts, OutOfMemory>
+    ensures results { OnOk result
+        (AllZip (IsResultOf context.new) query.now.aggs results.new.items) }
+    ensures moved { OnOk result (IsMoved context.new moved.new) }
+    ensures from { OnOk result (moved.new.from ≡ moved.old.from) }
+    ensures others { IfOk result (λ others. (rs : List ARecord)
+        → AreGroups moved.old.from query.now rs groups.now → AreOthers moved.old.from query.now rs
+        groups.now others.all (below_of others groups.now.parts)) }
+    ensures grows { Grows context.old context.new }
+{
+    *results = result_attributes(alloc, context, query.aggs.as_slice())?;
+    let others = OtherParts::of(alloc, query, moved.from(), groups)?;
+    moved.put(alloc, groups.keys(), context)?;
+    Ok(others)
 }
 
 /// The group that a key means as a snapshot of the context in which it lies, in place of the one

@@ -28,29 +28,25 @@ pub(crate) struct Moved {
 }
 
 impl Moved {
-    /// Puts the nodes of keys' paths and all attributes into another context. Each node is put
-    /// there once.
-    pub(crate) fn of(
-        alloc: Global,
-        from: Context,
-        keys: &[GroupKey],
-        to: &mut Context,
-    ) -> Result<Moved, OutOfMemory>
-        ensures from { IfOk result (λ moved. moved.from ≡ from) }
-        ensures moved { IfOk result (IsMoved to.new) }
-        ensures grows { Grows to.old to.new }
+    /// A context of which nothing was put into another one.
+    pub(crate) fn none(alloc: Global, from: Context) -> Moved
+        ensures { result.from ≡ from }
     {
-        let mut moved = Moved {
+        Moved {
             from,
             attributes: Vec::new(alloc),
             nodes: Vec::new(alloc),
-        };
-        moved.put(alloc, keys, to)?;
-        Ok(moved)
+        }
     }
 
-    /// Puts what is of keys into another context, where nothing was put yet.
-    fn put(&mut self, alloc: Global, keys: &[GroupKey], to: &mut Context) -> Result<(), OutOfMemory>
+    /// Puts the nodes of keys' paths and all attributes into another context. Each node is put
+    /// there once.
+    pub(crate) fn put(
+        &mut self,
+        alloc: Global,
+        keys: &[GroupKey],
+        to: &mut Context,
+    ) -> Result<(), OutOfMemory>
         ensures from { self.new.from ≡ self.old.from }
         ensures moved { OnOk result (IsMoved to.new self.new) }
         ensures grows { Grows to.old to.new }

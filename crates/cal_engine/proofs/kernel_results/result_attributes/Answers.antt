@@ -1,4 +1,4 @@
-use Rattle.std.proofs.Common.{take, arith}
+use Rattle.std.proofs.Common.{take}
 use Rattle.cal_context.proofs.CallerLemmas.{Grows-trans}
 use Rattle.cal_filter.proofs.Zips.{zip_more}
 use Rattle.cal_engine.specs.Results.{IsResultOf}
@@ -13,5 +13,5 @@ loop-agg-preserved c =
       grows = Grows-trans c.args.context.now c.loop-agg.context u c.loop-agg.invariant.grows grows;
       are = zip_more (IsResultOf u) c.args.aggs.now c.loop-agg.results.items c.push.new.self.items c.loop-agg.agg-index c.agg-item.result c.in_ok-attributes.attributes
           (results-Grows grows (take c.loop-agg.agg-index c.args.aggs.now) c.loop-agg.results.items c.loop-agg.invariant.are)
-          (omega arith) c.agg-item.is c.in_ok-push.ensures.items c.in_ok-attributes.ensures.attributes;
+          c.loop-agg-test.true c.agg-item.is c.in_ok-push.ensures.items c.in_ok-attributes.ensures.attributes;
     }
