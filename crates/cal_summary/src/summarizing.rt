@@ -1,4 +1,4 @@
-ghost use Rattle.std.specs.Prelude.{◌≡◌, IfOk};
+ghost use Rattle.std.specs.Prelude.{◌≡◌, [], IfOk};
 ghost use Rattle.cal_run.specs.Plain.{plain};
 ghost use Rattle.cal_summary.specs.Summaries.{summary_of};
 ghost use Rattle.cal_valid.specs.Valid.{IsRunnable};
@@ -34,9 +34,22 @@ pub fn summarize(alloc: Global, script: &Script) -> Result<Summary, OutOfMemory>
     ensures { IfOk result (λ summary. summary ≡ summary_of script.now (plain script.now)) }
 {
     let mut context = Context::new(alloc);
-    let numbers = Numbers::of(alloc, script, &mut context)?;
-    let measure = measure_run(alloc, script, &numbers, &mut context)?;
-    let counts = count_plain(alloc, script, &numbers, &mut context)?;
+    summarize_in(alloc, script, &mut context)
+}
+
+/// The same in a context without attributes.
+fn summarize_in(
+    alloc: Global,
+    script: &Script,
+    context: &mut Context,
+) -> Result<Summary, OutOfMemory>
+    requires runnable { IsRunnable script.now }
+    requires none { context.old.attributes ≡ [] }
+    ensures { IfOk result (λ summary. summary ≡ summary_of script.now (plain script.now)) }
+{
+    let numbers = Numbers::of(alloc, script, context)?;
+    let measure = measure_run(alloc, script, &numbers, context)?;
+    let counts = count_plain(alloc, script, &numbers, context)?;
     let threads = script.threads.len();
     let lines = count_lines(script)?;
     let groups = measure.rows - counts.traced;

@@ -3,7 +3,7 @@ use Rattle.cal_run.specs.Plain.{plain}
 use Rattle.cal_summary.specs.Summaries.{group_count, traced_count}
 use Rattle.cal_summary.proofs.RowLemmas.{rows-split, summary_one}
 use Rattle.cal_write.specs.declared.measurer.Measure.{Measure}
-use Rattle.cal_summary.proofs.summarizing.summarize.Goals as goal
+use Rattle.cal_summary.proofs.summarizing.summarize_in.Goals as goal
 
 pub overflow_sub-groups : goal.overflow_sub-groups
 overflow_sub-groups c =
