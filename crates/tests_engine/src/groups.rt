@@ -1,5 +1,4 @@
 use crate::texts::{Case, Row, check};
-use std::test::Fail;
 
 const ROWS: [Row; 5] = [
     (&["main", "a"], &[("n", "1")]),
@@ -55,27 +54,29 @@ const PLAIN: [Case; 3] = [
 ];
 
 #[test]
-fn groups_by_path_stand_in_first_seen_order(rt: HostRuntime) -> Result<(), Fail> {
-    check(&rt, rt.alloc(), &ROWS, &BY_PATH)
+fn groups_by_path_stand_in_first_seen_order(rt: HostRuntime) {
+    check(&rt, rt.alloc(), &ROWS, &BY_PATH);
 }
 
 #[test]
-fn groups_take_the_entries_of_names(rt: HostRuntime) -> Result<(), Fail> {
-    check(&rt, rt.alloc(), &ROWS, &BY_VALUES)
+fn groups_take_the_entries_of_names(rt: HostRuntime) {
+    check(&rt, rt.alloc(), &ROWS, &BY_VALUES);
 }
 
 #[test]
-fn other_queries_keep_records(rt: HostRuntime) -> Result<(), Fail> {
-    check(&rt, rt.alloc(), &ROWS, &PLAIN)
+fn other_queries_keep_records(rt: HostRuntime) {
+    check(&rt, rt.alloc(), &ROWS, &PLAIN);
 }
 
+const TWO_KINDS: [Row; 2] = [(&[], &[("n", "1")]), (&[], &[("n", "1.0")])];
+
+const BY_KIND: [Case; 1] = [(
+    "aggregate count() group by n",
+    " n=1 count=1; n=1 count=1;",
+    " n count",
+)];
+
 #[test]
-fn values_of_one_text_and_two_kinds_are_two_groups(rt: HostRuntime) -> Result<(), Fail> {
-    let rows: [Row; 2] = [(&[], &[("n", "1")]), (&[], &[("n", "1.0")])];
-    let cases: [Case; 1] = [(
-        "aggregate count() group by n",
-        " n=1 count=1; n=1 count=1;",
-        " n count",
-    )];
-    check(&rt, rt.alloc(), &rows, &cases)
+fn values_of_one_text_and_two_kinds_are_two_groups(rt: HostRuntime) {
+    check(&rt, rt.alloc(), &TWO_KINDS, &BY_KIND);
 }

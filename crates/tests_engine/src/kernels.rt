@@ -1,5 +1,4 @@
 use crate::texts::{Case, Row, check};
-use std::test::Fail;
 
 const NUMBERS: [Row; 4] = [
     (&["main"], &[("x", "-5"), ("count", "3")]),
@@ -64,27 +63,29 @@ const FIXED: [Case; 3] = [
 ];
 
 #[test]
-fn sums_counts_and_what_is_made_of_them(rt: HostRuntime) -> Result<(), Fail> {
-    check(&rt, rt.alloc(), &NUMBERS, &SUMS)
+fn sums_counts_and_what_is_made_of_them(rt: HostRuntime) {
+    check(&rt, rt.alloc(), &NUMBERS, &SUMS);
 }
 
 #[test]
-fn ends_and_sums_of_groups_below(rt: HostRuntime) -> Result<(), Fail> {
-    check(&rt, rt.alloc(), &NUMBERS, &ENDS)
+fn ends_and_sums_of_groups_below(rt: HostRuntime) {
+    check(&rt, rt.alloc(), &NUMBERS, &ENDS);
 }
 
 #[test]
-fn a_decimal_makes_a_result_fixed(rt: HostRuntime) -> Result<(), Fail> {
-    check(&rt, rt.alloc(), &DECIMALS, &FIXED)
+fn a_decimal_makes_a_result_fixed(rt: HostRuntime) {
+    check(&rt, rt.alloc(), &DECIMALS, &FIXED);
 }
 
+const TO_NOTHING: [Row; 2] = [(&["a"], &[("x", "1")]), (&["b"], &[("x", "-1")])];
+
+const PERCENTAGE: [Case; 1] = [(
+    "aggregate percent_total(x) group by path",
+    "/a;/b;",
+    " path percent_total#x",
+)];
+
 #[test]
-fn a_percentage_of_nothing_is_absent(rt: HostRuntime) -> Result<(), Fail> {
-    let rows: [Row; 2] = [(&["a"], &[("x", "1")]), (&["b"], &[("x", "-1")])];
-    let cases: [Case; 1] = [(
-        "aggregate percent_total(x) group by path",
-        "/a;/b;",
-        " path percent_total#x",
-    )];
-    check(&rt, rt.alloc(), &rows, &cases)
+fn a_percentage_of_nothing_is_absent(rt: HostRuntime) {
+    check(&rt, rt.alloc(), &TO_NOTHING, &PERCENTAGE);
 }

@@ -1,5 +1,8 @@
+ghost use Rattle.std.specs.Prelude.{IfOk, IfSome};
+ghost use Rattle.cal_ql.specs.Valid.{IsValidQuery};
+
 use cal_engine::answer;
-use cal_ql::parse_query;
+use cal_ql::{Query, QueryEnd, parse_query};
 use cal_rowset::Rowset;
 use cal_value::{
     Attribute, Entry, Kind, OutOfMemory, Props, Rec, Records, Seq, Text, Variant, parse_value,
@@ -7,7 +10,6 @@ use cal_value::{
 };
 use std::alloc::Global;
 use std::process::Abort;
-use std::test::Fail;
 
 /// A record: its path, whose entries belong to the hierarchy, and its immediates, a name and a
 /// value in turn. A value that begins like a number is one, with a `.` a decimal.
@@ -19,91 +21,131 @@ pub(crate) type Row = (
 /// A query, and the rows and the columns that are expected.
 pub(crate) type Case = (&'static str, &'static str, &'static str);
 
+/// The answer is yes, and the memory was enough.
+pub(crate) fn is_true(rt: &impl Abort, answer: Result<bool, OutOfMemory>) {
+    assert_eq!(rt; answer, Ok(true));
+}
+
 /// Answers each query on the records, and compares the answer with what is expected.
-pub(crate) fn check(
-    rt: &impl Abort,
+pub(crate) fn check(rt: &impl Abort, alloc: Global, rows: &[Row], cases: &'static [Case]) {
+    assert_eq!(rt;
+        wrong_case(alloc, rows, cases),
+        Ok(None),
+        "the first wrong query"
+    );
+}
+
+fn wrong_case(
     alloc: Global,
     rows: &[Row],
-    cases: &[Case],
-) -> Result<(), Fail> {
-    for case in cases {
-        let (text, expected, columns) = *case;
-        let answer = answered(alloc, text, rows)?;
-        assert_eq!(rt;
-            rows_text(alloc, &answer)?.as_str(),
-            expected,
-            "rows of {text}"
-        );
-        assert_eq!(rt;
-            columns_text(alloc, &answer)?.as_str(),
-            columns,
-            "columns of {text}"
-        );
+    cases: &'static [Case],
+) -> Result<Option<&'static str>, OutOfMemory> {
+    let records = records(alloc, rows)?;
+    for row in 0..cases.len() {
+        if !answers(alloc, &records, &cases[row])? {
+            return Ok(Some(cases[row].0));
+        }
+    }
+    Ok(None)
+}
+
+fn answers(alloc: Global, records: &Records, case: &Case) -> Result<bool, OutOfMemory> {
+    let Some(query) = query_of(alloc, case.0)? else {
+        return Ok(false);
+    };
+    let answer = answer(alloc, &query, records)?;
+    Ok(has_rows(alloc, &answer, case.1)? && has_columns(alloc, &answer, case.2)?)
+}
+
+fn has_rows(alloc: Global, answer: &Rowset, wanted: &str) -> Result<bool, OutOfMemory> {
+    Ok(rows_text(alloc, answer)?.as_str() == wanted)
+}
+
+fn has_columns(alloc: Global, answer: &Rowset, wanted: &str) -> Result<bool, OutOfMemory> {
+    Ok(columns_text(alloc, answer)?.as_str() == wanted)
+}
+
+/// The query of a text, if it is one.
+pub(crate) fn query_of(alloc: Global, text: &str) -> Result<Option<Query>, OutOfMemory>
+    ensures { IfOk result (λ query. IfSome query IsValidQuery) }
+{
+    match parse_query(alloc, text) {
+        Ok(query) => Ok(Some(query)),
+        Err(QueryEnd::OutOfMemory) => Err(OutOfMemory),
+        Err(_) => Ok(None),
+    }
+}
+
+fn put_records(alloc: Global, rows: &[Row], all: &mut Seq<Rec>) -> Result<(), OutOfMemory> {
+    for row in rows {
+        all.push(record(alloc, row)?)?;
     }
     Ok(())
 }
 
-pub(crate) fn answered(alloc: Global, text: &str, rows: &[Row]) -> Result<Rowset, Fail> {
-    let query = parse_query(alloc, text)?;
-    let records = records(alloc, rows)?;
-    Ok(answer(alloc, &query, &records)?)
-}
-
-pub(crate) fn records(alloc: Global, rows: &[Row]) -> Result<Records, Fail> {
-    let mut recs = Seq::new(alloc);
-    for row in rows {
-        recs.push(record(alloc, row)?)?;
-    }
-    let globals = Rec {
-        paths: Seq::new(alloc),
-        imms: Seq::new(alloc),
-    };
+fn records(alloc: Global, rows: &[Row]) -> Result<Records, OutOfMemory> {
+    let mut all = Seq::new(alloc);
+    put_records(alloc, rows, &mut all)?;
     Ok(Records {
-        rows: recs,
-        globals,
+        rows: all,
+        globals: Rec {
+            paths: Seq::new(alloc),
+            imms: Seq::new(alloc),
+        },
     })
 }
 
-pub(crate) fn record(alloc: Global, row: &Row) -> Result<Rec, Fail> {
-    let (path, imms) = *row;
-    let mut paths = Seq::new(alloc);
-    if !path.is_empty() {
-        paths.push(path_of(alloc, path)?)?;
+pub(crate) fn record(alloc: Global, row: &Row) -> Result<Rec, OutOfMemory> {
+    let mut record = Rec {
+        paths: Seq::new(alloc),
+        imms: immediates(alloc, row.1)?,
+    };
+    if !row.0.is_empty() {
+        record.paths.push(path_of(alloc, row.0)?)?;
     }
-    Ok(Rec {
-        paths,
-        imms: immediates(alloc, imms)?,
+    Ok(record)
+}
+
+fn function(alloc: Global, name: &str) -> Result<Entry, OutOfMemory> {
+    let value = Variant::Text(Text::from_str(alloc, name)?);
+    Ok(Entry {
+        attr: attribute(alloc, "region", Kind::Str, 276)?,
+        value,
     })
 }
 
-fn path_of(alloc: Global, names: &[&str]) -> Result<Seq<Entry>, Fail> {
+fn path_of(alloc: Global, names: &[&str]) -> Result<Seq<Entry>, OutOfMemory> {
     let mut path = Seq::new(alloc);
     for name in names {
-        path.push(Entry {
-            attr: Attribute {
-                name: Text::from_str(alloc, "region")?,
-                kind: Kind::Str,
-                props: Props(276),
-            },
-            value: Variant::Text(Text::from_str(alloc, name)?),
-        })?;
+        path.push(function(alloc, name)?)?;
     }
     Ok(path)
 }
 
-fn immediates(alloc: Global, pairs: &[(&str, &str)]) -> Result<Seq<Entry>, Fail> {
+fn attribute(alloc: Global, name: &str, kind: Kind, props: u32) -> Result<Attribute, OutOfMemory> {
+    Ok(Attribute {
+        name: Text::from_str(alloc, name)?,
+        kind,
+        props: Props(props),
+    })
+}
+
+/// The immediate of a name and a text, which is one of its kind.
+fn immediate(alloc: Global, name: &str, text: &str) -> Result<Entry, OutOfMemory> {
+    let kind = kind_of(text);
+    let Ok(value) = parse_value(alloc, kind, text) else {
+        return Err(OutOfMemory);
+    };
+    Ok(Entry {
+        attr: attribute(alloc, name, kind, 1)?,
+        value,
+    })
+}
+
+fn immediates(alloc: Global, pairs: &[(&str, &str)]) -> Result<Seq<Entry>, OutOfMemory> {
     let mut imms = Seq::new(alloc);
     for pair in pairs {
-        let (name, text) = *pair;
-        let kind = kind_of(text);
-        imms.push(Entry {
-            attr: Attribute {
-                name: Text::from_str(alloc, name)?,
-                kind,
-                props: Props(1),
-            },
-            value: parse_value(alloc, kind, text)?,
-        })?;
+        imms.push(immediate(alloc, pair.0, pair.1)?)?;
     }
     Ok(imms)
 }
