@@ -3,13 +3,14 @@ ghost use Rattle.std.specs.Prelude.{map, IfOk, OnOk};
 ghost use Rattle.std.specs.List.{All, filter_map};
 ghost use Rattle.cal_context.specs.Snapshots.{IsIn, meaning};
 ghost use Rattle.cal_context.specs.Taking.{TakesMore};
-ghost use Rattle.cal_context.specs.Tree.{Grows};
+ghost use Rattle.cal_context.specs.Tree.{Grows, Tree};
 ghost use Rattle.cal_filter.specs.Kept.{kept as kept_by};
 ghost use Rattle.cal_ql.specs.Valid.{IsValidQuery};
 ghost use Rattle.cal_rowset.specs.NumberedRows.{NumberedRow};
 ghost use Rattle.cal_rowset.specs.Numbers.{rowset_of};
 ghost use Rattle.cal_value.specs.declared.record.Rec.{Rec as ARecord};
 ghost use Rattle.cal_engine.specs.Answers.{answer_of};
+ghost use Rattle.cal_engine.specs.Gates.{IsGate};
 ghost use Rattle.cal_engine.specs.Keys.{room_of};
 ghost use Rattle.cal_engine.specs.Making.{MakesRows};
 ghost use Rattle.cal_engine.specs.Standing.{HasFolded};
@@ -56,6 +57,16 @@ impl SnapshotFold {
         ensures grows { Grows context.old context.new }
     {
         let gate = Gate::new(alloc, query, context)?;
+        SnapshotFold::with_gate(alloc, query, gate)
+    }
+
+    /// The fold of no record, whose gate is made.
+    fn with_gate(alloc: Global, query: &Query, gate: Gate) -> Result<SnapshotFold, OutOfMemory>
+        requires { IsValidQuery query.now }
+        ensures query { IfOk result (λ fold. fold.query ≡ query.now) }
+        ensures none { IfOk result (λ fold. (t : Tree) → IsGate t query.now gate
+            → HasFolded fold t []) }
+    {
         let tally = Tally::new(alloc, query)?;
         Ok(SnapshotFold {
             alloc,

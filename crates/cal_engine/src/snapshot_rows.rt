@@ -4,8 +4,10 @@ ghost use Rattle.cal_context.specs.Tree.{Grows};
 ghost use Rattle.cal_ql.specs.declared.query.Agg.{Agg as AnAgg};
 ghost use Rattle.cal_rowset.specs.NumberedRows.{IsWithin, in_order, meant};
 ghost use Rattle.cal_value.specs.declared.record.Rec.{Rec as ARecord};
+ghost use Rattle.cal_engine.specs.Groups.{groups_of};
 ghost use Rattle.cal_engine.specs.Making.{MakesRows};
-ghost use Rattle.cal_engine.specs.Rows.{rows_of};
+ghost use Rattle.cal_engine.specs.Numbered.{AreGroups};
+ghost use Rattle.cal_engine.specs.Rows.{row_of, rows_of};
 ghost use Rattle.cal_engine.specs.Sorting.{sorted_rows};
 ghost use Rattle.cal_engine.specs.Tallies.{HoldsIn};
 
@@ -66,12 +68,26 @@ fn made_rows(
     ensures grows { Grows context.old context.new }
 {
     if is_aggregated(query) {
-        let made = GroupedRows::new(alloc, query, groups, context)?;
-        let rows = all_rows(alloc, &made, context)?;
-        return Ok(rows);
+        return rows_of_groups(alloc, query, context, groups);
     }
     context.has_each_once();
     Ok(kept)
+}
+
+/// The rows of the groups of an aggregated query.
+fn rows_of_groups(
+    alloc: Global,
+    query: &Query,
+    context: &mut Context,
+    groups: NumberedGroups,
+) -> Result<SnapshotList, OutOfMemory>
+    ensures rows { IfOk result (λ rows. (ks : List ARecord)
+        → AreGroups context.old query.now ks groups → map (meant context.new) rows
+        ≡ map (row_of query.now ks) (groups_of query.now.group ks)) }
+    ensures grows { Grows context.old context.new }
+{
+    let made = GroupedRows::new(alloc, query, groups, context)?;
+    all_rows(alloc, &made, context)
 }
 
 /// All rows of groups.
