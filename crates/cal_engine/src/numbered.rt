@@ -88,6 +88,18 @@ impl NumberedGroups {
         put
     }
 
+    /// The same groups, without the memory that only gathering needs.
+    pub fn settled(self, alloc: Global) -> NumberedGroups
+        ensures { result ≡ self }
+    {
+        NumberedGroups {
+            keys: self.keys,
+            parts: self.parts,
+            last: 0,
+            hints: Vec::new(alloc),
+        }
+    }
+
     /// The keys of the groups.
     pub fn keys(&self) -> &[GroupKey]
         ensures { result.now ≡ self.now.keys }
