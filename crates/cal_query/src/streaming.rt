@@ -2,7 +2,7 @@ ghost use Rattle.std.specs.Prelude.{◌≡◌, [], ◌++◌, ℕ, List, None, If
 ghost use Rattle.cal_base.specs.Change.{change_of};
 ghost use Rattle.cal_base.specs.ReadEnds.{ReadsAll};
 ghost use Rattle.cal_query.specs.Layout.{StopsRows};
-ghost use Rattle.cal_query.specs.Streaming.{FallsAt, HasFinished, HasStreamed, MayBeFed};
+ghost use Rattle.cal_query.specs.Streaming.{FallsAt, HasFinished, HasStreamed, MayBeFed, finished};
 
 use crate::RowsEnd;
 use crate::pieces::{Fed, feed_all};
@@ -73,32 +73,41 @@ impl<T: Taker + Drop> Streaming<T> {
         })
     }
 
-    /// Reads the end of the input.
-    fn finish(self) -> Result<Finished<T>, RowsEnd>
-        requires { MayBeFed self.fault self }
-        ensures read { IfOk result (λ f. (bytes : List ℕ)
-            → HasStreamed T.has_taken self bytes → HasFinished T.has_taken f bytes) }
-        ensures refused { IfErr result (λ end. (bytes : List ℕ)
-            → HasStreamed T.has_taken self bytes → FallsAt end bytes) }
+    /// Reads all that an input has left, at most `limit` bytes, and its end: the globals.
+    fn read<S: Source>(
+        &mut self,
+        alloc: Global,
+        input: &mut S,
+        limit: u64,
+    ) -> Result<Snapshot, RowsEnd>
+        requires ready { MayBeFed self.old.fault self.old }
+        requires read { HasStreamed T.has_taken self.old [] }
+        ensures read { IfOk result (λ globals. (bytes : List ℕ)
+            × ReadsAll limit (change_of S.left S.faults input.old input.new) bytes
+            × HasFinished T.has_taken (finished self.new globals) bytes) }
+        ensures refused { IfErr result (λ end.
+            StopsRows end limit (change_of S.left S.faults input.old input.new)) }
     {
-        let Streaming {
-            mut reader,
-            mut context,
-            mut taker,
-            fault,
-        } = self;
-        if let Some(bad) = fault {
+        feed_all(alloc, input, limit, self)?;
+        self.finish()
+    }
+
+    /// Reads the end of the input: the globals.
+    fn finish(&mut self) -> Result<Snapshot, RowsEnd>
+        requires { MayBeFed self.old.fault self.old }
+        ensures read { IfOk result (λ globals. (bytes : List ℕ)
+            → HasStreamed T.has_taken self.old bytes
+            → HasFinished T.has_taken (finished self.new globals) bytes) }
+        ensures refused { IfErr result (λ end. (bytes : List ℕ)
+            → HasStreamed T.has_taken self.old bytes → FallsAt end bytes) }
+    {
+        if let Some(bad) = self.fault {
             return Err(RowsEnd::BadLine {
                 line: bad.line,
                 kind: bad.kind,
             });
         }
-        let globals = reader.finish(&mut context, &mut taker)?;
-        Ok(Finished {
-            context,
-            taker,
-            globals,
-        })
+        Ok(self.reader.finish(&mut self.context, &mut self.taker)?)
     }
 }
 
@@ -119,6 +128,10 @@ pub(crate) fn read_stream<S: Source, T: Taker + Drop>(
         StopsRows end limit (change_of S.left S.faults input.old input.new)) }
 {
     let mut streaming = Streaming::new(alloc, context, taker)?;
-    feed_all(alloc, input, limit, &mut streaming)?;
-    streaming.finish()
+    let globals = streaming.read(alloc, input, limit)?;
+    Ok(Finished {
+        context: streaming.context,
+        taker: streaming.taker,
+        globals,
+    })
 }

@@ -1,4 +1,4 @@
-ghost use Rattle.std.specs.Prelude.{◌≡◌, IfOk};
+ghost use Rattle.std.specs.Prelude.{◌≡◌, [], IfOk};
 ghost use Rattle.cal_records.specs.Records.{records_of};
 ghost use Rattle.cal_records.specs.Told.{CountsRefused};
 ghost use Rattle.cal_run.specs.Plain.{plain};
@@ -22,11 +22,26 @@ pub fn run_text(alloc: Global, script: &Script, journal: &Journal) -> Result<Tex
     ensures { IfOk result (λ text. text ≡ canonical_text (records_of script.now journal.now)) }
 {
     let mut context = Context::new(alloc);
-    let numbers = Numbers::of(alloc, script, &mut context)?;
+    run_text_in(alloc, script, journal, &mut context)
+}
+
+/// The same in a context without attributes.
+fn run_text_in(
+    alloc: Global,
+    script: &Script,
+    journal: &Journal,
+    context: &mut Context,
+) -> Result<Text, OutOfMemory>
+    requires runnable { IsRunnable script.now }
+    requires read { CanBeRead script.now journal.now }
+    requires none { context.old.attributes ≡ [] }
+    ensures { IfOk result (λ text. text ≡ canonical_text (records_of script.now journal.now)) }
+{
+    let numbers = Numbers::of(alloc, script, context)?;
     let mut writer = Writer::new(alloc)?;
-    take_run(alloc, script, journal, &numbers, &mut context, &mut writer)?;
-    let globals = put_globals(alloc, script.globals.as_slice(), &mut context)?;
-    writer.finish(&context, &globals)
+    take_run(alloc, script, journal, &numbers, context, &mut writer)?;
+    let globals = put_globals(alloc, script.globals.as_slice(), context)?;
+    writer.finish(context, &globals)
 }
 
 /// The `.cali` text of the records of the run of the threads one after another, and how many lines
@@ -38,10 +53,25 @@ pub(crate) fn plain_text(alloc: Global, script: &Script) -> Result<(Text, Option
     ensures refused { IfOk result (λ made. CountsRefused script.now made.1) }
 {
     let mut context = Context::new(alloc);
-    let numbers = Numbers::of(alloc, script, &mut context)?;
+    plain_text_in(alloc, script, &mut context)
+}
+
+/// The same in a context without attributes.
+fn plain_text_in(
+    alloc: Global,
+    script: &Script,
+    context: &mut Context,
+) -> Result<(Text, Option<u64>), OutOfMemory>
+    requires runnable { IsRunnable script.now }
+    requires none { context.old.attributes ≡ [] }
+    ensures text { IfOk result (λ made. made.0
+        ≡ canonical_text (records_of script.now (plain script.now))) }
+    ensures refused { IfOk result (λ made. CountsRefused script.now made.1) }
+{
+    let numbers = Numbers::of(alloc, script, context)?;
     let mut writer = Writer::new(alloc)?;
-    let refused = take_plain_run(alloc, script, &numbers, &mut context, &mut writer)?;
-    let globals = put_globals(alloc, script.globals.as_slice(), &mut context)?;
-    let text = writer.finish(&context, &globals)?;
+    let refused = take_plain_run(alloc, script, &numbers, context, &mut writer)?;
+    let globals = put_globals(alloc, script.globals.as_slice(), context)?;
+    let text = writer.finish(context, &globals)?;
     Ok((text, refused))
 }

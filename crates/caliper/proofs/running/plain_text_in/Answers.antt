@@ -3,7 +3,7 @@ use Rattle.cal_records.specs.Records.{globals_of, run_rows}
 use Rattle.cal_run.specs.Plain.{plain}
 use Rattle.cal_write.specs.CanonicalText.{canonical_text}
 use Rattle.cal_write.specs.WriterGrows.{HasTaken-stays}
-use Rattle.caliper.proofs.running.plain_text.Goals as goal
+use Rattle.caliper.proofs.running.plain_text_in.Goals as goal
 
 pub returns-clause-text : goal.returns-clause-text
 returns-clause-text c =

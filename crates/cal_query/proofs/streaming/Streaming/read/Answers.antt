@@ -1,6 +1,6 @@
 use Rattle.std.proofs.lemmas.Result.{err_from_is_err_and}
 use Rattle.cal_query.proofs.Stops.{stops_reading}
-use Rattle.cal_query.proofs.streaming.read_stream.Goals as goal
+use Rattle.cal_query.proofs.streaming.Streaming.read.Goals as goal
 
 pub returns-in_err-feed_all-clause-refused : goal.returns-in_err-feed_all-clause-refused
 returns-in_err-feed_all-clause-refused g c =

@@ -3,7 +3,7 @@ use Rattle.std.proofs.lemmas.Result.{IfOk-weaker}
 use Rattle.cal_records.specs.Records.{globals_of, run_rows}
 use Rattle.cal_write.specs.CanonicalText.{canonical_text}
 use Rattle.cal_write.specs.WriterGrows.{HasTaken-stays}
-use Rattle.caliper.proofs.running.run_text.Goals as goal
+use Rattle.caliper.proofs.running.run_text_in.Goals as goal
 
 pub returns : goal.returns
 returns c =
