@@ -46,7 +46,9 @@ pub fn query_text<S: Source>(
         return rows_text(alloc, input, limit, join);
     }
     let answer = find_answer(alloc, input, limit, join, query)?;
-    lay_out_found(alloc, query.format, &answer)
+    let text = lay_out_found(alloc, query.format, &answer);
+    drop(answer);
+    text
 }
 
 /// The layout of an answer that was found.
@@ -85,7 +87,9 @@ fn rows_text<S: Source>(
 {
     let writer = ExpandWriter::new(alloc);
     let seen = see_rows(alloc, input, limit, join, Context::new(alloc), writer)?;
-    Ok(seen.taker.finish())
+    let Seen { context, taker } = seen;
+    drop(context);
+    Ok(taker.finish())
 }
 
 /// The answer of a query over the rows.

@@ -109,7 +109,11 @@ fn join<T: Taker + Drop>(alloc: Global, read: Finished<Kept<T>>) -> Result<Seen<
         snapshots,
         waiting: mut taker,
     } = kept;
-    hand_on_joined(alloc, &context, snapshots, &globals, &mut taker)?;
+    let Ok(()) = hand_on_joined(alloc, &context, snapshots, &globals, &mut taker) else {
+        drop(taker);
+        drop(context);
+        return Err(OutOfMemory);
+    };
     Ok(Seen { context, taker })
 }
 

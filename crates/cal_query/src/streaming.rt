@@ -64,7 +64,11 @@ impl<T: Taker + Drop> Streaming<T> {
         ensures ready { IfOk result (λ s. MayBeFed s.fault s) }
         ensures read { IfOk result (λ s. HasStreamed T.has_taken s []) }
     {
-        let reader = StreamReader::new(alloc, &mut context)?;
+        let Ok(reader) = StreamReader::new(alloc, &mut context) else {
+            drop(taker);
+            drop(context);
+            return Err(OutOfMemory);
+        };
         Ok(Streaming {
             reader,
             context,
@@ -109,6 +113,24 @@ impl<T: Taker + Drop> Streaming<T> {
         }
         Ok(self.reader.finish(&mut self.context, &mut self.taker)?)
     }
+
+    /// What was read, without the reader.
+    fn into_finished(self, globals: Snapshot) -> Finished<T>
+        ensures { result ≡ finished self globals }
+    {
+        let Streaming {
+            reader,
+            context,
+            taker,
+            fault: _,
+        } = self;
+        drop(reader);
+        Finished {
+            context,
+            taker,
+            globals,
+        }
+    }
 }
 
 /// Reads what an input has left as a stream, at most `limit` bytes, and hands its rows to a taker
@@ -128,10 +150,11 @@ pub(crate) fn read_stream<S: Source, T: Taker + Drop>(
         StopsRows end limit (change_of S.left S.faults input.old input.new)) }
 {
     let mut streaming = Streaming::new(alloc, context, taker)?;
-    let globals = streaming.read(alloc, input, limit)?;
-    Ok(Finished {
-        context: streaming.context,
-        taker: streaming.taker,
-        globals,
-    })
+    match streaming.read(alloc, input, limit) {
+        Ok(globals) => Ok(streaming.into_finished(globals)),
+        Err(end) => {
+            drop(streaming);
+            Err(end)
+        }
+    }
 }

@@ -1,21 +1,19 @@
-use Rattle.std.proofs.Common.{[], ap, ◌∙◌}
+use Rattle.std.proofs.Common.{◌∙◌}
 use Rattle.std.proofs.lemmas.Result.{IfOk-weaker}
-use Rattle.cal_records.specs.Records.{globals_of, run_rows}
+use Rattle.cal_records.specs.Records.{run_rows}
 use Rattle.cal_write.specs.CanonicalText.{canonical_text}
-use Rattle.cal_write.specs.WriterGrows.{HasTaken-stays}
 use Rattle.caliper.proofs.running.run_text_in.Goals as goal
+
+pub write_run-requires-clause-none : goal.write_run-requires-clause-none
+write_run-requires-clause-none c = c.in_ok-writer.ensures c.of.new.context
 
 pub returns : goal.returns
 returns c =
-    let script = c.args.script.now in
-    let rows = run_rows script c.args.journal.now in
-    let run = c.take_run.new.context in
-    let whole = c.put_globals.new.context in
-    let writer = c.take_run.new.taker in
-    let taken = c.in_ok-take_run.ensures.taken [] (c.in_ok-writer.ensures c.of.new.context) in
-    let stays = HasTaken-stays writer run whole rows taken c.put_globals.ensures.grows in
-    let globals = c.in_ok-globals.ensures.means.means ∙ ap globals_of c.as_slice.ensures in
+    let rows = run_rows c.args.script.now c.args.journal.now in
     IfOk-weaker c.finish.result _ _
-    (λ text is. is rows stays
-    ∙ (λ j. canonical_text (record { rows = rows; globals = globals j })))
+    (λ text is. is rows c.in_ok-globals.ensures.taken
+    ∙ (λ j. canonical_text (record {
+      rows = rows;
+      globals = c.in_ok-globals.ensures.globals.means j;
+    })))
     c.finish.ensures
