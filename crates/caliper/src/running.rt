@@ -42,7 +42,10 @@ fn run_text_in(
 {
     let numbers = Numbers::of(alloc, script, context)?;
     let mut writer = Writer::new(alloc)?;
-    let globals = write_run(alloc, script, journal, &numbers, context, &mut writer)?;
+    let Ok(globals) = write_run(alloc, script, journal, &numbers, context, &mut writer) else {
+        drop(writer);
+        return Err(OutOfMemory);
+    };
     writer.finish(context, &globals)
 }
 
@@ -94,7 +97,10 @@ fn plain_text_in(
 {
     let numbers = Numbers::of(alloc, script, context)?;
     let mut writer = Writer::new(alloc)?;
-    let (globals, refused) = write_plain(alloc, script, &numbers, context, &mut writer)?;
+    let Ok((globals, refused)) = write_plain(alloc, script, &numbers, context, &mut writer) else {
+        drop(writer);
+        return Err(OutOfMemory);
+    };
     let text = writer.finish(context, &globals)?;
     Ok((text, refused))
 }

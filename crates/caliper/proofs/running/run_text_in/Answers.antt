@@ -11,9 +11,9 @@ pub returns : goal.returns
 returns c =
     let rows = run_rows c.args.script.now c.args.journal.now in
     IfOk-weaker c.finish.result _ _
-    (λ text is. is rows c.in_ok-globals.ensures.taken
+    (λ text is. is rows c.in-Ok.ensures.taken
     ∙ (λ j. canonical_text (record {
       rows = rows;
-      globals = c.in_ok-globals.ensures.globals.means j;
+      globals = c.in-Ok.ensures.globals.means j;
     })))
     c.finish.ensures
