@@ -2,6 +2,7 @@
 use Rattle.std.specs.Prelude.{◌≡◌, ℕ, List, ◌++◌, Option, None, Some}
 use Rattle.cal_context.specs.Snapshots.{IsIn, meaning}
 use Rattle.cal_context.specs.Tree.{Tree}
+use Rattle.cal_context.specs.declared.snapshot.Snapshot.{Snapshot}
 use Rattle.cal_read.specs.Reading.{HasRead, IsReady, rows_before}
 use Rattle.cal_read.specs.Stream.{IsFault, IsStream, Stream}
 use Rattle.cal_value.specs.declared.record.Rec.{Rec}
@@ -32,6 +33,10 @@ module _ {T : Type 0} (has_taken : T → Tree → List Rec → Type 0) where
     pub rows : has_taken f.taker f.context stream.rows
     pub within : IsIn f.context f.globals
     pub globals : meaning f.context f.globals ≡ stream.globals
+
+-- a reader that has read to the end, with the globals there
+abbrev pub finished : {T : Type 0} → Streaming T → Snapshot → Finished T
+finished s globals = record { context = s.context; taker = s.taker; globals = globals }
 
 abbrev pub MayBeFed : {T : Type 0} → Option BadLine → Streaming T → Type 0
 MayBeFed None s = IsReady s.reader s.context

@@ -4,9 +4,10 @@ ghost use Rattle.cal_engine.specs.Answers.{answer_of};
 ghost use Rattle.cal_ql.specs.Valid.{IsValidQuery};
 ghost use Rattle.cal_rowset.specs.Numbers.{rowset_of};
 ghost use Rattle.cal_tabfmt.specs.Expand.{expand_lines};
-ghost use Rattle.cal_query.specs.Layout.{LaysOut, StopsRows};
+ghost use Rattle.cal_query.specs.Layout.{LaysOut, StopsRows, layout};
 ghost use Rattle.cal_query.specs.Plain.{is_expand, is_nil, is_none, is_plain};
 ghost use Rattle.cal_query.specs.Seeing.{SeesRows};
+ghost use Rattle.cal_query.specs.declared.end.RowsEnd.TheVariants as ends;
 
 use crate::RowsEnd;
 use crate::folding::{answer_over, new_fold};
@@ -45,7 +46,17 @@ pub fn query_text<S: Source>(
         return rows_text(alloc, input, limit, join);
     }
     let answer = find_answer(alloc, input, limit, join, query)?;
-    Ok(lay_out(alloc, query.format, &answer)?)
+    let text = lay_out_found(alloc, query.format, &answer);
+    drop(answer);
+    text
+}
+
+/// The layout of an answer that was found.
+fn lay_out_found(alloc: Global, format: Format, answer: &SnapshotRowset) -> Result<Text, RowsEnd>
+    ensures text { IfOk result (λ text. text ≡ layout format (rowset_of answer.now)) }
+    ensures refused { IfErr result (λ end. end ≡ ends.OutOfMemory) }
+{
+    Ok(lay_out(alloc, format, answer)?)
 }
 
 /// Whether a query has no clause but FORMAT expand.
@@ -76,7 +87,9 @@ fn rows_text<S: Source>(
 {
     let writer = ExpandWriter::new(alloc);
     let seen = see_rows(alloc, input, limit, join, Context::new(alloc), writer)?;
-    Ok(seen.taker.finish())
+    let Seen { context, taker } = seen;
+    drop(context);
+    Ok(taker.finish())
 }
 
 /// The answer of a query over the rows.

@@ -19,7 +19,10 @@ pub(crate) fn new_fold(alloc: Global, query: &Query) -> Result<Seen<SnapshotFold
     ensures { IfOk result (λ none. HasFolded none.taker none.context []) }
 {
     let mut context = Context::new(alloc);
-    let taker = SnapshotFold::new(alloc, query, &mut context)?;
+    let Ok(taker) = SnapshotFold::new(alloc, query, &mut context) else {
+        drop(context);
+        return Err(OutOfMemory);
+    };
     Ok(Seen { context, taker })
 }
 
@@ -35,6 +38,8 @@ pub(crate) fn answer_over(
         → HasFolded fold context rows → rowset_of answer ≡ answer_of query.now rows) }
 {
     if !is_same(fold.query(), query) {
+        drop(fold);
+        drop(context);
         return Err(OutOfMemory);
     }
     fold.finish(context)

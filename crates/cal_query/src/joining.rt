@@ -50,12 +50,18 @@ fn copy_of(alloc: Global, snapshot: &Snapshot) -> Result<Snapshot, OutOfMemory>
     ensures nodes { IfOk result (λ copy. copy.nodes.items ≡ snapshot.now.nodes.items) }
     ensures imms { IfOk result (λ copy. copy.imms.items ≡ snapshot.now.imms.items) }
 {
-    let mut imms = Vec::with_capacity(alloc, snapshot.imms.len())?;
-    add_copies(alloc, &mut imms, &snapshot.imms)?;
-    Ok(Snapshot {
-        nodes: Vec::from_slice(alloc, &snapshot.nodes)?,
-        imms,
-    })
+    let nodes = Vec::from_slice(alloc, &snapshot.nodes)?;
+    let imms = copies(alloc, &snapshot.imms)?;
+    Ok(Snapshot { nodes, imms })
+}
+
+/// Copies of immediates.
+fn copies(alloc: Global, others: &[Immediate]) -> Result<Vec<Immediate>, OutOfMemory>
+    ensures { IfOk result (λ imms. imms.items ≡ others.now) }
+{
+    let mut imms = Vec::with_capacity(alloc, others.len())?;
+    add_copies(alloc, &mut imms, others)?;
+    Ok(imms)
 }
 
 /// Adds copies of immediates.
@@ -176,9 +182,28 @@ fn hand_on_one<T: Taker>(
         (with_entries (map (entry_of context.now) globals.old.items)
         (meaning context.now snapshot) ∷ [])) }
 {
+    hand_on_lent(context, &mut snapshot, globals, taker)
+}
+
+/// The same of a row that is lent.
+fn hand_on_lent<T: Taker>(
+    context: &Context,
+    snapshot: &mut Snapshot,
+    globals: &mut Vec<Immediate>,
+    taker: &mut T,
+) -> Result<(), OutOfMemory>
+    requires row { IsIn context.now snapshot.old }
+    requires globals { All (λ i. i.attribute.0 < length context.now.attributes) globals.old.items }
+    ensures globals { OnOk result (globals.new.items ≡ globals.old.items) }
+    ensures taken { OnOk result (TakesMore
+        (T.has_taken taker.old context.now)
+        (T.has_taken taker.new context.now)
+        (with_entries (map (entry_of context.now) globals.old.items)
+        (meaning context.now snapshot.old) ∷ [])) }
+{
     let own = snapshot.imms.len();
     snapshot.imms.append(globals)?;
-    taker.take(context, &snapshot)?;
+    taker.take(context, snapshot)?;
     *globals = snapshot.imms.split_off(own)?;
     Ok(())
 }

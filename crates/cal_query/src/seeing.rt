@@ -1,4 +1,4 @@
-ghost use Rattle.std.specs.Prelude.{true, false, [], map, IfOk, IfErr};
+ghost use Rattle.std.specs.Prelude.{true, false, [], map, IfOk, IfErr, OnOk};
 ghost use Rattle.std.specs.List.{All};
 ghost use Rattle.cal_base.specs.Change.{change_of};
 ghost use Rattle.cal_context.specs.Snapshots.{IsIn, meaning};
@@ -12,7 +12,7 @@ use crate::RowsEnd;
 use crate::joining::{Kept, all_immediates, hand_on};
 use crate::streaming::{Finished, read_stream};
 use cal_base::Source;
-use cal_context::{Context, Taker};
+use cal_context::{Context, Snapshot, Taker};
 use cal_value::OutOfMemory;
 use std::alloc::Global;
 
@@ -109,7 +109,30 @@ fn join<T: Taker + Drop>(alloc: Global, read: Finished<Kept<T>>) -> Result<Seen<
         snapshots,
         waiting: mut taker,
     } = kept;
-    let joined = all_immediates(alloc, &context, &globals)?;
-    hand_on(&context, snapshots, joined, &mut taker)?;
+    let Ok(()) = hand_on_joined(alloc, &context, snapshots, &globals, &mut taker) else {
+        drop(taker);
+        drop(context);
+        return Err(OutOfMemory);
+    };
     Ok(Seen { context, taker })
+}
+
+/// Hands on rows that were kept, with the entries of globals at the end of each.
+fn hand_on_joined<T: Taker>(
+    alloc: Global,
+    context: &Context,
+    kept: Vec<Snapshot>,
+    globals: &Snapshot,
+    taker: &mut T,
+) -> Result<(), OutOfMemory>
+    requires kept { All (IsIn context.now) kept.items }
+    requires globals { IsIn context.now globals.now }
+    ensures { OnOk result (TakesMore
+        (T.has_taken taker.old context.now)
+        (T.has_taken taker.new context.now)
+        (map (with_entries (flat (meaning context.now globals.now)))
+        (map (meaning context.now) kept.items))) }
+{
+    let joined = all_immediates(alloc, context, globals)?;
+    hand_on(context, kept, joined, taker)
 }

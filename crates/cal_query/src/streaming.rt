@@ -2,7 +2,7 @@ ghost use Rattle.std.specs.Prelude.{◌≡◌, [], ◌++◌, ℕ, List, None, If
 ghost use Rattle.cal_base.specs.Change.{change_of};
 ghost use Rattle.cal_base.specs.ReadEnds.{ReadsAll};
 ghost use Rattle.cal_query.specs.Layout.{StopsRows};
-ghost use Rattle.cal_query.specs.Streaming.{FallsAt, HasFinished, HasStreamed, MayBeFed};
+ghost use Rattle.cal_query.specs.Streaming.{FallsAt, HasFinished, HasStreamed, MayBeFed, finished};
 
 use crate::RowsEnd;
 use crate::pieces::{Fed, feed_all};
@@ -64,7 +64,11 @@ impl<T: Taker + Drop> Streaming<T> {
         ensures ready { IfOk result (λ s. MayBeFed s.fault s) }
         ensures read { IfOk result (λ s. HasStreamed T.has_taken s []) }
     {
-        let reader = StreamReader::new(alloc, &mut context)?;
+        let Ok(reader) = StreamReader::new(alloc, &mut context) else {
+            drop(taker);
+            drop(context);
+            return Err(OutOfMemory);
+        };
         Ok(Streaming {
             reader,
             context,
@@ -73,32 +77,59 @@ impl<T: Taker + Drop> Streaming<T> {
         })
     }
 
-    /// Reads the end of the input.
-    fn finish(self) -> Result<Finished<T>, RowsEnd>
-        requires { MayBeFed self.fault self }
-        ensures read { IfOk result (λ f. (bytes : List ℕ)
-            → HasStreamed T.has_taken self bytes → HasFinished T.has_taken f bytes) }
-        ensures refused { IfErr result (λ end. (bytes : List ℕ)
-            → HasStreamed T.has_taken self bytes → FallsAt end bytes) }
+    /// Reads all that an input has left, at most `limit` bytes, and its end: the globals.
+    fn read<S: Source>(
+        &mut self,
+        alloc: Global,
+        input: &mut S,
+        limit: u64,
+    ) -> Result<Snapshot, RowsEnd>
+        requires ready { MayBeFed self.old.fault self.old }
+        requires read { HasStreamed T.has_taken self.old [] }
+        ensures read { IfOk result (λ globals. (bytes : List ℕ)
+            × ReadsAll limit (change_of S.left S.faults input.old input.new) bytes
+            × HasFinished T.has_taken (finished self.new globals) bytes) }
+        ensures refused { IfErr result (λ end.
+            StopsRows end limit (change_of S.left S.faults input.old input.new)) }
     {
-        let Streaming {
-            mut reader,
-            mut context,
-            mut taker,
-            fault,
-        } = self;
-        if let Some(bad) = fault {
+        feed_all(alloc, input, limit, self)?;
+        self.finish()
+    }
+
+    /// Reads the end of the input: the globals.
+    fn finish(&mut self) -> Result<Snapshot, RowsEnd>
+        requires { MayBeFed self.old.fault self.old }
+        ensures read { IfOk result (λ globals. (bytes : List ℕ)
+            → HasStreamed T.has_taken self.old bytes
+            → HasFinished T.has_taken (finished self.new globals) bytes) }
+        ensures refused { IfErr result (λ end. (bytes : List ℕ)
+            → HasStreamed T.has_taken self.old bytes → FallsAt end bytes) }
+    {
+        if let Some(bad) = self.fault {
             return Err(RowsEnd::BadLine {
                 line: bad.line,
                 kind: bad.kind,
             });
         }
-        let globals = reader.finish(&mut context, &mut taker)?;
-        Ok(Finished {
+        Ok(self.reader.finish(&mut self.context, &mut self.taker)?)
+    }
+
+    /// What was read, without the reader.
+    fn into_finished(self, globals: Snapshot) -> Finished<T>
+        ensures { result ≡ finished self globals }
+    {
+        let Streaming {
+            reader,
+            context,
+            taker,
+            fault: _,
+        } = self;
+        drop(reader);
+        Finished {
             context,
             taker,
             globals,
-        })
+        }
     }
 }
 
@@ -119,6 +150,11 @@ pub(crate) fn read_stream<S: Source, T: Taker + Drop>(
         StopsRows end limit (change_of S.left S.faults input.old input.new)) }
 {
     let mut streaming = Streaming::new(alloc, context, taker)?;
-    feed_all(alloc, input, limit, &mut streaming)?;
-    streaming.finish()
+    match streaming.read(alloc, input, limit) {
+        Ok(globals) => Ok(streaming.into_finished(globals)),
+        Err(end) => {
+            drop(streaming);
+            Err(end)
+        }
+    }
 }

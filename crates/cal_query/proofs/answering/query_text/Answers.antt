@@ -17,6 +17,9 @@ returns-then-is_plain-clause-text g c =
 
 pub returns-clause-text : goal.returns-clause-text
 returns-clause-text g c =
-    lays_out c.args.join c.args.limit _ c.args.query.now _ _
-    (λ rows is. c.in_ok-lay_out.ensures ∙ ap (layout c.args.query.now.format) is)
-    c.in_ok-answer.ensures.answer
+    let query = c.args.query.now in
+    IfOk-weaker c.lay_out_found-text.result _ _
+    (λ text laid. lays_out c.args.join c.args.limit _ query text _
+    (λ rows is. laid ∙ ap (layout query.format) is)
+    c.in_ok-answer.ensures.answer)
+    c.lay_out_found-text.ensures.text

@@ -6,19 +6,20 @@ use Rattle.cal_query.proofs.streaming.Streaming.finish.Goals as goal
 
 pub returns-in-Some-clause-refused : goal.returns-in-Some-clause-refused
 returns-in-Some-clause-refused g c = λ bytes has.
-    falls_last g.T.Taker.has_taken c.args.self.fault c.args.self c.in-Some.bad bytes c.in-Some.is has
+    falls_last g.T.Taker.has_taken c.args.self.now.fault c.args.self.now c.in-Some.bad bytes
+    c.in-Some.is has
 
-pub returns-in_err-globals-clause-refused : goal.returns-in_err-globals-clause-refused
-returns-in_err-globals-clause-refused g c =
-    let none : is_some c.args.self.fault ≡ false = search rules in
+pub returns-in_err-finish-clause-refused : goal.returns-in_err-finish-clause-refused
+returns-in_err-finish-clause-refused g c =
+    let none : is_some c.args.self.now.fault ≡ false = search rules in
     let p = err_from_is_err_and c.from_residual.result c.from_residual.ensures.1 in
     rw (p.1, p.2)
     (λ bytes has.
-    refused_at_end g.T.Taker.has_taken c.args.self.fault c.args.self _ bytes none
-    c.in_err-globals.ensures.fault has)
+    refused_at_end g.T.Taker.has_taken c.args.self.now.fault c.args.self.now _ bytes none
+    c.in_err-finish.ensures.fault has)
 
 pub returns-clause-read : goal.returns-clause-read
 returns-clause-read g c = λ bytes has.
-    let none : is_some c.args.self.fault ≡ false = search rules in
-    finishes g.T.Taker.has_taken c.args.self.fault c.args.self _ bytes none
-    c.in_ok-globals.ensures.within c.in_ok-globals.ensures.globals c.in_ok-globals.ensures.taken has
+    let none : is_some c.args.self.now.fault ≡ false = search rules in
+    finishes g.T.Taker.has_taken c.args.self.now.fault c.args.self.now _ bytes none
+    c.in_ok-finish.ensures.within c.in_ok-finish.ensures.globals c.in_ok-finish.ensures.taken has
