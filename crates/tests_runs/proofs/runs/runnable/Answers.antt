@@ -1,4 +1,4 @@
 use Rattle.tests_runs.proofs.runs.runnable.Goals as goal
 
 pub returns : goal.returns
-returns c = c.valid_script_law.ensures c.in_ok-script.script (c.args.text, c.in_ok-script.ensures)
+returns c = c.valid_script_law.ensures c.in_ok-script.script (c.args.text.now, c.in_ok-script.ensures)
