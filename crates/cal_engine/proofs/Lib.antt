@@ -35,3 +35,4 @@ pub mod AnswerParts
 pub mod KeyWays
 pub mod OwnNodes
 pub mod Making
+pub mod PartTables

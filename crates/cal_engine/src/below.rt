@@ -11,6 +11,7 @@ ghost use Rattle.cal_engine.specs.Totals.{AreTotals, AreWaysBehind};
 use crate::key::GroupKey;
 use crate::own_ways::own_ways;
 use crate::part::Part;
+use crate::part_table::PartTable;
 use crate::upwards::add_upwards;
 use crate::ways::{ways_to, ways_to_keys};
 use cal_context::{Context, NodeNumber};
@@ -22,7 +23,7 @@ use std::alloc::Global;
 pub(crate) fn parts_below(
     alloc: Global,
     keys: &[Rec],
-    parts: &[Seq<Part>],
+    parts: &PartTable,
     none: &Seq<Part>,
 ) -> Result<Vec<Seq<Part>>, OutOfMemory>
     requires { length parts.now ≡ length keys.now }
@@ -38,7 +39,7 @@ fn parts_below_in(
     alloc: Global,
     context: &mut Context,
     keys: &[Rec],
-    parts: &[Seq<Part>],
+    parts: &PartTable,
     none: &Seq<Part>,
 ) -> Result<Vec<Seq<Part>>, OutOfMemory>
     requires { length parts.now ≡ length keys.now }
@@ -55,7 +56,7 @@ pub(crate) fn parts_below_keys(
     alloc: Global,
     tree: &Context,
     keys: &[GroupKey],
-    parts: &[Seq<Part>],
+    parts: &PartTable,
     none: &Seq<Part>,
 ) -> Result<Vec<Seq<Part>>, OutOfMemory>
     requires { length parts.now ≡ length keys.now }
@@ -75,7 +76,7 @@ fn parts_below_ways(
     alloc: Global,
     tree: &Context,
     keys: &[GroupKey],
-    parts: &[Seq<Part>],
+    parts: &PartTable,
     none: &Seq<Part>,
 ) -> Result<Vec<Seq<Part>>, OutOfMemory>
     requires { length parts.now ≡ length keys.now }
@@ -93,7 +94,7 @@ fn parts_below_ways_in(
     context: &mut Context,
     tree: &Context,
     keys: &[GroupKey],
-    parts: &[Seq<Part>],
+    parts: &PartTable,
     none: &Seq<Part>,
 ) -> Result<Vec<Seq<Part>>, OutOfMemory>
     requires { length parts.now ≡ length keys.now }
@@ -110,7 +111,7 @@ fn gathered_below(
     alloc: Global,
     context: &Context,
     nodes: &[NodeNumber],
-    parts: &[Seq<Part>],
+    parts: &PartTable,
     none: &Seq<Part>,
 ) -> Result<Vec<Seq<Part>>, OutOfMemory>
     requires within { All (λ n. n.0 < length context.now.paths) nodes.now }
@@ -130,7 +131,7 @@ fn totals(
     alloc: Global,
     context: &Context,
     nodes: &[NodeNumber],
-    parts: &[Seq<Part>],
+    parts: &PartTable,
     none: &Seq<Part>,
 ) -> Result<Vec<Seq<Part>>, OutOfMemory>
     requires within { All (λ n. n.0 < length context.now.paths) nodes.now }
@@ -140,7 +141,7 @@ fn totals(
 {
     let mut totals = copies(alloc, none, context.node_count())?;
     for (number, node) in nodes.iter().enumerate() {
-        add_upwards(alloc, context, *node, &parts[number], &mut totals)?;
+        add_upwards(alloc, context, *node, parts.at(number), &mut totals)?;
     }
     Ok(totals)
 }

@@ -186,13 +186,12 @@ pub(crate) fn add_record(
     counters: &[Counter],
     context: &Context,
     snapshot: &Snapshot,
-    parts: &mut Vec<Part>,
+    parts: &mut [Part],
 ) -> Result<(), OutOfMemory>
     requires { IsIn context.now snapshot.now }
     ensures { OnOk result ((rs : List AReading)
         → AllZip (IsReadyCounter context.now) rs counters.now
-        → parts.new.items
-        ≡ merged_parts parts.old.items (parts_by rs (meaning context.now snapshot.now))) }
+        → parts.new ≡ merged_parts parts.old (parts_by rs (meaning context.now snapshot.now))) }
 {
     if parts.len() != counters.len() {
         return Err(OutOfMemory);

@@ -17,6 +17,7 @@ ghost use Rattle.cal_engine.specs.Rows.{row_of as row_by};
 use crate::below::parts_below;
 use crate::groups::total;
 use crate::part::Part;
+use crate::part_table::PartTable;
 use crate::reading::push_some;
 use cal_agg::Num;
 use cal_filter::value_of_number;
@@ -132,9 +133,10 @@ pub(crate) fn group_rows(
 {
     let aggs = query.aggs.as_slice();
     let none = no_parts(alloc, aggs)?;
-    let all = total(alloc, parts, &none)?;
+    let table = PartTable::of(alloc, parts)?;
+    let all = total(alloc, &table, &none)?;
     if some_inclusive(aggs) {
-        let below = parts_below(alloc, &keys, parts, &none)?;
+        let below = parts_below(alloc, &keys, &table, &none)?;
         let made = rows(alloc, aggs, keys, parts, &all, &below)?;
         return Ok(made);
     }

@@ -9,6 +9,7 @@ ghost use Rattle.cal_engine.specs.Parts.{behind, merged_parts as merged_by_place
 
 use crate::finishing::group_rows;
 use crate::part::Part;
+use crate::part_table::PartTable;
 use cal_context::Interner;
 use cal_ql::Query;
 use cal_value::{OutOfMemory, Rec, Seq, TryCopy};
@@ -106,14 +107,14 @@ fn copies(alloc: Global, keys: &[Rec]) -> Result<Vec<Rec>, OutOfMemory>
 /// Parts taken together.
 pub(crate) fn total(
     alloc: Global,
-    parts: &[Seq<Part>],
+    parts: &PartTable,
     none: &Seq<Part>,
 ) -> Result<Seq<Part>, OutOfMemory>
     ensures { IfOk result (λ total. total ≡ fold merged_by_place none.now parts.now) }
 {
     let mut total = none.copy(alloc)?;
-    for more in parts {
-        merge_into(alloc, &mut total, more.as_slice())?;
+    for number in 0..parts.count() {
+        merge_into(alloc, &mut total, parts.at(number))?;
     }
     Ok(total)
 }

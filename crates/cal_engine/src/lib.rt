@@ -25,6 +25,7 @@ mod numbered;
 mod other_parts;
 mod own_ways;
 mod part;
+mod part_table;
 mod reading;
 mod shown_names;
 mod sieve;

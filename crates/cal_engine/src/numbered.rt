@@ -6,24 +6,23 @@ ghost use Rattle.cal_context.specs.Snapshots.{IsIn, meaning};
 ghost use Rattle.cal_engine.specs.Counters.{IsReadyCounter};
 ghost use Rattle.cal_engine.specs.Folding.{put_parts};
 ghost use Rattle.cal_engine.specs.Numbered.{GathersKey};
-ghost use Rattle.cal_engine.specs.Parts.{merged_parts};
 ghost use Rattle.cal_engine.specs.Readings.{parts_of as parts_by};
 ghost use Rattle.cal_engine.specs.declared.reading.Reading.{Reading as AReading};
 
 use crate::counter::{Counter, add_record, no_parts_for};
 use crate::key::GroupKey;
 use crate::part::Part;
+use crate::part_table::PartTable;
 use cal_context::{Context, Interner, NodeNumber, Snapshot};
-use cal_value::{OutOfMemory, Seq, same};
+use cal_value::{OutOfMemory, same};
 use std::alloc::Global;
 use std::marker::Model;
-use std::mem;
 
 /// Groups by numbers whose keys are numbers too, in first-seen order, and what is kept of each.
 #[derive(Drop)]
 pub(crate) struct NumberedGroups {
     keys: Interner<GroupKey>,
-    parts: Vec<Seq<Part>>,
+    parts: PartTable,
     // the group that was last gathered, if any
     last: usize,
     // of nodes that stand first in keys: the group that was last gathered there
@@ -36,9 +35,9 @@ impl Model for NumberedGroups {
 
     ghost Value = { Numbered };
 
-    ghost view = { λ s. record { keys = s.keys; parts = s.parts.items } };
+    ghost view = { λ s. record { keys = s.keys; parts = s.parts } };
 
-    ghost invariant = { λ s. length s.parts.items ≡ length s.keys };
+    ghost invariant = { λ s. length s.parts ≡ length s.keys };
 }
 
 impl NumberedGroups {
@@ -48,7 +47,7 @@ impl NumberedGroups {
     {
         NumberedGroups {
             keys: Interner::new(alloc),
-            parts: Vec::new(alloc),
+            parts: PartTable::new(alloc),
             last: 0,
             hints: Vec::new(alloc),
         }
@@ -109,7 +108,7 @@ impl NumberedGroups {
     }
 
     /// What is kept of each group.
-    pub fn parts(&self) -> &[Seq<Part>]
+    pub fn parts(&self) -> &PartTable
         ensures parts { result.now ≡ self.now.parts }
         ensures counted { length result.now ≡ length self.now.keys }
     {
@@ -122,10 +121,7 @@ impl NumberedGroups {
         ensures { result.now ≡ slice_index_or self.now.parts number [] }
     {
         let _ = &self.keys;
-        match self.parts.get(number) {
-            Some(parts) => parts.as_slice(),
-            None => &[],
-        }
+        self.parts.at(number)
     }
 }
 
@@ -185,43 +181,24 @@ fn put_record(
     counters: &[Counter],
     context: &Context,
     snapshot: &Snapshot,
-    parts: &mut Vec<Seq<Part>>,
+    parts: &mut PartTable,
     number: usize,
 ) -> Result<(), OutOfMemory>
     requires within { IsIn context.now snapshot.now }
-    requires number { number ≤ length parts.old.items }
+    requires number { number ≤ length parts.old }
     ensures ok { OnOk result ((rs : List AReading)
-        → AllZip (IsReadyCounter context.now) rs counters.now → parts.new.items
-        ≡ put_parts parts.old.items number (parts_by rs (meaning context.now snapshot.now))) }
+        → AllZip (IsReadyCounter context.now) rs counters.now → parts.new
+        ≡ put_parts parts.old number (parts_by rs (meaning context.now snapshot.now))) }
     ensures long { OnOk result
-        (length parts.new.items ≡ max (length parts.old.items) (number + 1)) }
-    ensures err { OnErr result (length parts.new.items ≡ length parts.old.items) }
+        (length parts.new ≡ max (length parts.old) (number + 1)) }
+    ensures err { OnErr result (length parts.new ≡ length parts.old) }
 {
-    if number < parts.len() {
-        add_to_group(alloc, counters, context, snapshot, &mut parts[number])?;
+    if number < parts.count() {
+        parts.add_at(number, counters, context, snapshot)?;
     } else {
         let mut fresh = no_parts_for(alloc, counters)?;
         add_record(counters, context, snapshot, &mut fresh)?;
-        parts.push(Seq::from_vec(fresh))?;
+        parts.push(fresh)?;
     }
-    Ok(())
-}
-
-/// Adds a record to the parts of a group. What is left of them after an `Err` isn't promised.
-fn add_to_group(
-    alloc: Global,
-    counters: &[Counter],
-    context: &Context,
-    snapshot: &Snapshot,
-    parts: &mut Seq<Part>,
-) -> Result<(), OutOfMemory>
-    requires { IsIn context.now snapshot.now }
-    ensures { OnOk result ((rs : List AReading)
-        → AllZip (IsReadyCounter context.now) rs counters.now
-        → parts.new ≡ merged_parts parts.old (parts_by rs (meaning context.now snapshot.now))) }
-{
-    let mut held = mem::replace(parts, Seq::new(alloc)).into_vec();
-    add_record(counters, context, snapshot, &mut held)?;
-    *parts = Seq::from_vec(held);
     Ok(())
 }

@@ -12,7 +12,7 @@ pub(crate) fn add_upwards(
     alloc: Global,
     context: &Context,
     node: NodeNumber,
-    parts: &Seq<Part>,
+    parts: &[Part],
     totals: &mut Vec<Seq<Part>>,
 ) -> Result<(), OutOfMemory>
     requires node { node.0 < length context.now.paths }
@@ -25,7 +25,7 @@ pub(crate) fn add_upwards(
     let mut at = node;
     loop {
         let place = at.0 as usize;
-        merge_into(alloc, &mut totals[place], parts.as_slice())?;
+        merge_into(alloc, &mut totals[place], parts)?;
         match context.link(at) {
             Some(link) => at = link.parent,
             None => return Ok(()),

@@ -10,7 +10,7 @@ use Rattle.cal_engine.proofs.counter.add_record.Given as goal
 -- those before this place are added to, and the others are as they were
 abbrev pub invariant-loop-place : goal.invariant-loop-place
 invariant-loop-place l = record {
-  long : length l.parts.items ≡ length l.counters;
-  merged : (rs : List Reading) → AllZip (IsReadyCounter l.context) rs l.counters → l.parts.items
-      ≡ merged_parts l.fn.parts.items (take l.place (parts_of rs (meaning l.context l.snapshot))) ++ drop l.place l.fn.parts.items;
+  long : length l.parts ≡ length l.counters;
+  merged : (rs : List Reading) → AllZip (IsReadyCounter l.context) rs l.counters → l.parts
+      ≡ merged_parts l.fn.parts (take l.place (parts_of rs (meaning l.context l.snapshot))) ++ drop l.place l.fn.parts;
 }

@@ -17,9 +17,12 @@ returns-then-some_inclusive c = λ rs is.
     let aggs = c.as_slice-aggs.ensures in
     let lists = query_lists q rs in
     let added = subst (λ (ks : List Rec). below ≡ map (λ key. fold merged_parts c.in_ok-none.none (parts_where (is_below key) ks groups.parts)) ks)
-    c.deref.ensures.value c.in_ok-below.ensures in
+    c.deref.ensures.value
+    (c.in_ok-below.ensures
+    ∙ ap (λ ps. map (λ key. fold merged_parts c.in_ok-none.none (parts_where (is_below key) c.deref.result.now ps)) c.deref.result.now) c.in_ok-table.ensures) in
     let parts = query_parts q rs groups c.in_ok-none.none all below is
-    (c.in_ok-none.ensures ∙ ap (λ a. parts_over a []) aggs) c.in_ok-all.ensures added in
+    (c.in_ok-none.ensures ∙ ap (λ a. parts_over a []) aggs)
+    (c.in_ok-all.ensures ∙ ap (fold merged_parts c.in_ok-none.none) c.in_ok-table.ensures) added in
     let here = subst (λ a. AreGroupParts a lists groups.keys groups.parts all c.deref-then-some_inclusive.result.now) (sym aggs)
     (subst (λ b. AreGroupParts q.aggs lists groups.keys groups.parts all b) (sym c.deref-then-some_inclusive.ensures.value) parts) in
     query_rows q rs groups.keys c.in_ok-made.made (ap (λ g. g.keys) is)
@@ -33,7 +36,8 @@ returns c = λ rs is.
     let aggs = c.as_slice-aggs.ensures in
     let lists = query_lists q rs in
     let parts = flat_parts q rs groups c.in_ok-none.none all is
-    (c.in_ok-none.ensures ∙ ap (λ a. parts_over a []) aggs) c.in_ok-all.ensures in
+    (c.in_ok-none.ensures ∙ ap (λ a. parts_over a []) aggs)
+    (c.in_ok-all.ensures ∙ ap (fold merged_parts c.in_ok-none.none) c.in_ok-table.ensures) in
     let here = subst (λ a. AreGroupParts a (flat_lists lists) groups.keys groups.parts all groups.parts) (sym aggs) parts in
     let none = sym (c.some_inclusive.ensures ∙ ap (λ xs. list_any (λ agg. is_inclusive agg.kernel) xs) aggs) ∙ c.if-some_inclusive.false in
     query_rows q rs groups.keys c.in_ok-made-2.made (ap (λ g. g.keys) is)

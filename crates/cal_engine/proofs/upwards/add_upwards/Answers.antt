@@ -22,7 +22,7 @@ loop-link-preserved c =
     let node = c.loop-link.at in
     let now = c.loop-link.totals.items in
     let linked = c.in-Some.ensures.linked in
-    let total = c.in_ok-merge_into.ensures ∙ (λ i. merged_parts (c.index_mut.ensures.value i) (c.as_slice.ensures i)) in
+    let total = c.in_ok-merge_into.ensures ∙ ap (λ ps. merged_parts ps c.args.parts.now) c.index_mut.ensures.value in
     record {
       within = omega (arith, linked.child.later, inv.within);
       long = simp length-set inv.long;
@@ -38,7 +38,7 @@ returns-in-None-clause-added c =
     let inv = c.loop-link.invariant in
     let node = c.loop-link.at in
     let now = c.loop-link.totals.items in
-    let total = c.in_ok-merge_into.ensures ∙ (λ i. merged_parts (c.index_mut.ensures.value i) (c.as_slice.ensures i)) in
+    let total = c.in_ok-merge_into.ensures ∙ ap (λ ps. merged_parts ps c.args.parts.now) c.index_mut.ensures.value in
     subst (λ (x : List Gathered). IsAddedAbove t c.args.node c.args.parts.now c.args.totals.now.items (slice_set now node.0 x)) (sym total)
     (added_last c.has_each_once.ensures c.args.node node c.args.parts.now c.args.totals.now.items now c.index_mut.result.now
     inv.added inv.within c.requires.long inv.long inv.above c.in-None.ensures.root.1)
