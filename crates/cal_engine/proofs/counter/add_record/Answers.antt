@@ -1,8 +1,7 @@
-use Rattle.std.proofs.Common.{◌≡◌, ◌+◌, ◌<◌, ◌++◌, [], ◌∷◌, length, map, take, get_or, ap, sym, ◌∙◌, arith}
-use Rattle.std.specs.Prelude.{slice_set}
+use Rattle.std.proofs.Common.{◌≡◌, ◌<◌, length, get_or, ap, ◌∙◌, arith}
 use Rattle.std.proofs.lemmas.List.{length-set}
 use Rattle.cal_context.specs.Snapshots.{meaning}
-use Rattle.cal_filter.proofs.Zips.{zip_at, zip_length}
+use Rattle.cal_filter.proofs.Zips.{zip_length}
 use Rattle.cal_engine.specs.Counters.{IsReadyCounter}
 use Rattle.cal_engine.specs.Readings.{part_of, parts_of}
 use Rattle.cal_engine.proofs.Adding.{partner_part, parts_long}

@@ -1,4 +1,4 @@
-use Rattle.std.proofs.Common.{◌≡◌, ◌+◌, ◌*◌, ◌-◌, ◌<◌, ◌≤◌, length, sym, ap, subst, ◌∙◌, arith}
+use Rattle.std.proofs.Common.{◌≡◌, ◌+◌, ◌*◌, ◌-◌, length, sym, ap, ◌∙◌, arith}
 use Rattle.std.proofs.lemmas.Result.{on_ok_weaker}
 use Rattle.std.specs.Simd.{first_chunks}
 use Rattle.std.proofs.lemmas.List.{with_items_is}
@@ -6,28 +6,28 @@ use borrow.Rule.Slice.PartMut.{same_len_mid}
 use Rattle.cal_context.specs.Snapshots.{meaning}
 use Rattle.cal_engine.specs.Folding.{put_parts}
 use Rattle.cal_engine.specs.Readings.{parts_of}
-use Rattle.cal_engine.proofs.PartTables.{chunk_merged, chunk_within, length-first_chunks, number_there}
+use Rattle.cal_engine.proofs.PartTables.{chunk_merged, length-first_chunks, number_there, places_within}
 use Rattle.cal_engine.proofs.part_table.PartTable.add_at.Goals as goal
 
 pub overflow_mul-from : goal.overflow_mul-from
 overflow_mul-from c =
     let s = c.self.inside in
-    omega (arith, c.self.invariant, chunk_within s.width s.count c.args.number (number_there s.width s.count _ s.parts.items _ c.self.view_is c.requires.number))
+    omega (arith, places_within s.width s.count c.args.number s.parts.items _ c.self.invariant c.self.view_is c.requires.number)
 
 pub overflow_add-to : goal.overflow_add-to
 overflow_add-to c =
     let s = c.self.inside in
-    omega (arith, c.self.invariant, chunk_within s.width s.count c.args.number (number_there s.width s.count _ s.parts.items _ c.self.view_is c.requires.number))
+    omega (arith, places_within s.width s.count c.args.number s.parts.items _ c.self.invariant c.self.view_is c.requires.number)
 
 pub offset_bounds-deref_mut-from : goal.offset_bounds-deref_mut-from
 offset_bounds-deref_mut-from c =
     let s = c.self.inside in
-    omega (arith, c.self.invariant, c.deref_mut.type_inv, ap length c.deref_mut.ensures.value, chunk_within s.width s.count c.args.number (number_there s.width s.count _ s.parts.items _ c.self.view_is c.requires.number))
+    omega (arith, c.deref_mut.type_inv, ap length c.deref_mut.ensures.value, places_within s.width s.count c.args.number s.parts.items _ c.self.invariant c.self.view_is c.requires.number)
 
 pub slice_bounds-add_record-end : goal.slice_bounds-add_record-end
 slice_bounds-add_record-end c =
     let s = c.self.inside in
-    omega (arith, c.self.invariant, ap length c.deref_mut.ensures.value, chunk_within s.width s.count c.args.number (number_there s.width s.count _ s.parts.items _ c.self.view_is c.requires.number))
+    omega (arith, ap length c.deref_mut.ensures.value, places_within s.width s.count c.args.number s.parts.items _ c.self.invariant c.self.view_is c.requires.number)
 
 pub returns-clause-ok : goal.returns-clause-ok
 returns-clause-ok c =

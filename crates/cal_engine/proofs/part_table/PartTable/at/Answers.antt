@@ -1,5 +1,5 @@
-use Rattle.std.proofs.Common.{◌≡◌, ◌+◌, ◌*◌, ◌-◌, ◌≤◌, [], drop, length, take, sym, ap, ◌∙◌, arith, get_or}
-use Rattle.cal_engine.proofs.PartTables.{chunk_at, chunk_none, length-first_chunks}
+use Rattle.std.proofs.Common.{◌≡◌, ◌+◌, ◌*◌, ◌-◌, [], drop, get_or, take, sym, ap, ◌∙◌, arith}
+use Rattle.cal_engine.proofs.PartTables.{chunk_at, chunk_none}
 use Rattle.cal_engine.proofs.part_table.PartTable.at.Goals as goal
 
 pub returns-then-number-self : goal.returns-then-number-self
