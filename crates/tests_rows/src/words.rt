@@ -59,7 +59,7 @@ fn truths_addresses_and_kinds_are_packed(rt: HostRuntime) {
     check_node(&rt, &Variant::Kind(Kind::Ptr), &[7 << 32, 11]);
 }
 
-/// The kind of a value, its text, and its words behind the attribute's.
+// The kind of a value, its text, and its words behind the attribute's.
 const TEXTS: [(Kind, &str, &[u64]); 6] = [
     (Kind::Str, "", &[3 << 32]),
     (Kind::Str, "ab", &[(3 << 32) + 2, 0x6261]),
