@@ -170,7 +170,8 @@ fn put_all<R: Threads + Sync>(
     own: u32,
 )
     requires seats { All (λ w. IsSeatOf rows.now w.seat) workers.old }
-    requires few { (shared ≤ 1000) × (own ≤ 1000) × (0 < length workers.old) × (length workers.old ≤ 8) }
+    requires few { (shared ≤ 1000) × (own ≤ 1000)
+        × (0 < length workers.old) × (length workers.old ≤ 8) }
     ensures { All (λ w. IsSeatOf rows.now w.seat) workers.new }
 {
     let threads = workers.len();
@@ -196,7 +197,8 @@ fn hire(
     requires fresh { view first.old ≡ first_seat (plan_of rows.now) }
     requires enough { count < (plan_of rows.now).shape.arenas }
     ensures seat { IsSeatOf rows.now first.new × ((view first.new).number ≡ 0) }
-    ensures workers { IfOk result (λ v. (vec_len v ≡ count) × All (λ w. IsSeatOf rows.now w.seat) v.items) }
+    ensures workers { IfOk result (λ v. (vec_len v ≡ count)
+        × All (λ w. IsSeatOf rows.now w.seat) v.items) }
 {
     let mut workers = Vec::new(alloc);
     for _number in 0..count {
