@@ -4,12 +4,12 @@ ghost use Rattle.cal_once.specs.Seats.{view};
 ghost use Rattle.cal_once.specs.Views.{first_seat};
 ghost use Rattle.cal_plog.specs.Seats.{IsLogSeat, ops_of, plan_of, slots_of};
 
+use crate::held::is_true;
 use cal_once::Shape;
 use cal_plog::{LogFull, LogSeat, PLog, history_for_good, one_history, own_operations};
-use cal_value::Seq;
+use cal_value::{OutOfMemory, Seq};
 use cal_words::{OpCode, OpRec};
 use std::alloc::Global;
-use std::test::Fail;
 
 // The operation of thread 0 on this line.
 fn begin(line: u32) -> OpRec
@@ -25,7 +25,7 @@ fn begin(line: u32) -> OpRec
 }
 
 // A history of one slot, for these two operations, and its first seat.
-fn one_slot(alloc: Global, one: OpRec, two: OpRec) -> Result<(PLog, LogSeat), Fail>
+fn one_slot(alloc: Global, one: OpRec, two: OpRec) -> Result<(PLog, LogSeat), OutOfMemory>
     ensures { IfOk result (λ r. IsLogSeat r.0 r.1 × (view r.1 ≡ first_seat (plan_of r.0))
         × (slots_of r.0 ≡ 1) × ((plan_of r.0).shape.arenas ≡ 2) × (ops_of r.0 ≡ one ∷ two ∷ [])) }
 {
@@ -38,7 +38,7 @@ fn one_slot(alloc: Global, one: OpRec, two: OpRec) -> Result<(PLog, LogSeat), Fa
     let mut ops = Vec::new(alloc);
     ops.push(one)?;
     ops.push(two)?;
-    Ok(PLog::new(alloc, shape, Seq::from_vec(ops))?)
+    PLog::new(alloc, shape, Seq::from_vec(ops))
 }
 
 // Appends two operations of the seat's thread, the second behind the first.
@@ -69,25 +69,51 @@ fn first_two(log: &PLog, seat: &mut LogSeat) -> (Option<OpRec>, Option<OpRec>)
     (log.next(seat, 0), log.next(seat, 1))
 }
 
-#[test]
-fn a_history_of_one_slot(rt: HostRuntime) -> Result<(), Fail> {
+// Whether a history of one slot takes the first of these operations alone, and both seats read it.
+fn takes_one(log: &PLog, first: &mut LogSeat, one: OpRec, two: OpRec) -> bool
+    requires seat { IsLogSeat log.now first.old }
+    requires fresh { view first.old ≡ first_seat (plan_of log.now) }
+    requires arenas { (plan_of log.now).shape.arenas ≡ 2 }
+    requires slot { slots_of log.now ≡ 1 }
+    requires ops { ops_of log.now ≡ one ∷ two ∷ [] }
+    requires thread { (one.thread ≡ 0) × (two.thread ≡ 0) }
+    requires line { two.line ≡ one.line + 1 }
+{
+    let mut seat = log.split(first);
+    let answers = append_both(log, &mut seat, one, two);
+    let read = first_two(log, &mut seat);
+    log.join(first, seat);
+    answers == Ok((0, Err(LogFull::RowsFull)))
+        && read == (Some(one), None)
+        && first_two(log, first) == (Some(one), None)
+}
+
+fn is_taken(alloc: Global) -> Result<bool, OutOfMemory> {
     let (one, two) = (begin(1), begin(2));
-    let (log, mut first) = one_slot(rt.alloc(), one, two)?;
-    let mut seat = log.split(&mut first);
-    let answers = append_both(&log, &mut seat, one, two);
-    assert!(rt; answers == Ok((0, Err(LogFull::RowsFull))));
-    assert!(rt; first_two(&log, &mut seat) == (Some(one), None));
-    log.join(&mut first, seat);
-    assert!(rt; first_two(&log, &mut first) == (Some(one), None));
-    Ok(())
+    let (log, mut first) = one_slot(alloc, one, two)?;
+    let taken = takes_one(&log, &mut first, one, two);
+    drop(first);
+    drop(log);
+    Ok(taken)
 }
 
 #[test]
-fn a_new_history_is_empty(rt: HostRuntime) -> Result<(), Fail> {
-    let (log, mut first) = one_slot(rt.alloc(), begin(1), begin(2))?;
-    assert!(rt; first_two(&log, &mut first) == (None, None));
+fn a_history_of_one_slot(rt: HostRuntime) {
+    is_true(&rt, is_taken(rt.alloc()));
+}
+
+fn is_empty(alloc: Global) -> Result<bool, OutOfMemory> {
+    let (log, mut first) = one_slot(alloc, begin(1), begin(2))?;
+    let read = first_two(&log, &mut first);
+    drop(first);
+    drop(log);
+    Ok(read == (None, None))
+}
+
+#[test]
+fn a_new_history_is_empty(rt: HostRuntime) {
+    is_true(&rt, is_empty(rt.alloc()));
     history_for_good();
     one_history();
     own_operations();
-    Ok(())
 }

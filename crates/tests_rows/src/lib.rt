@@ -6,6 +6,8 @@
 #![tactic(auto)]
 
 #[cfg(test)]
+mod held;
+#[cfg(test)]
 mod histories;
 #[cfg(test)]
 mod shared_trees;

@@ -3,12 +3,12 @@ ghost use Rattle.cal_once.specs.Seats.{view};
 ghost use Rattle.cal_once.specs.Views.{first_seat};
 ghost use Rattle.cal_tree.specs.Seats.{IsTreeSeat, plan_of};
 
+use crate::held::is_true;
 use cal_once::Shape;
 use cal_tree::{Tree, TreeFull, TreeSeat};
-use cal_value::Variant;
+use cal_value::{OutOfMemory, Variant};
 use cal_words::NodeId;
 use std::alloc::Global;
-use std::test::Fail;
 use std::thread;
 use std::thread::Threads;
 
@@ -52,7 +52,7 @@ fn grow_all<R: Threads + Sync>(rt: &R, tree: &Tree, workers: &mut [Worker])
 }
 
 // A worker with a seat that is split off from the first one.
-fn hire_one(alloc: Global, tree: &Tree, first: &mut TreeSeat) -> Result<Worker, Fail>
+fn hire_one(alloc: Global, tree: &Tree, first: &mut TreeSeat) -> Result<Worker, OutOfMemory>
     requires seat { IsTreeSeat tree.now first.old }
     requires first { (view first.old).number ≡ 0 }
     requires left { length (view first.old).others + 1 < (plan_of tree.now).shape.arenas }
@@ -66,7 +66,12 @@ fn hire_one(alloc: Global, tree: &Tree, first: &mut TreeSeat) -> Result<Worker, 
     Ok(Worker { seat, nodes })
 }
 
-fn hire(alloc: Global, tree: &Tree, first: &mut TreeSeat, count: usize) -> Result<Vec<Worker>, Fail>
+fn hire(
+    alloc: Global,
+    tree: &Tree,
+    first: &mut TreeSeat,
+    count: usize,
+) -> Result<Vec<Worker>, OutOfMemory>
     requires seat { IsTreeSeat tree.now first.old }
     requires fresh { view first.old ≡ first_seat (plan_of tree.now) }
     requires enough { count < (plan_of tree.now).shape.arenas }
@@ -82,42 +87,73 @@ fn hire(alloc: Global, tree: &Tree, first: &mut TreeSeat, count: usize) -> Resul
     Ok(workers)
 }
 
-// Joins the workers, and says whether each found the same hundred nodes.
-fn dismiss(alloc: Global, tree: &Tree, first: &mut TreeSeat, mut workers: Vec<Worker>) -> bool
+// Joins the workers.
+fn dismiss(tree: &Tree, first: &mut TreeSeat, mut workers: Vec<Worker>)
     requires seat { IsTreeSeat tree.now first.old × ((view first.old).number ≡ 0) }
     requires workers { All (λ w. IsTreeSeat tree.now w.seat) workers.items }
     ensures seat { IsTreeSeat tree.now first.new }
 {
-    let mut agree = true;
-    let mut kept: Vec<NodeId> = Vec::new(alloc);
     while let Some(worker) = workers.pop() {
         let Worker { seat, nodes } = worker;
+        drop(nodes);
         tree.join(first, seat);
-        agree = agree && (kept.is_empty() || kept.as_slice() == nodes.as_slice());
-        kept = nodes;
     }
     workers.destroy_empty();
-    agree && kept.len() == 100
+}
+
+// Whether each worker found the same hundred nodes.
+fn all_agree(workers: &[Worker]) -> bool {
+    let Some(first) = workers.first() else {
+        return false;
+    };
+    for worker in workers {
+        if worker.nodes.as_slice() != first.nodes.as_slice() {
+            return false;
+        }
+    }
+    first.nodes.len() == 100
+}
+
+fn work<R: Threads + Sync>(
+    rt: &R,
+    alloc: Global,
+    tree: &Tree,
+    first: &mut TreeSeat,
+    count: usize,
+) -> Result<bool, OutOfMemory>
+    requires seat { IsTreeSeat tree.now first.old }
+    requires fresh { view first.old ≡ first_seat (plan_of tree.now) }
+    requires enough { count < (plan_of tree.now).shape.arenas }
+    requires few { (0 < count) × (count ≤ 8) }
+    ensures { IsTreeSeat tree.now first.new }
+{
+    let mut workers = hire(alloc, tree, first, count)?;
+    grow_all(rt, tree, workers.as_mut_slice());
+    let agree = all_agree(workers.as_slice());
+    dismiss(tree, first, workers);
+    Ok(agree)
+}
+
+// Whether so many workers agree on the nodes, and no other was made.
+fn is_grown_by<R: Threads + Sync>(rt: &R, alloc: Global, count: usize) -> Result<bool, OutOfMemory>
+    requires { (0 < count) × (count ≤ 4) }
+{
+    let shape = Shape {
+        slots: 500,
+        homes: 499,
+        arena: 600,
+        arenas: 5,
+    };
+    let (tree, mut first) = Tree::new(alloc, shape)?;
+    let agree = work(rt, alloc, &tree, &mut first, count);
+    let nodes = tree.count_nodes(&mut first);
+    drop(first);
+    drop(tree);
+    Ok(agree? && nodes == 100)
 }
 
 #[test]
-fn side_by_side_each_path_has_one_node(rt: HostRuntime) -> Result<(), Fail> {
-    let alloc = rt.alloc();
-    for count in [2, 4] {
-        let shape = Shape {
-            slots: 500,
-            homes: 499,
-            arena: 600,
-            arenas: 5,
-        };
-        let (tree, mut first) = Tree::new(alloc, shape)?;
-        let mut workers = hire(alloc, &tree, &mut first, count)?;
-        grow_all(&rt, &tree, workers.as_mut_slice());
-        let agree = dismiss(alloc, &tree, &mut first, workers);
-        assert!(rt;
-            agree && tree.count_nodes(&mut first) == 100,
-            "{count} threads"
-        );
-    }
-    Ok(())
+fn side_by_side_each_path_has_one_node(rt: HostRuntime) {
+    is_true(&rt, is_grown_by(&rt, rt.alloc(), 2));
+    is_true(&rt, is_grown_by(&rt, rt.alloc(), 4));
 }

@@ -1,16 +1,12 @@
 //! Words of nodes and of operations, by worked rows.
 
-use cal_value::{Kind, Text, Variant};
+use crate::held::{all_hold, is_true};
+use cal_value::{Kind, OutOfMemory, Text, Variant};
 use cal_words::{
     NodeId, NodeRec, NodeSort, OpCode, OpRec, OpSort, Packed, equal_nodes, equal_ops, know_node,
 };
 use std::alloc::Global;
 use std::process::Abort;
-use std::test::Fail;
-
-fn text(alloc: Global, bytes: &str) -> Result<Text, Fail> {
-    Ok(Text::from_str(alloc, bytes)?)
-}
 
 // the node of attribute 9 at depth 2 below node 3
 fn node(value: &Variant) -> NodeRec<'_> {
@@ -22,20 +18,25 @@ fn node(value: &Variant) -> NodeRec<'_> {
     }
 }
 
-// The words behind the attribute's are these.
-fn check_node(rt: &impl Abort, value: &Variant, words: &[u64]) {
+// Whether the words behind the attribute's are these.
+fn is_packed(value: &Variant, words: &[u64]) -> bool {
     let node = node(value);
-    assert_eq!(rt; node.len(), words.len() as u64 + 3, "{value:?}");
     for i in 0..node.len() {
         let wanted = match i {
-            0 => Some(&3),
-            1 => Some(&2),
-            2 => Some(&9),
-            _ => words.get(i as usize - 3),
+            0 => 3,
+            1 => 2,
+            2 => 9,
+            _ => words.get(i as usize - 3).copied().unwrap_or(0),
         };
-        assert_eq!(rt; Some(&node.word(i)), wanted, "{value:?}, word {i}");
-        assert!(rt; node.matches(i, node.word(i)), "{value:?}, word {i}");
+        if node.word(i) != wanted || !node.matches(i, wanted) {
+            return false;
+        }
     }
+    node.len() == words.len() as u64 + 3
+}
+
+fn check_node(rt: &impl Abort, value: &Variant, words: &[u64]) {
+    assert!(rt; is_packed(value, words), "{value:?}");
 }
 
 #[test]
@@ -58,31 +59,73 @@ fn truths_addresses_and_kinds_are_packed(rt: HostRuntime) {
     check_node(&rt, &Variant::Kind(Kind::Ptr), &[7 << 32, 11]);
 }
 
-#[test]
-fn texts_are_packed(rt: HostRuntime) -> Result<(), Fail> {
-    let alloc = rt.alloc();
-    check_node(&rt, &Variant::Text(text(alloc, "")?), &[3 << 32]);
-    check_node(
-        &rt,
-        &Variant::Text(text(alloc, "ab")?),
-        &[(3 << 32) + 2, 0x6261],
-    );
-    check_node(&rt, &Variant::Real(text(alloc, "")?), &[5 << 32]);
-    let nine = [(5 << 32) + 9, 0x3837363534333231, 0x39];
-    check_node(&rt, &Variant::Real(text(alloc, "123456789")?), &nine);
-    check_node(&rt, &Variant::Usr(text(alloc, "x")?), &[1, 0x78]);
-    check_node(
-        &rt,
-        &Variant::Ptr(text(alloc, "x")?),
-        &[(11 << 32) + 1, 0x78],
-    );
-    Ok(())
+// The kind of a value, its text, and its words behind the attribute's.
+const TEXTS: [(Kind, &str, &[u64]); 6] = [
+    (Kind::Str, "", &[3 << 32]),
+    (Kind::Str, "ab", &[(3 << 32) + 2, 0x6261]),
+    (Kind::Double, "", &[5 << 32]),
+    (
+        Kind::Double,
+        "123456789",
+        &[(5 << 32) + 9, 0x3837363534333231, 0x39],
+    ),
+    (Kind::Usr, "x", &[1, 0x78]),
+    (Kind::Ptr, "x", &[(11 << 32) + 1, 0x78]),
+];
+
+fn texts() -> &'static [(Kind, &'static str, &'static [u64])] {
+    &TEXTS
+}
+
+// The value of this kind with this text.
+fn value(kind: Kind, text: Text) -> Variant {
+    match kind {
+        Kind::Double => Variant::Real(text),
+        Kind::Usr => Variant::Usr(text),
+        Kind::Ptr => Variant::Ptr(text),
+        _ => Variant::Text(text),
+    }
+}
+
+fn is_text_packed(
+    alloc: Global,
+    kind: Kind,
+    text: &str,
+    words: &[u64],
+) -> Result<bool, OutOfMemory> {
+    let value = value(kind, Text::from_str(alloc, text)?);
+    let packed = is_packed(&value, words);
+    drop(value);
+    Ok(packed)
+}
+
+fn wrong_text(alloc: Global) -> Result<Option<usize>, OutOfMemory> {
+    let rows = texts();
+    for row in 0..rows.len() {
+        let (kind, text, words) = rows[row];
+        if !is_text_packed(alloc, kind, text, words)? {
+            return Ok(Some(row));
+        }
+    }
+    Ok(None)
 }
 
 #[test]
-fn a_node_has_its_home(rt: HostRuntime) -> Result<(), Fail> {
-    let value = Variant::Text(text(rt.alloc(), "ab")?);
-    assert_eq!(rt; Packed::<NodeSort>::home(&node(&value), 1000), 598);
+fn texts_are_packed(rt: HostRuntime) {
+    all_hold(&rt, wrong_text(rt.alloc()));
+}
+
+// Whether the node of a text begins its search at this of a thousand homes.
+fn is_home(alloc: Global, text: &str, home: u64) -> Result<bool, OutOfMemory> {
+    let value = Variant::Text(Text::from_str(alloc, text)?);
+    let found = Packed::<NodeSort>::home(&node(&value), 1000);
+    drop(value);
+    Ok(found == home)
+}
+
+#[test]
+fn a_node_has_its_home(rt: HostRuntime) {
+    is_true(&rt, is_home(rt.alloc(), "ab", 598));
     equal_nodes();
     know_node(&NodeRec {
         parent: NodeId(0),
@@ -90,7 +133,17 @@ fn a_node_has_its_home(rt: HostRuntime) -> Result<(), Fail> {
         attr: 0,
         value: &Variant::Fixed(7),
     });
-    Ok(())
+}
+
+// Whether the words of an operation are these.
+fn is_op_packed(op: &OpRec, words: &[u64]) -> bool {
+    for i in 0..Packed::<OpSort>::len(op) {
+        let wanted = words.get(i as usize).copied().unwrap_or(0);
+        if Packed::<OpSort>::word(op, i) != wanted || !Packed::<OpSort>::matches(op, i, wanted) {
+            return false;
+        }
+    }
+    Packed::<OpSort>::len(op) == words.len() as u64
 }
 
 #[test]
@@ -102,12 +155,6 @@ fn an_operation_is_packed(rt: HostRuntime) {
         attr: 4,
         value: 8,
     };
-    let words = [0, 1, 1, 5, 2, 4, 8];
-    for (i, word) in words.iter().enumerate() {
-        assert!(rt; Packed::<OpSort>::matches(&op, i as u64, *word), "at {i}");
-        assert_eq!(rt; Packed::<OpSort>::word(&op, i as u64), *word, "at {i}");
-    }
-    assert_eq!(rt; Packed::<OpSort>::len(&op), 7);
-    assert_eq!(rt; Packed::<OpSort>::home(&op, 3), 0);
+    assert!(rt; is_op_packed(&op, &[0, 1, 1, 5, 2, 4, 8]));
     equal_ops();
 }

@@ -1,7 +1,0 @@
-use Rattle.std.proofs.Common.{rules}
-use Rattle.cal_once.specs.Seats.{view}
-use Rattle.cal_once.proofs.Seen.{was_seen_from}
-use Rattle.tests_rows.proofs.tables.a_known_place_is_read.Goals as goal
-
-pub word-requires-clause-known : goal.word-requires-clause-known
-word-requires-clause-known g c = (search rules, was_seen_from (view c.size-size.new.seat).seen 1 c.size-size.ensures.size.0 c.size-size.ensures.size.1)
