@@ -32,7 +32,8 @@ impl Counts {
     /// Whether a context has no more.
     #[inline(always)]
     pub fn covers(&self, context: &Context) -> bool
-        ensures { IsTrue result → Covers context.now self.now }
+        ensures covers { IsTrue result → Covers context.now self.now }
+        ensures only { Covers context.now self.now → IsTrue result }
     {
         context.attribute_count() <= self.attributes && context.node_count() <= self.nodes
     }

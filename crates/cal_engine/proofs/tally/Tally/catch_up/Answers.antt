@@ -12,7 +12,7 @@ use Rattle.cal_engine.proofs.Tallying.{tally_caught_up, tally_covered}
 use Rattle.cal_engine.proofs.tally.Tally.catch_up.Goals as goal
 
 pub returns-then-covers : goal.returns-then-covers
-returns-then-covers c = λ q rs h. tally_covered c.args.context.now q rs c.args.self.now (c.covers.ensures c.if-covers.true) h
+returns-then-covers c = λ q rs h. tally_covered c.args.context.now q rs c.args.self.now (c.covers.ensures.covers c.if-covers.true) h
 
 pub returns : goal.returns
 returns c = λ q rs h.

@@ -25,4 +25,4 @@ returns c =
     c.of-self.ensures.attributes c.of-self.ensures.nodes h
 
 pub returns-then-covers : goal.returns-then-covers
-returns-then-covers c = λ q h. filter_covered c.args.context.now q c.args.self.now (c.covers.ensures c.if-covers.true) h
+returns-then-covers c = λ q h. filter_covered c.args.context.now q c.args.self.now (c.covers.ensures.covers c.if-covers.true) h
