@@ -15,6 +15,7 @@ ghost use Rattle.cal_engine.specs.Readings.{part_of as part_by, parts_of as part
 ghost use Rattle.cal_engine.specs.declared.reading.Reading.{Reading as AReading};
 
 use crate::part::Part;
+use crate::part_list::PartList;
 use crate::reading::{Reading, number_sought};
 use cal_agg::Num;
 use cal_context::{Context, Snapshot};
@@ -180,36 +181,51 @@ pub(crate) fn know_all(counters: &mut [Counter], context: &Context) -> Result<()
     Ok(())
 }
 
-/// Adds what is read of one record to the parts of a group, place by place. As many parts as there
-/// are counters belong to a group; others are answered as want of memory is.
+/// Adds what is read of one record to the parts of a group, which stand in a list from a place on,
+/// as many as there are counters.
 pub(crate) fn add_record(
+    alloc: Global,
     counters: &[Counter],
     context: &Context,
     snapshot: &Snapshot,
-    parts: &mut [Part],
+    parts: &mut PartList,
+    from: usize,
 ) -> Result<(), OutOfMemory>
     requires { IsIn context.now snapshot.now }
-    ensures { OnOk result ((rs : List AReading)
-        → AllZip (IsReadyCounter context.now) rs counters.now
-        → parts.new ≡ merged_parts parts.old (parts_by rs (meaning context.now snapshot.now))) }
 {
-    if parts.len() != counters.len() {
-        return Err(OutOfMemory);
-    }
     for (place, counter) in counters.iter().enumerate() {
-        counter.add_to(context, snapshot, &mut parts[place])?;
+        let Some(part) = parts.get(from + place) else {
+            return Err(OutOfMemory);
+        };
+        let mut part = part;
+        counter.add_to(context, snapshot, &mut part)?;
+        parts.set(alloc, from + place, part)?;
     }
     Ok(())
 }
 
-/// The parts of a group that has no record.
-pub(crate) fn no_parts_for(alloc: Global, counters: &[Counter]) -> Result<Vec<Part>, OutOfMemory>
-    ensures { IfOk result (λ parts.
-        parts.items ≡ map (λ counter. part_over counter.kernel []) counters.now) }
+/// Adds the parts of a group that has no record at the end of a list.
+pub(crate) fn put_none(
+    alloc: Global,
+    parts: &mut PartList,
+    counters: &[Counter],
+) -> Result<(), OutOfMemory>
 {
-    let mut parts = Vec::with_capacity(alloc, counters.len())?;
-    for counter in counters {
-        parts.push(Part::none(counter.kernel))?;
+    let count = parts.len();
+    let put = put_each_none(alloc, parts, counters);
+    if put.is_err() {
+        parts.truncate(count);
     }
-    Ok(parts)
+    put
+}
+
+fn put_each_none(
+    alloc: Global,
+    parts: &mut PartList,
+    counters: &[Counter],
+) -> Result<(), OutOfMemory> {
+    for counter in counters {
+        parts.push(alloc, Part::none(counter.kernel))?;
+    }
+    Ok(())
 }

@@ -152,6 +152,12 @@ pub(crate) fn some_inclusive(aggs: &[Agg]) -> bool
         .any(|agg| matches!(agg.kernel, KernelName::Inclusive))
 }
 
+/// Whether some kernel looks at all groups.
+pub(crate) fn some_percent(aggs: &[Agg]) -> bool {
+    aggs.iter()
+        .any(|agg| matches!(agg.kernel, KernelName::Percent))
+}
+
 /// The rows of groups, each of its own parts, of those of all groups, and of those below it.
 fn rows(
     alloc: Global,

@@ -13,6 +13,8 @@ ghost use Rattle.cal_engine.specs.Parts.{part_over};
 ghost use Rattle.cal_engine.specs.Results.{AddsResults, IsResultOf};
 
 use crate::finishing::value_at;
+use crate::numbered::NumberedGroups;
+use crate::other_parts::OtherParts;
 use crate::part::Part;
 use crate::reading::push_some;
 use cal_agg::Num;
@@ -70,19 +72,16 @@ fn attributes_of(
 pub(crate) fn add_result_immediates(
     imms: &mut Vec<Immediate>,
     results: &[ResultAttributes],
-    own: &[Part],
-    all: &[Part],
-    below: &[Part],
+    groups: &NumberedGroups,
+    number: usize,
+    others: &OtherParts,
 ) -> Result<(), OutOfMemory>
-    ensures { OnOk result ((t : Tree) (aggs : List AnAgg) (lists : Lists)
-        → AllZip (IsResultOf t) aggs results.now → AreKept aggs lists own.now all.now below.now
-        → AddsResults t (entries_of_results aggs lists) imms.old.items imms.new.items) }
 {
     for (place, attributes) in results.iter().enumerate() {
-        let own_part = part_at(own, place);
-        let all_part = part_at(all, place);
-        let below_part = part_at(below, place);
-        let found = result_at(attributes, own_part, all_part, below_part);
+        let own_part = groups.parts().get(number, place);
+        let all_part = part_at(others.all(), place);
+        let below_part = others.below_at(number, place, &own_part);
+        let found = result_at(attributes, own_part.as_ref(), all_part, below_part.as_ref());
         push_some(imms, found)?;
     }
     Ok(())

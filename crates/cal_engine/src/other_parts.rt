@@ -5,13 +5,13 @@ ghost use Rattle.cal_engine.specs.Numbered.{AreGroups};
 ghost use Rattle.cal_engine.specs.Parts.{Gathered};
 
 use crate::below::parts_below_keys;
-use crate::finishing::{no_parts, some_inclusive};
+use crate::finishing::{no_parts, some_inclusive, some_percent};
 use crate::groups::total;
 use crate::numbered::NumberedGroups;
 use crate::part::Part;
 use cal_context::Context;
 use cal_ql::Query;
-use cal_value::{OutOfMemory, Seq};
+use cal_value::{OutOfMemory, Seq, TryCopy};
 use std::alloc::Global;
 
 /// What is kept of other records than a group's: of all, and for each group of those at or below
@@ -38,7 +38,11 @@ impl OtherParts {
         let aggs = query.aggs.as_slice();
         let none = no_parts(alloc, aggs)?;
         let own = groups.parts();
-        let all = total(alloc, own, &none)?;
+        let all = if some_percent(aggs) {
+            total(alloc, own, &none)?
+        } else {
+            none.copy(alloc)?
+        };
         if !some_inclusive(aggs) {
             return Ok(OtherParts {
                 all,
@@ -62,18 +66,13 @@ impl OtherParts {
         self.all.as_slice()
     }
 
-    /// The parts below the group of a number, whose own parts these are.
-    pub(crate) fn below_at<'a>(&'a self, number: usize, own: &'a [Part]) -> &'a [Part]
-        ensures { (parts : List (List Gathered)) → own.now ≡ slice_index_or parts number []
-            → result.now ≡ slice_index_or (below_of self.now parts) number [] }
+    /// The part at a place of those below the group of a number, whose own part there is this one.
+    pub(crate) fn below_at(&self, number: usize, place: usize, own: &Option<Part>) -> Option<Part>
     {
         let _ = &self.all;
         if !self.inclusive {
-            return own;
+            return match own { Some(part) => Some(part.twin()), None => None };
         }
-        match self.below.get(number) {
-            Some(below) => below.as_slice(),
-            None => &[],
-        }
+        Some(self.below.get(number)?.get(place)?.twin())
     }
 }
