@@ -1,6 +1,9 @@
-ghost use Rattle.std.specs.Prelude.{◌≡◌, IfSome};
+ghost use Rattle.std.specs.Prelude.{◌≡◌, [], ◌∷◌, Some, IfSome};
+ghost use Rattle.cal_engine.specs.Parts.{joined_by, merged_part, part_over};
 
-use crate::part::{Part, Way};
+use crate::part::{Part, Way, is_same, way_of};
+use cal_agg::Num;
+use cal_ql::KernelName;
 use std::marker::Model;
 
 /// A part in a third of the room, for whole numbers that fit 64 bits with their signs, which nearly
@@ -61,5 +64,44 @@ impl NarrowPart {
             None
         };
         Part::made(self.many, self.way, whole, None)
+    }
+
+    /// The part with a number more, where that is narrow enough.
+    #[inline(always)]
+    pub fn with(&self, kernel: KernelName, number: &Num) -> Option<NarrowPart>
+        ensures { IfSome result (λ narrow.
+            narrow ≡ merged_part self.now (part_over kernel (number.now ∷ []))) }
+    {
+        let Num::Whole(number) = number else {
+            return None;
+        };
+        let number = i64::try_from(*number).ok()?;
+        let many = self.many.checked_add(1)?;
+        let way = way_of(kernel);
+        if !is_same(self.way, way) {
+            return None;
+        }
+        let whole = if self.has_whole {
+            joined(way, self.whole, number)?
+        } else {
+            number
+        };
+        Some(NarrowPart {
+            whole,
+            many,
+            way,
+            has_whole: true,
+        })
+    }
+}
+
+#[inline(always)]
+fn joined(way: Way, one: i64, other: i64) -> Option<i64>
+    ensures { IfSome result (λ both. both ≡ joined_by way one other) }
+{
+    match way {
+        Way::Sum => one.checked_add(other),
+        Way::Least => Some(one.min(other)),
+        Way::Greatest => Some(one.max(other)),
     }
 }

@@ -1,10 +1,11 @@
-ghost use Rattle.std.specs.Prelude.{◌≡◌, ◌+◌, ◌≤◌, [], List, Some, length, max, slice_get};
-ghost use Rattle.std.specs.Prelude.{slice_index_or, IfOk, IsTrue, OnOk, OnErr};
+ghost use Rattle.std.specs.Prelude.{◌≡◌, ◌+◌, ◌≤◌, [], List, Some, length, map, max, slice_get};
+ghost use Rattle.std.specs.Prelude.{IfOk, IsTrue, OnOk, OnErr};
 ghost use Rattle.std.specs.List.{AllZip};
 ghost use Rattle.cal_context.specs.Lists.{Interns};
 ghost use Rattle.cal_context.specs.Snapshots.{IsIn, meaning};
 ghost use Rattle.cal_engine.specs.Counters.{IsReadyCounter};
 ghost use Rattle.cal_engine.specs.Folding.{put_parts};
+ghost use Rattle.cal_engine.specs.Parts.{Gathered, merged_parts, part_over};
 ghost use Rattle.cal_engine.specs.Numbered.{GathersKey};
 ghost use Rattle.cal_engine.specs.Readings.{parts_of as parts_by};
 ghost use Rattle.cal_engine.specs.declared.reading.Reading.{Reading as AReading};
@@ -116,7 +117,6 @@ impl NumberedGroups {
         let _ = &self.keys;
         &self.parts
     }
-
 }
 
 /// The group that was last gathered at a node, or any other.
@@ -175,6 +175,12 @@ fn make_room(
     parts: &mut PartTable,
     number: usize,
 ) -> Result<(), OutOfMemory>
+    requires { number ≤ length parts.old }
+    ensures put { OnOk result ((fresh : List Gathered)
+        → merged_parts (map (λ counter. part_over counter.kernel []) counters.now) fresh ≡ fresh
+        → put_parts parts.new number fresh ≡ put_parts parts.old number fresh) }
+    ensures long { OnOk result (length parts.new ≡ max (length parts.old) (number + 1)) }
+    ensures err { OnErr result (parts.new ≡ parts.old) }
 {
     if number < parts.count() {
         return Ok(());

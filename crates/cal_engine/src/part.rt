@@ -316,7 +316,7 @@ impl TryCopy for Part {
     }
 }
 
-fn way_of(kernel: KernelName) -> Way
+pub(crate) fn way_of(kernel: KernelName) -> Way
     ensures { result ≡ way_by kernel }
 {
     match kernel {
@@ -327,7 +327,7 @@ fn way_of(kernel: KernelName) -> Way
 }
 
 #[inline(always)]
-fn is_same(one: Way, other: Way) -> bool
+pub(crate) fn is_same(one: Way, other: Way) -> bool
     ensures { IsTrue result → one ≡ other }
 {
     one == other

@@ -1,8 +1,12 @@
-ghost use Rattle.std.specs.Prelude.{◌≡◌, ◌<◌, ◌++◌, ◌∷◌, [], length, slice_get, slice_set, take};
-ghost use Rattle.std.specs.Prelude.{OnOk, OnErr};
+ghost use Rattle.std.specs.Prelude.{◌≡◌, ◌<◌, ◌++◌, ◌∷◌, [], length, slice_get, take};
+ghost use Rattle.std.specs.Prelude.{IfOk, OnOk, OnErr};
+ghost use Rattle.cal_engine.specs.PartLists.{merged_at};
+ghost use Rattle.cal_engine.specs.Parts.{part_over};
 
 use crate::narrow_part::NarrowPart;
 use crate::part::Part;
+use cal_agg::Num;
+use cal_ql::KernelName;
 use cal_value::OutOfMemory;
 use std::alloc::Global;
 use std::marker::Model;
@@ -61,35 +65,46 @@ impl PartList {
         }
     }
 
-    /// Puts a part in the place of the one that is there.
+    /// Adds a number to the part at a place.
     #[inline(always)]
-    pub fn set(&mut self, alloc: Global, place: usize, part: Part) -> Result<(), OutOfMemory>
+    pub fn add(
+        &mut self,
+        alloc: Global,
+        place: usize,
+        kernel: KernelName,
+        number: &Num,
+    ) -> Result<(), OutOfMemory>
         requires { place < length self.old }
-        ensures ok { OnOk result (self.new ≡ slice_set self.old place part) }
-        ensures err { OnErr result (self.new ≡ self.old) }
+        ensures added { OnOk result (self.new
+            ≡ merged_at self.old place (part_over kernel (number.now ∷ []))) }
+        ensures long { length self.new ≡ length self.old }
     {
         if let Form::Narrow(parts) = &mut self.form {
-            if let Some(narrow) = NarrowPart::of(&part) {
+            if let Some(narrow) = parts[place].with(kernel, number) {
                 parts[place] = narrow;
                 return Ok(());
             }
         }
-        self.set_wide(alloc, place, part)
+        self.add_wide(alloc, place, kernel, number)
     }
 
     /// The same, where all parts are wide from now on.
     #[inline(never)]
-    fn set_wide(&mut self, alloc: Global, place: usize, part: Part) -> Result<(), OutOfMemory>
+    fn add_wide(
+        &mut self,
+        alloc: Global,
+        place: usize,
+        kernel: KernelName,
+        number: &Num,
+    ) -> Result<(), OutOfMemory>
         requires { place < length self.old }
-        ensures ok { OnOk result (self.new ≡ slice_set self.old place part) }
-        ensures err { OnErr result (self.new ≡ self.old) }
+        ensures added { OnOk result (self.new
+            ≡ merged_at self.old place (part_over kernel (number.now ∷ []))) }
+        ensures long { length self.new ≡ length self.old }
     {
         self.widen(alloc)?;
         match &mut self.form {
-            Form::Wide(parts) => {
-                parts[place] = part;
-                Ok(())
-            }
+            Form::Wide(parts) => parts[place].add(kernel, number),
             Form::Narrow(_) => Err(OutOfMemory),
         }
     }

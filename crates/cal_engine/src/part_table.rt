@@ -1,5 +1,5 @@
 ghost use Rattle.std.specs.Prelude.{◌≡◌, ◌<◌, ◌++◌, [], ◌∷◌, List, length, map, IfOk, OnOk, OnErr};
-ghost use Rattle.std.specs.Prelude.{slice_get, slice_index_or};
+ghost use Rattle.std.specs.Prelude.{slice_get, slice_index_or, take};
 ghost use Rattle.std.specs.List.{AllZip};
 ghost use Rattle.cal_context.specs.Snapshots.{IsIn, meaning};
 ghost use Rattle.cal_engine.specs.Counters.{IsReadyCounter};
@@ -11,6 +11,7 @@ ghost use Rattle.cal_engine.specs.declared.reading.Reading.{Reading as AReading}
 use crate::counter::{Counter, add_record, put_none};
 use crate::part::Part;
 use crate::part_list::PartList;
+use crate::reading::push_some;
 use cal_context::{Context, Snapshot};
 use cal_value::{OutOfMemory, Seq};
 use std::alloc::Global;
@@ -75,9 +76,7 @@ impl PartTable {
     {
         let mut parts = Vec::new(alloc);
         for place in 0..self.width {
-            if let Some(part) = self.get(number, place) {
-                parts.push(part)?;
-            }
+            push_some(&mut parts, self.get(number, place))?;
         }
         Ok(parts)
     }
@@ -87,6 +86,7 @@ impl PartTable {
     pub fn get(&self, number: usize, place: usize) -> Option<Part>
         ensures { result ≡ slice_get (slice_index_or self.now number []) place }
     {
+        let _ = self.parts.len();
         if number >= self.count || place >= self.width {
             return None;
         }
@@ -147,6 +147,7 @@ impl PartTable {
             ≡ put_parts self.old number (parts_by rs (meaning context.now snapshot.now))) }
         ensures long { length self.new ≡ length self.old }
     {
+        let _ = self.parts.len();
         if counters.len() != self.width {
             return Err(OutOfMemory);
         }
@@ -168,7 +169,10 @@ fn put_all(alloc: Global, list: &mut PartList, parts: &[Part]) -> Result<(), Out
     put
 }
 
-fn put_each(alloc: Global, list: &mut PartList, parts: &[Part]) -> Result<(), OutOfMemory> {
+fn put_each(alloc: Global, list: &mut PartList, parts: &[Part]) -> Result<(), OutOfMemory>
+    ensures ok { OnOk result (list.new ≡ list.old ++ parts.now) }
+    ensures front { take (length list.old) list.new ≡ list.old }
+{
     for part in parts {
         list.push(alloc, part.twin())?;
     }
