@@ -5,7 +5,7 @@ use Rattle.std.specs.List.{list_any}
 use Rattle.std.proofs.lemmas.List.Elements.{filter_agree}
 use Rattle.std.proofs.lemmas.List.Folds.{list_any-append}
 use Rattle.cal_value.specs.declared.attribute.Entry.{Entry}
-use Rattle.cal_engine.specs.Choices.{Choice, choices_of, chooses}
+use Rattle.cal_engine.specs.Choices.{choices_of, chooses}
 use Rattle.cal_engine.specs.Groups.{taken, takes}
 use Rattle.cal_engine.specs.Sieves.{choice_of}
 use Rattle.cal_engine.specs.declared.sieve.Sieve.{Sieve}

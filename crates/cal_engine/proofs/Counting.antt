@@ -1,13 +1,13 @@
 -- What is read of records by number, as the same is read of records.
-use Rattle.std.proofs.Common.{◌≡◌, ℕ, ◌+◌, ◌<◌, suc, pos, Bool, true, false, List, [], ◌∷◌, ◌++◌, map, take, length, get_or, refl, sym, ◌∙◌, ap, subst, arith}
+use Rattle.std.proofs.Common.{◌≡◌, ℕ, ◌+◌, ◌<◌, pos, Bool, true, false, List, [], ◌∷◌, ◌++◌, map, take, length, get_or, refl, sym, ◌∙◌, ap, subst, arith}
 use Rattle.std.proofs.Common.{Option, None, Some, option_map, option_and_then, slice_get}
-use Rattle.std.specs.Prelude.{codes, is_some, unwrap_or}
+use Rattle.std.specs.Prelude.{codes, unwrap_or}
 use Rattle.std.specs.List.{All, AllZip, cons_option, filter, filter_map, last_or}
 use Rattle.std.proofs.lemmas.List.{map-append, take_more}
-use Rattle.std.proofs.lemmas.List.Elements.{All-push, All-weaker}
+use Rattle.std.proofs.lemmas.List.Elements.{All-weaker}
 use Rattle.cal_agg.specs.declared.num.Num.{Num}
 use Rattle.cal_agg.specs.declared.num.Num.TheVariants.{Whole}
-use Rattle.cal_context.specs.Tree.{Tree, Grows}
+use Rattle.cal_context.specs.Tree.{Tree}
 use Rattle.cal_filter.specs.Known.{Covers, Knows, KnowsAll, KnowsSoMany, sought}
 use Rattle.cal_filter.specs.Named.{is_named, last_number}
 use Rattle.cal_filter.specs.Numbers.{number_in, whole_in}
@@ -16,8 +16,6 @@ use Rattle.cal_filter.specs.Sought as seeking
 use Rattle.cal_filter.specs.Sought.{Sought, last_sought, number_of, seeks, value_sought, whole_of}
 use Rattle.cal_filter.specs.declared.counts.Counts.{Counts}
 use Rattle.cal_filter.specs.declared.seeker.Seeker.{Seeker}
-use Rattle.cal_filter.specs.declared.wanted.Wanted.TheVariants as wanted
-use Rattle.cal_filter.proofs.Growing.{knows-Grows}
 use Rattle.cal_filter.proofs.OperandLemmas.{filter_map_sought, number_sought_is}
 use Rattle.cal_filter.proofs.ReadyLemmas.{all_know, all_of_zip, knows_counted, knows_covered, same_sought, zip_and}
 use Rattle.cal_filter.proofs.Zips.{zip_then, zip_weaker}

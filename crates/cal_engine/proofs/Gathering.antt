@@ -38,6 +38,14 @@ put_parts_end [] n fresh e = refl
 put_parts_end (p ∷ ps) zero fresh e = absurd (omega arith)
 put_parts_end (p ∷ ps) (suc n) fresh e = ap (λ xs. p ∷ xs) (put_parts_end ps n fresh (omega arith))
 
+-- what goes to a group of no record at the end goes as if there were none yet
+pub put_parts_none : (parts : List (List Gathered)) (n : ℕ) (none fresh : List Gathered) → n ≡ length parts
+    → merged_parts none fresh ≡ fresh → put_parts (parts ++ none ∷ []) n fresh ≡ put_parts parts n fresh
+put_parts_none [] zero none fresh e same = ap (λ x. x ∷ []) same
+put_parts_none [] (suc n) none fresh e same = absurd (omega (arith, e))
+put_parts_none (p ∷ ps) zero none fresh e same = absurd (omega (arith, e))
+put_parts_none (p ∷ ps) (suc n) none fresh e same = ap (λ xs. p ∷ xs) (put_parts_none ps n none fresh (omega (arith, e)) same)
+
 pub map_read : {A B : Type 0} (f : A → B) (xs : List A) (n : ℕ) (x : A) (d : B) → slice_get xs n ≡ Some x → slice_index_or (map f xs) n d ≡ f x
 map_read f [] n x d e = cc
 map_read f (y ∷ ys) zero x d e = let is : y ≡ x = cc in ap f is

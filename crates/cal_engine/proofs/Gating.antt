@@ -1,23 +1,19 @@
 -- The numbers on the paths of nodes are small.
-use Rattle.std.proofs.Common.{◌≡◌, ℕ, ◌+◌, ◌<◌, ◌≤◌, List, [], ◌∷◌, ◌++◌, ◌⊎◌, inl, inr, length, map, get_or, refl, sym, ◌∙◌, ap, subst, arith}
+use Rattle.std.proofs.Common.{◌≡◌, ℕ, ◌+◌, ◌<◌, ◌≤◌, List, [], ◌∷◌, ◌⊎◌, inl, inr, length, map, sym, subst, arith}
 use Rattle.std.specs.List.{All}
 use Rattle.std.proofs.lemmas.Bool.{cases_lt}
 use Rattle.std.proofs.lemmas.List.Elements.{All-append, All-head, All-map, All-nil, All-push, All-tail}
 use Rattle.cal_context.specs.Children.{IsLinked}
 use Rattle.cal_context.specs.Snapshots.{IsBelowRoot, IsIn, entry_of, meaning}
-use Rattle.cal_context.specs.Tree.{Tree, Grows, attribute_at, path_at, value_at}
+use Rattle.cal_context.specs.Tree.{Tree, attribute_at, path_at, value_at}
 use Rattle.cal_context.specs.declared.numbers.Link.{Link}
 use Rattle.cal_context.specs.declared.numbers.NodeNumber.{NodeNumber}
 use Rattle.cal_context.specs.declared.snapshot.Snapshot.{Snapshot}
-use Rattle.cal_context.proofs.CallerLemmas.{path_at-Grows, within_paths}
 use Rattle.cal_filter.specs.Named.{HasSmallNumbers}
-use Rattle.cal_filter.proofs.Growing.{filter-Grows}
-use Rattle.cal_ql.specs.declared.query.Query.{Query}
 use Rattle.cal_value.specs.Flat.{joined}
 use Rattle.cal_value.specs.Reading.{IsSmall}
 use Rattle.cal_value.specs.declared.attribute.Entry.{Entry}
-use Rattle.cal_engine.specs.Gates.{AreSmallBefore, IsGate, IsSmallAt}
-use Rattle.cal_engine.specs.declared.gate.Gate.{Gate}
+use Rattle.cal_engine.specs.Gates.{AreSmallBefore, IsSmallAt}
 
 abbrev has_small : Entry → Type 0
 has_small e = IsSmall e.value

@@ -1,5 +1,5 @@
 -- The rows of the groups of a fold are the rows of the query.
-use Rattle.std.proofs.Common.{◌≡◌, ℕ, zero, suc, ◌+◌, ◌<◌, Bool, true, false, true≢false, ◌||◌, List, [], ◌∷◌, ◌++◌, length, filter, map, fold, get_or, refl, sym, ap, ◌∙◌, arith}
+use Rattle.std.proofs.Common.{◌≡◌, ℕ, zero, suc, ◌<◌, Bool, true, false, true≢false, ◌||◌, List, [], ◌∷◌, ◌++◌, length, filter, map, fold, get_or, refl, sym, ap, ◌∙◌, arith}
 use Rattle.std.specs.Prelude.{option_map}
 use Rattle.std.specs.List.{cons_option, list_any}
 use Rattle.std.proofs.lemmas.List.{length-append, map-append}
@@ -11,7 +11,7 @@ use Rattle.cal_ql.specs.declared.names.KernelName.TheVariants as kernel
 use Rattle.cal_ql.specs.declared.query.Agg.{Agg}
 use Rattle.cal_ql.specs.declared.query.Query.{Query}
 use Rattle.cal_value.specs.declared.record.Rec.{Rec}
-use Rattle.cal_engine.specs.Finishing.{AreGroupParts, AreKept, GroupLists, entries_of_results, is_inclusive, lists_at, parts_where, row_with, rows_by}
+use Rattle.cal_engine.specs.Finishing.{AreGroupParts, AreKept, GroupLists, entries_of_results, is_inclusive, lists_at, looks_beyond, parts_where, row_with, rows_by}
 use Rattle.cal_engine.specs.Folding.{Grouped, groups_over}
 use Rattle.cal_engine.specs.Groups.{group_of, groups_of, records_of}
 use Rattle.cal_engine.specs.Kernels.{contributed, result_of}
@@ -103,6 +103,36 @@ pub rows_alike : (aggs : List Agg) (g : GroupLists) (keys : List Rec) → list_a
 rows_alike aggs g keys h =
     λ i. map (λ key. row_with key (entries_alike aggs h (g.own key) g.all (g.own key) (g.below key) i)) keys
 
+-- ---- and it and `percent_total` beyond a group
+
+result_alone : (k : kernels.KernelName) → looks_beyond k ≡ false → (own all below one other : List Num)
+    → result_of k own all below ≡ result_of k own one other
+result_alone kernel.Count h own all below one other = refl
+result_alone kernel.Sum h own all below one other = refl
+result_alone kernel.Min h own all below one other = refl
+result_alone kernel.Max h own all below one other = refl
+result_alone kernel.Avg h own all below one other = refl
+result_alone kernel.Percent h own all below one other = absurd (true≢false h)
+result_alone kernel.Inclusive h own all below one other = absurd (true≢false h)
+
+entries_alone : (aggs : List Agg) → list_any (λ agg. looks_beyond agg.kernel) aggs ≡ false → (own all below one other : List Rec)
+    → entries_of_results aggs (record { own = own; all = all; below = below }) ≡ entries_of_results aggs (record { own = own; all = one; below = other })
+entries_alone [] h own all below one other = refl
+entries_alone (agg ∷ aggs) h own all below one other =
+    let each = either_false (looks_beyond agg.kernel) (list_any (λ agg. looks_beyond agg.kernel) aggs) h in
+    let first = ap (option_map (λ n. result_entry agg.name (value_of_number n)))
+    (result_alone agg.kernel each.0 (contributed agg own) (contributed agg all) (contributed agg below) (contributed agg one) (contributed agg other)) in
+    λ i. cons_option (first i) (entries_alone aggs each.1 own all below one other i)
+
+-- the lists of groups that don't look beyond
+abbrev pub lone_lists : GroupLists → GroupLists
+lone_lists g = record { own = g.own; all = []; below = g.own }
+
+pub rows_alone : (aggs : List Agg) (g : GroupLists) (keys : List Rec) → list_any (λ agg. looks_beyond agg.kernel) aggs ≡ false
+    → rows_by aggs (lone_lists g) keys ≡ rows_by aggs g keys
+rows_alone aggs g keys h =
+    λ i. map (λ key. row_with key (entries_alone aggs h (g.own key) [] (g.own key) g.all (g.below key) i)) keys
+
 parts_are_kept : (aggs : List Agg) → IsKept (parts_over aggs) merged_parts
 parts_are_kept aggs = record { merges = parts_over-append aggs; commutes = parts_over-swap aggs }
 
@@ -169,6 +199,14 @@ module _ (q : Query) (rs : List Rec) where
         all = all_is ∙ (λ i. fold merged_parts (none_is i) (parts i)) ∙ all_groups;
         below = own;
       }
+
+  -- or without any others
+  pub lone_parts : (groups : Grouped) (none : List Gathered) → groups ≡ groups_over q rs → none ≡ parts_over q.aggs []
+      → AreGroupParts q.aggs (lone_lists query_lists) groups.keys groups.parts none groups.parts
+  lone_parts groups none is none_is =
+      let keys = ap (λ g. g.keys) is in
+      let own = ap (λ g. g.parts) is ∙ ap (map (λ key. parts_over q.aggs (records_of q.group key rs))) (sym keys) in
+      record { own = own; all = none_is; below = own }
 
   -- and their rows are the query's
   pub query_rows : (keys rows : List Rec) → keys ≡ groups_of q.group rs → rows ≡ rows_by q.aggs query_lists keys → rows ≡ map (row_of q rs) (groups_of q.group rs)

@@ -36,3 +36,4 @@ pub mod KeyWays
 pub mod OwnNodes
 pub mod Making
 pub mod PartTables
+pub mod PartLists

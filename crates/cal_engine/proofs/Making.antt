@@ -1,5 +1,5 @@
 -- The row of one group.
-use Rattle.std.proofs.Common.{◌≡◌, ℕ, ◌<◌, true, if◌then◌else◌, List, [], ◌∷◌, length, map, get_or, sym, ap, ◌∙◌, arith}
+use Rattle.std.proofs.Common.{◌≡◌, ℕ, ◌<◌, true, if◌then◌else◌, List, [], length, map, get_or, sym, ap, ◌∙◌, arith}
 use Rattle.std.specs.List.{filter_map}
 use Rattle.std.proofs.lemmas.List.{get_or-map, length-map}
 use Rattle.cal_context.specs.Tree.{Tree, Grows}

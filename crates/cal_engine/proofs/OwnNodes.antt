@@ -1,5 +1,5 @@
 -- The own nodes of keys as ways to their groups.
-use Rattle.std.proofs.Common.{◌≡◌, ℕ, zero, suc, ◌+◌, ◌<◌, ◌≤◌, true, false, not, List, [], ◌∷◌, ◌++◌, ◌⊎◌, inl, inr, length, get_or, map, take, filter, refl, sym, subst, ap, ◌∙◌, arith, append-nil}
+use Rattle.std.proofs.Common.{◌≡◌, ℕ, ◌+◌, ◌<◌, ◌≤◌, true, not, List, [], ◌∷◌, ◌++◌, ◌⊎◌, inl, inr, length, get_or, map, take, filter, refl, sym, subst, ap, ◌∙◌, arith}
 use Rattle.std.specs.List.{All}
 use Rattle.std.proofs.lemmas.Bool.{cases_lt}
 use Rattle.std.proofs.lemmas.List.{map-append, take_more}
@@ -8,12 +8,10 @@ use Rattle.cal_context.specs.Children.{IsLinked}
 use Rattle.cal_context.specs.Tree.{Tree, IsContext, attribute_at, path_at, value_at}
 use Rattle.cal_context.specs.declared.numbers.Link.{Link}
 use Rattle.cal_context.specs.declared.numbers.NodeNumber.{NodeNumber}
-use Rattle.cal_rowset.specs.Hierarchy.{hierarchy, is_of_hierarchy}
-use Rattle.cal_value.specs.Flat.{joined}
+use Rattle.cal_rowset.specs.Hierarchy.{is_of_hierarchy}
 use Rattle.cal_value.specs.declared.attribute.Entry.{Entry}
 use Rattle.cal_engine.specs.Keys.{key_in}
 use Rattle.cal_engine.specs.OwnWays.{AreNestedBefore, IsNestedAt, IsOnly}
-use Rattle.cal_engine.specs.Rows.{beside}
 use Rattle.cal_engine.specs.Totals.{AreWaysBehind}
 use Rattle.cal_engine.specs.Trails.{mark, no_marks, trail}
 use Rattle.cal_engine.specs.declared.key.GroupKey.{GroupKey}

@@ -1,14 +1,12 @@
 -- What is kept of groups in one list, as long for each.
 use Rattle.std.proofs.Common.{◌≡◌, ℕ, zero, suc, ◌+◌, ◌*◌, ◌<◌, ◌≤◌, List, [], ◌∷◌, ◌++◌, drop, length, take, refl, sym, ap, ◌∙◌, arith, append_assoc}
-use Rattle.std.specs.Prelude.{slice_index_or, slice_set}
+use Rattle.std.specs.Prelude.{slice_get, slice_index_or}
+use Rattle.std.specs.Option.{option_to_list}
 use Rattle.std.specs.Simd.{first_chunks}
-use borrow.Rule.Slice.PartMut.{put_mid}
 use Rattle.std.proofs.Math.Nat.{mul-le-mul_right}
-use Rattle.std.proofs.Math.Seq.{drop-append_seam, drop-drop, take-add, take-append_seam, take-length}
-use Rattle.std.proofs.lemmas.List.{length-drop, length-take-le, take-append-drop}
-use Rattle.cal_engine.specs.Folding.{put_parts}
-use Rattle.cal_engine.specs.Parts.{Gathered, merged_parts}
-use Rattle.cal_engine.proofs.Gathering.{put_parts_set}
+use Rattle.std.proofs.Math.Seq.{drop-append_seam, drop-drop, take-append_seam, take-length}
+use Rattle.std.proofs.lemmas.List.{length-drop, length-take, length-take-le, take-append-drop}
+use Rattle.std.proofs.lemmas.Option.{slice_get_past}
 
 -- there are as many groups as are asked for
 pub length-first_chunks : {A : Type 0} (w n : ℕ) (xs : List A) → length (first_chunks w n xs) ≡ n
@@ -21,7 +19,7 @@ pub number_there : {A : Type 0} (w n k : ℕ) (xs : List A) (groups : List (List
 number_there w n k xs groups e l = omega (arith, l, ap length e, length-first_chunks w n xs)
 
 -- the places of a group lie in the list
-chunk_within : (w n k : ℕ) → k < n → k * w + w ≤ n * w
+pub chunk_within : (w n k : ℕ) → k < n → k * w + w ≤ n * w
 chunk_within w n k l = omega (arith, mul-le-mul_right {m = suc k} {n = n} w (omega (arith, l)))
 
 pub places_within : {A : Type 0} (w n k : ℕ) (xs : List A) (groups : List (List A)) → length xs ≡ n * w
@@ -40,6 +38,40 @@ chunk_at w (suc n) zero xs d l = let none : 0 * w ≡ 0 = omega arith in ap (λ 
 chunk_at w (suc n) (suc k) xs d l =
     chunk_at w n k (drop w xs) d (omega (arith, l))
     ∙ ap (take w) (drop-drop (k * w) w xs ∙ ap (λ j. drop j xs) (sym (one_more w k)))
+
+-- an item of a piece of a list
+piece_at : {A : Type 0} (w j i : ℕ) (xs : List A) → i < w → slice_get (take w (drop j xs)) i ≡ slice_get xs (j + i)
+piece_at zero j i xs l = absurd (omega (arith, l))
+piece_at (suc w) zero zero [] l = refl
+piece_at (suc w) zero zero (x ∷ xs) l = refl
+piece_at (suc w) zero (suc i) [] l = sym (slice_get_past [] (0 + suc i) (omega arith))
+piece_at (suc w) zero (suc i) (x ∷ xs) l =
+    let next : suc (0 + i) ≡ 0 + suc i = omega arith in
+    piece_at w 0 i xs (omega (arith, l)) ∙ ap (slice_get (x ∷ xs)) next
+piece_at (suc w) (suc j) i [] l = slice_get_past [] i (omega arith) ∙ sym (slice_get_past [] (suc j + i) (omega arith))
+piece_at (suc w) (suc j) i (x ∷ xs) l =
+    let next : suc (j + i) ≡ suc j + i = omega arith in
+    piece_at (suc w) j i xs l ∙ ap (slice_get (x ∷ xs)) next
+
+-- a part of a group stands where it does in the list
+pub chunk_place : {A : Type 0} (w n k i : ℕ) (xs : List A) → k < n → i < w
+    → slice_get (slice_index_or (first_chunks w n xs) k []) i ≡ slice_get xs (k * w + i)
+chunk_place w n k i xs l short = ap (λ ps. slice_get ps i) (chunk_at w n k xs [] l) ∙ piece_at w (k * w) i xs short
+
+-- one item more of a list's beginning
+pub take_next : {A : Type 0} (n : ℕ) (xs : List A) → take n xs ++ option_to_list (slice_get xs n) ≡ take (n + 1) xs
+take_next zero [] = refl
+take_next zero (x ∷ xs) = refl
+take_next (suc n) [] = let next : suc (n + 1) ≡ suc n + 1 = omega arith in ap (λ k. take k []) next
+take_next (suc n) (x ∷ xs) =
+    let next : suc (n + 1) ≡ suc n + 1 = omega arith in
+    ap (λ ys. x ∷ ys) (take_next n xs) ∙ ap (λ k. take k (x ∷ xs)) next
+
+-- a group has no more parts than the table is wide
+pub chunk_long : {A : Type 0} (w n k : ℕ) (xs : List A) → length (slice_index_or (first_chunks w n xs) k []) ≤ w
+chunk_long w zero k xs = omega arith
+chunk_long w (suc n) zero xs = omega (arith, length-take w xs)
+chunk_long w (suc n) (suc k) xs = chunk_long w n k (drop w xs)
 
 -- behind the last group is nothing
 pub chunk_none : {A : Type 0} (w n k : ℕ) (xs : List A) (d : List A) → n ≤ k
@@ -80,39 +112,3 @@ chunks-push v w (suc n) xs ys e wide same =
     ap (λ k. first_chunks w k (xs ++ ys)) more
     ∙ chunk_more w (suc n) xs ys (e ∙ ap (λ k. suc n * k) is) wide
     ∙ ap (λ k. first_chunks k (suc n) xs ++ ys ∷ []) (sym is)
-
--- a group's parts are written anew
-chunk_set : {A : Type 0} (w n k : ℕ) (xs ys : List A) → k < n → length xs ≡ n * w → length ys ≡ w
-    → first_chunks w n (put_mid (k * w) w xs ys) ≡ slice_set (first_chunks w n xs) k ys
-chunk_set w zero k xs ys l e wide = absurd (omega (arith, l))
-chunk_set w (suc n) zero xs ys l e wide =
-    let none : 0 * w ≡ 0 = omega arith in
-    ap (λ j. first_chunks w (suc n) (put_mid j w xs ys)) none ∙ first_chunk w n ys (drop w xs) wide
-chunk_set w (suc n) (suc k) xs ys l e wide =
-    ap (λ j. first_chunks w (suc n) (put_mid j w xs ys)) (one_more w k)
-    ∙ ap (first_chunks w (suc n)) split
-    ∙ first_chunk w n (take w xs) (put_mid (k * w) w (drop w xs) ys) (length-take-le w xs (omega (arith, e)))
-    ∙ ap (λ zs. take w xs ∷ zs) (chunk_set w n k (drop w xs) ys (omega (arith, l)) (omega (arith, e, length-drop w xs)) wide)
-  where
-    later : drop (w + k * w) xs ≡ drop (k * w) (drop w xs)
-    later = sym (drop-drop (k * w) w xs)
-
-    split : put_mid (w + k * w) w xs ys ≡ take w xs ++ put_mid (k * w) w (drop w xs) ys
-    split =
-        (λ i. take-add w (k * w) xs i ++ (ys ++ drop w (later i)))
-        ∙ append_assoc (take w xs) (take (k * w) (drop w xs)) (ys ++ drop w (drop (k * w) (drop w xs)))
-
--- so a group gets more behind what is kept of it
-pub chunk_merged : (w n k j : ℕ) (xs now fresh : List Gathered) → k < n → length xs ≡ n * w → j ≡ w
-    → length now ≡ length (take j (drop (k * w) xs)) → now ≡ merged_parts (take j (drop (k * w) xs)) fresh
-    → first_chunks w n (put_mid (k * w) j xs now) ≡ put_parts (first_chunks w n xs) k fresh
-chunk_merged w n k j xs now fresh l e same wide is =
-    ap (λ i. first_chunks w n (put_mid (k * w) i xs now)) same
-    ∙ chunk_set w n k xs now l e
-    (wide ∙ ap (λ i. length (take i (drop (k * w) xs))) same ∙ length-take-le w (drop (k * w) xs) fits)
-    ∙ ap (slice_set (first_chunks w n xs) k)
-    (is ∙ ap (λ p. merged_parts p fresh) (ap (λ i. take i (drop (k * w) xs)) same ∙ sym (chunk_at w n k xs [] l)))
-    ∙ put_parts_set (first_chunks w n xs) k [] fresh (omega (arith, l, length-first_chunks w n xs))
-  where
-    fits : w ≤ length (drop (k * w) xs)
-    fits = omega (arith, e, chunk_within w n k l, length-drop (k * w) xs)

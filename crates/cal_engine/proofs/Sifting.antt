@@ -13,13 +13,12 @@ use Rattle.cal_context.specs.declared.numbers.AttributeNumber.{AttributeNumber}
 use Rattle.cal_context.specs.declared.numbers.Link.{Link}
 use Rattle.cal_context.specs.declared.numbers.NodeNumber.{NodeNumber}
 use Rattle.cal_context.specs.declared.snapshot.Immediate.{Immediate}
-use Rattle.cal_context.proofs.CallerLemmas.{Grows-trans, path_at-Grows, within_paths}
 use Rattle.cal_filter.specs.Known.{Covers}
 use Rattle.cal_filter.specs.declared.counts.Counts.{Counts}
-use Rattle.cal_filter.proofs.Zips.{Replacing, zip_weaker}
+use Rattle.cal_filter.proofs.Zips.{Replacing}
 use Rattle.cal_value.specs.Flat.{joined}
 use Rattle.cal_value.specs.declared.attribute.Entry.{Entry}
-use Rattle.cal_engine.specs.Choices.{Choice, choices_of, chooses, chooses_attribute}
+use Rattle.cal_engine.specs.Choices.{choices_of, chooses, chooses_attribute}
 use Rattle.cal_engine.specs.Sieves.{AreSieves, AreReadySieves, ChoosesAll, IsChosen, IsSifted, Sifts, SiftsAll, SiftsSoMany, beside_paths, choice_of, in_paths, part_at}
 use Rattle.cal_engine.specs.Totals.{IsStep, Leads}
 use Rattle.cal_engine.specs.declared.sieve.Sieve.{Sieve}

@@ -1,7 +1,7 @@
 -- What a fold over snapshots has taken stays while the context grows.
 use Rattle.std.proofs.Common.{◌≡◌, List, [], ◌∷◌, ◌++◌, Some, None, true, false, Bool, length, refl, sym, ◌∙◌, ap, subst, arith, append-nil, if◌then◌else◌}
 use Rattle.std.specs.List.{filter_map}
-use Rattle.cal_context.specs.Tree.{Tree, Grows}
+use Rattle.cal_context.specs.Tree.{Tree}
 use Rattle.cal_filter.specs.Filtered.{IsFiltered}
 use Rattle.cal_filter.specs.Kept.{kept, with_lets}
 use Rattle.cal_filter.specs.Conditions.{where_holds}
@@ -9,10 +9,8 @@ use Rattle.cal_ql.specs.declared.query.Let.{Let}
 use Rattle.cal_ql.specs.declared.query.Query.{Query}
 use Rattle.cal_rowset.specs.NumberedRows.{NumberedRow}
 use Rattle.cal_value.specs.declared.record.Rec.{Rec}
-use Rattle.cal_engine.specs.Standing.{HasFolded}
 use Rattle.cal_engine.specs.Tallies.{Holds}
 use Rattle.cal_engine.specs.declared.tally.Tally.{Tally}
-use Rattle.cal_engine.specs.declared.snapshot_fold.SnapshotFold.{SnapshotFold}
 use Rattle.cal_engine.proofs.Folds.{kept_more}
 
 -- a record that LET and WHERE make

@@ -1,13 +1,11 @@
 -- One more record in the groups by numbers.
-use Rattle.std.proofs.Common.{◌≡◌, ℕ, Bool, true, false, true≢false, List, [], ◌∷◌, ◌++◌, Option, None, Some, length, map, refl, sym, ◌∙◌, ap, subst, arith, if◌then◌else◌}
-use Rattle.std.specs.Prelude.{is_some, not, ◌||◌, ◌==◌, ◌<◌}
+use Rattle.std.proofs.Common.{◌≡◌, ℕ, Bool, true, false, true≢false, List, [], ◌∷◌, ◌++◌, Option, None, Some, length, map, refl, sym, ◌∙◌, ap, subst, if◌then◌else◌}
+use Rattle.std.specs.Prelude.{is_some, not, ◌||◌, ◌==◌}
 use Rattle.std.proofs.lemmas.List.{map-append}
 use Rattle.std.specs.List.{All}
 use Rattle.std.proofs.lemmas.List.Elements.{All-nil, All-push}
-use Rattle.cal_context.specs.Snapshots.{IsBelowRoot, IsIn, entry_of, meaning}
-use Rattle.cal_context.specs.Tree.{Tree, Grows, IsContext, path_at}
-use Rattle.cal_context.specs.declared.numbers.NodeNumber.{NodeNumber}
-use Rattle.cal_context.specs.declared.snapshot.Immediate.{Immediate}
+use Rattle.cal_context.specs.Snapshots.{IsIn, meaning}
+use Rattle.cal_context.specs.Tree.{Tree, Grows, IsContext}
 use Rattle.cal_context.specs.declared.snapshot.Snapshot.{Snapshot}
 use Rattle.cal_context.proofs.CallerLemmas.{Grows-refl}
 use Rattle.cal_filter.specs.Known.{Covers}

@@ -24,6 +24,12 @@ abbrev pub is_inclusive : kernels.KernelName → Bool
 is_inclusive kernel.Inclusive = true
 is_inclusive _ = false
 
+-- `inclusive_sum` and `percent_total` look at more than a group's own records
+abbrev pub looks_beyond : kernels.KernelName → Bool
+looks_beyond kernel.Inclusive = true
+looks_beyond kernel.Percent = true
+looks_beyond _ = false
+
 -- the parts of a kernel over a group's numbers, over all numbers, and over those below
 pub record ArePartsOf (k : kernels.KernelName) (ns ms bs : List Num)
     (one other third : Gathered) : Type 0 where

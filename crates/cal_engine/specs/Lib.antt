@@ -2,6 +2,7 @@ pub mod FirstSeen
 pub mod Groups
 pub mod Kernels
 pub mod Parts
+pub mod PartLists
 pub mod Readings
 pub mod Sorting
 pub mod Ranks

@@ -1,5 +1,5 @@
 -- Groups whose keys are numbers.
-use Rattle.std.specs.Prelude.{◌≡◌, ℕ, List, [], map}
+use Rattle.std.specs.Prelude.{◌≡◌, ℕ, List, map}
 use Rattle.std.specs.List.{All}
 use Rattle.cal_context.specs.Lists.{AreApart, Interns}
 use Rattle.cal_context.specs.Tree.{Tree}

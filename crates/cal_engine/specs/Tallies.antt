@@ -1,7 +1,6 @@
 -- What a fold over snapshots holds of the groups of records.
-use Rattle.std.specs.Prelude.{◌≡◌, ℕ, Bool, true, false, ◌<◌, List, length, map, is_some}
+use Rattle.std.specs.Prelude.{◌≡◌, true, false, List}
 use Rattle.std.specs.List.{All}
-use Rattle.cal_context.specs.Lists.{AreApart, Interns}
 use Rattle.cal_context.specs.Tree.{Tree}
 use Rattle.cal_filter.specs.Known.{KnowsSoMany}
 use Rattle.cal_filter.specs.declared.counts.Counts.{Counts}
@@ -9,16 +8,13 @@ use Rattle.cal_ql.specs.declared.query.Query.{Query}
 use Rattle.cal_rowset.specs.NumberedRows.{NumberedRow}
 use Rattle.cal_value.specs.declared.record.Rec.{Rec}
 use Rattle.cal_engine.specs.Counters.{AreCounters, AreReadyCounters}
-use Rattle.cal_engine.specs.Folding.{Grouped, groups_over, put_parts}
-use Rattle.cal_engine.specs.Groups.{group_of}
-use Rattle.cal_engine.specs.Keys.{IsKeyIn, IsKeyOf, key_in, names_in, room_of}
+use Rattle.cal_engine.specs.Folding.{groups_over}
+use Rattle.cal_engine.specs.Keys.{IsKeyIn, names_in, room_of}
 use Rattle.cal_engine.specs.Numbered.{AreGroups, Numbered, grouped_in}
-use Rattle.cal_engine.specs.Parts.{Gathered}
 use Rattle.cal_engine.specs.Rows.{is_aggregated}
 use Rattle.cal_engine.specs.Sieves.{AreReadySieves, AreSieves, SiftsSoMany}
 use Rattle.cal_engine.specs.SnapshotRows.{AreRows}
 use Rattle.cal_engine.specs.declared.counter.Counter.{Counter}
-use Rattle.cal_engine.specs.declared.key.GroupKey.{GroupKey}
 use Rattle.cal_engine.specs.declared.sieve.Sieve.{Sieve}
 use Rattle.cal_engine.specs.declared.tally.Tally.{Tally}
 

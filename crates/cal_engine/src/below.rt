@@ -141,7 +141,8 @@ fn totals(
 {
     let mut totals = copies(alloc, none, context.node_count())?;
     for (number, node) in nodes.iter().enumerate() {
-        add_upwards(alloc, context, *node, parts.at(number), &mut totals)?;
+        let own = parts.at(alloc, number)?;
+        add_upwards(alloc, context, *node, &own, &mut totals)?;
     }
     Ok(totals)
 }

@@ -1,4 +1,5 @@
-ghost use Rattle.std.specs.Prelude.{◌≡◌, [], ◌∷◌, List, codes, map, option_and_then, IfOk, OnOk};
+ghost use Rattle.std.specs.Prelude.{◌≡◌, ◌+◌, ◌<◌, ◌≤◌, ◌++◌, [], ◌∷◌, List, codes, length, map, take};
+ghost use Rattle.std.specs.Prelude.{option_and_then, IfOk, OnOk, OnErr};
 ghost use Rattle.std.specs.List.{All, AllZip, filter_map};
 ghost use Rattle.std.specs.Option.{option_to_list};
 ghost use Rattle.cal_context.specs.Snapshots.{IsIn, meaning};
@@ -10,11 +11,13 @@ ghost use Rattle.cal_value.specs.Flat.{flat};
 ghost use Rattle.cal_engine.specs.Counters.{CounterCatchesUp, IsCounter, IsReadyCounter};
 ghost use Rattle.cal_engine.specs.Counters.{sought_for};
 ghost use Rattle.cal_engine.specs.Kernels.{number_sought as sought_in, weight as weight_of};
-ghost use Rattle.cal_engine.specs.Parts.{merged_part, merged_parts, part_over};
+ghost use Rattle.cal_engine.specs.PartLists.{merged_at, merged_from};
+ghost use Rattle.cal_engine.specs.Parts.{part_over};
 ghost use Rattle.cal_engine.specs.Readings.{part_of as part_by, parts_of as parts_by};
 ghost use Rattle.cal_engine.specs.declared.reading.Reading.{Reading as AReading};
 
 use crate::part::Part;
+use crate::part_list::PartList;
 use crate::reading::{Reading, number_sought};
 use cal_agg::Num;
 use cal_context::{Context, Snapshot};
@@ -52,19 +55,33 @@ impl Counter {
     /// Adds what is read of one record to a part.
     fn add_to(
         &self,
+        alloc: Global,
         context: &Context,
         snapshot: &Snapshot,
-        part: &mut Part,
+        parts: &mut PartList,
+        place: usize,
     ) -> Result<(), OutOfMemory>
-        requires { IsIn context.now snapshot.now }
-        ensures { OnOk result ((r : AReading) → IsReadyCounter context.now r self.now
-            → part.new ≡ merged_part part.old (part_by r (meaning context.now snapshot.now))) }
+        requires within { IsIn context.now snapshot.now }
+        requires place { place < length parts.old }
+        ensures added { OnOk result ((r : AReading) → IsReadyCounter context.now r self.now
+            → parts.new ≡ merged_at parts.old place
+            (part_by r (meaning context.now snapshot.now))) }
+        ensures long { length parts.new ≡ length parts.old }
     {
         match self.kernel {
             KernelName::Count => {
-                part.add(self.kernel, &weight(&self.seekers, context, snapshot))
+                let weight = weight(&self.seekers, context, snapshot);
+                parts.add(alloc, place, self.kernel, &weight)
             }
-            _ => add_numbers(self.kernel, &self.seekers, context, snapshot, part),
+            _ => add_numbers(
+                alloc,
+                self.kernel,
+                &self.seekers,
+                context,
+                snapshot,
+                parts,
+                place,
+            ),
         }
     }
 }
@@ -119,32 +136,46 @@ fn weight(seekers: &[Seeker], context: &Context, snapshot: &Snapshot) -> Num
     }
 }
 
-/// Adds the numbers that seekers find to the part of a kernel.
+/// Adds the numbers that seekers find to the part of a kernel, which stands at a place.
 fn add_numbers(
+    alloc: Global,
     kernel: KernelName,
     seekers: &[Seeker],
     context: &Context,
     snapshot: &Snapshot,
-    part: &mut Part,
+    parts: &mut PartList,
+    place: usize,
 ) -> Result<(), OutOfMemory>
-    requires { IsIn context.now snapshot.now }
-    ensures { OnOk result (All (KnowsAll context.now) seekers.now
-        → part.new ≡ merged_part part.old (part_over kernel (filter_map
+    requires within { IsIn context.now snapshot.now }
+    requires place { place < length parts.old }
+    ensures added { OnOk result (All (KnowsAll context.now) seekers.now
+        → parts.new ≡ merged_at parts.old place (part_over kernel (filter_map
         (λ s. number_found_by (sought s) (flat (meaning context.now snapshot.now))) seekers.now))) }
+    ensures long { length parts.new ≡ length parts.old }
 {
     for seeker in seekers {
-        add_some(kernel, number_found(false, seeker, context, snapshot), part)?;
+        let number = number_found(false, seeker, context, snapshot);
+        add_some(alloc, kernel, number, parts, place)?;
     }
     Ok(())
 }
 
 /// Adds a number to the part of a kernel, if there is one.
-fn add_some(kernel: KernelName, number: Option<Num>, part: &mut Part) -> Result<(), OutOfMemory>
-    ensures { OnOk result
-        (part.new ≡ merged_part part.old (part_over kernel (option_to_list number))) }
+#[inline(always)]
+fn add_some(
+    alloc: Global,
+    kernel: KernelName,
+    number: Option<Num>,
+    parts: &mut PartList,
+    place: usize,
+) -> Result<(), OutOfMemory>
+    requires { place < length parts.old }
+    ensures added { OnOk result
+        (parts.new ≡ merged_at parts.old place (part_over kernel (option_to_list number))) }
+    ensures long { length parts.new ≡ length parts.old }
 {
     match number {
-        Some(number) => part.add(kernel, &number),
+        Some(number) => parts.add(alloc, place, kernel, &number),
         None => Ok(()),
     }
 }
@@ -180,36 +211,60 @@ pub(crate) fn know_all(counters: &mut [Counter], context: &Context) -> Result<()
     Ok(())
 }
 
-/// Adds what is read of one record to the parts of a group, place by place. As many parts as there
-/// are counters belong to a group; others are answered as want of memory is.
+/// Adds what is read of one record to the parts of a group, which stand in a list from a place on,
+/// as many as there are counters.
 pub(crate) fn add_record(
+    alloc: Global,
     counters: &[Counter],
     context: &Context,
     snapshot: &Snapshot,
-    parts: &mut [Part],
+    parts: &mut PartList,
+    from: usize,
 ) -> Result<(), OutOfMemory>
-    requires { IsIn context.now snapshot.now }
-    ensures { OnOk result ((rs : List AReading)
+    requires within { IsIn context.now snapshot.now }
+    requires places { from + length counters.now ≤ length parts.old }
+    ensures added { OnOk result ((rs : List AReading)
         → AllZip (IsReadyCounter context.now) rs counters.now
-        → parts.new ≡ merged_parts parts.old (parts_by rs (meaning context.now snapshot.now))) }
+        → parts.new ≡ merged_from parts.old from
+        (parts_by rs (meaning context.now snapshot.now))) }
+    ensures long { length parts.new ≡ length parts.old }
 {
-    if parts.len() != counters.len() {
-        return Err(OutOfMemory);
-    }
+    let _ = parts.len();
     for (place, counter) in counters.iter().enumerate() {
-        counter.add_to(context, snapshot, &mut parts[place])?;
+        counter.add_to(alloc, context, snapshot, parts, from + place)?;
     }
     Ok(())
 }
 
-/// The parts of a group that has no record.
-pub(crate) fn no_parts_for(alloc: Global, counters: &[Counter]) -> Result<Vec<Part>, OutOfMemory>
-    ensures { IfOk result (λ parts.
-        parts.items ≡ map (λ counter. part_over counter.kernel []) counters.now) }
+/// Adds the parts of a group that has no record at the end of a list.
+pub(crate) fn put_none(
+    alloc: Global,
+    parts: &mut PartList,
+    counters: &[Counter],
+) -> Result<(), OutOfMemory>
+    ensures ok { OnOk result (parts.new
+        ≡ parts.old ++ map (λ counter. part_over counter.kernel []) counters.now) }
+    ensures err { OnErr result (parts.new ≡ parts.old) }
 {
-    let mut parts = Vec::with_capacity(alloc, counters.len())?;
-    for counter in counters {
-        parts.push(Part::none(counter.kernel))?;
+    let count = parts.len();
+    let put = put_each_none(alloc, parts, counters);
+    if put.is_err() {
+        parts.truncate(count);
     }
-    Ok(parts)
+    put
+}
+
+fn put_each_none(
+    alloc: Global,
+    parts: &mut PartList,
+    counters: &[Counter],
+) -> Result<(), OutOfMemory>
+    ensures ok { OnOk result (parts.new
+        ≡ parts.old ++ map (λ counter. part_over counter.kernel []) counters.now) }
+    ensures front { take (length parts.old) parts.new ≡ parts.old }
+{
+    for counter in counters {
+        parts.push(alloc, Part::none(counter.kernel))?;
+    }
+    Ok(())
 }

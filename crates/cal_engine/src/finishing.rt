@@ -7,7 +7,7 @@ ghost use Rattle.cal_filter.specs.Numbers.{value_of_number as value_of};
 ghost use Rattle.cal_value.specs.declared.record.Rec.{Rec as ARecord};
 ghost use Rattle.cal_engine.specs.Finishing.{entries_of_results, entry_of_result, row_with};
 ghost use Rattle.cal_engine.specs.Finishing.{rows_by, AreGroupParts, AreKept, GroupLists, Lists};
-ghost use Rattle.cal_engine.specs.Finishing.{TakesWhole, is_inclusive};
+ghost use Rattle.cal_engine.specs.Finishing.{TakesWhole, is_inclusive, looks_beyond};
 ghost use Rattle.cal_engine.specs.Folding.{groups_over};
 ghost use Rattle.cal_engine.specs.Groups.{groups_of};
 ghost use Rattle.cal_engine.specs.Kernels.{contributed, result_of};
@@ -150,6 +150,13 @@ pub(crate) fn some_inclusive(aggs: &[Agg]) -> bool
 {
     aggs.iter()
         .any(|agg| matches!(agg.kernel, KernelName::Inclusive))
+}
+
+/// Whether some kernel looks at more than a group's own records.
+pub(crate) fn some_beyond(aggs: &[Agg]) -> bool
+    ensures { result ≡ list_any (λ agg. looks_beyond agg.kernel) aggs.now }
+{
+    aggs.iter().any(|agg| matches!(agg.kernel, KernelName::Inclusive | KernelName::Percent))
 }
 
 /// The rows of groups, each of its own parts, of those of all groups, and of those below it.

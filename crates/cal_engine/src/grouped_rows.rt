@@ -210,9 +210,7 @@ impl GroupedRows {
             self.now.others.all (slice_index_or (below_in self.now) number [])
             → AddsResults t (entries_of_results aggs lists) imms.old.items imms.new.items) }
     {
-        let own = self.groups.parts_at(number);
-        let below = self.others.below_at(number, own);
-        add_result_immediates(imms, &self.results, own, self.others.all(), below)
+        add_result_immediates(imms, &self.results, &self.groups, number, &self.others)
     }
 }
 

@@ -114,7 +114,8 @@ pub(crate) fn total(
 {
     let mut total = none.copy(alloc)?;
     for number in 0..parts.count() {
-        merge_into(alloc, &mut total, parts.at(number))?;
+        let own = parts.at(alloc, number)?;
+        merge_into(alloc, &mut total, &own)?;
     }
     Ok(total)
 }

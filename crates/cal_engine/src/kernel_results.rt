@@ -1,4 +1,5 @@
-ghost use Rattle.std.specs.Prelude.{◌≡◌, ◌++◌, List, option_map, slice_get, IfOk, OnOk, Some};
+ghost use Rattle.std.specs.Prelude.{◌≡◌, ◌++◌, [], List, option_map, slice_get, slice_index_or};
+ghost use Rattle.std.specs.Prelude.{IfOk, OnOk, Some};
 ghost use Rattle.std.specs.List.{AllZip};
 ghost use Rattle.std.specs.Option.{option_copied};
 ghost use Rattle.cal_context.specs.Snapshots.{entry_of};
@@ -9,10 +10,13 @@ ghost use Rattle.cal_ql.specs.declared.query.Agg.{Agg as AnAgg};
 ghost use Rattle.cal_engine.specs.Finishing.{AreKept, Lists, entries_of_results};
 ghost use Rattle.cal_engine.specs.Finishing.{entry_of_result};
 ghost use Rattle.cal_engine.specs.Kernels.{contributed};
+ghost use Rattle.cal_engine.specs.Making.{below_of};
 ghost use Rattle.cal_engine.specs.Parts.{part_over};
 ghost use Rattle.cal_engine.specs.Results.{AddsResults, IsResultOf};
 
 use crate::finishing::value_at;
+use crate::numbered::NumberedGroups;
+use crate::other_parts::OtherParts;
 use crate::part::Part;
 use crate::reading::push_some;
 use cal_agg::Num;
@@ -70,19 +74,21 @@ fn attributes_of(
 pub(crate) fn add_result_immediates(
     imms: &mut Vec<Immediate>,
     results: &[ResultAttributes],
-    own: &[Part],
-    all: &[Part],
-    below: &[Part],
+    groups: &NumberedGroups,
+    number: usize,
+    others: &OtherParts,
 ) -> Result<(), OutOfMemory>
     ensures { OnOk result ((t : Tree) (aggs : List AnAgg) (lists : Lists)
-        → AllZip (IsResultOf t) aggs results.now → AreKept aggs lists own.now all.now below.now
+        → AllZip (IsResultOf t) aggs results.now
+        → AreKept aggs lists (slice_index_or groups.now.parts number []) others.now.all
+        (slice_index_or (below_of others.now groups.now.parts) number [])
         → AddsResults t (entries_of_results aggs lists) imms.old.items imms.new.items) }
 {
     for (place, attributes) in results.iter().enumerate() {
-        let own_part = part_at(own, place);
-        let all_part = part_at(all, place);
-        let below_part = part_at(below, place);
-        let found = result_at(attributes, own_part, all_part, below_part);
+        let own_part = groups.parts().get(number, place);
+        let all_part = part_at(others.all(), place);
+        let below_part = others.below_at(number, place, own_part.as_ref());
+        let found = result_at(attributes, own_part.as_ref(), all_part, below_part.as_ref());
         push_some(imms, found)?;
     }
     Ok(())

@@ -1,17 +1,17 @@
-ghost use Rattle.std.specs.Prelude.{◌≡◌, ◌+◌, ◌≤◌, [], List, Some, length, max, slice_get};
-ghost use Rattle.std.specs.Prelude.{slice_index_or, IfOk, IsTrue, OnOk, OnErr};
+ghost use Rattle.std.specs.Prelude.{◌≡◌, ◌+◌, ◌≤◌, [], List, Some, length, map, max, slice_get};
+ghost use Rattle.std.specs.Prelude.{IfOk, IsTrue, OnOk, OnErr};
 ghost use Rattle.std.specs.List.{AllZip};
 ghost use Rattle.cal_context.specs.Lists.{Interns};
 ghost use Rattle.cal_context.specs.Snapshots.{IsIn, meaning};
 ghost use Rattle.cal_engine.specs.Counters.{IsReadyCounter};
 ghost use Rattle.cal_engine.specs.Folding.{put_parts};
+ghost use Rattle.cal_engine.specs.Parts.{Gathered, merged_parts, part_over};
 ghost use Rattle.cal_engine.specs.Numbered.{GathersKey};
 ghost use Rattle.cal_engine.specs.Readings.{parts_of as parts_by};
 ghost use Rattle.cal_engine.specs.declared.reading.Reading.{Reading as AReading};
 
-use crate::counter::{Counter, add_record, no_parts_for};
+use crate::counter::Counter;
 use crate::key::GroupKey;
-use crate::part::Part;
 use crate::part_table::PartTable;
 use cal_context::{Context, Interner, NodeNumber, Snapshot};
 use cal_value::{OutOfMemory, same};
@@ -80,11 +80,13 @@ impl NumberedGroups {
         let number = intern_near(&mut self.keys, hint_at(&self.hints, key.first()), key)?;
         self.last = number;
         keep_hint(&mut self.hints, key.first(), number);
-        let put = put_record(alloc, counters, context, snapshot, &mut self.parts, number);
-        if put.is_err() {
+        let made = make_room(alloc, counters, &mut self.parts, number);
+        if made.is_err() {
             self.keys.truncate(count);
+            return made;
         }
-        put
+        self.parts
+            .add_at(alloc, number, counters, context, snapshot)
     }
 
     /// The same groups, without the memory that only gathering needs.
@@ -114,14 +116,6 @@ impl NumberedGroups {
     {
         let _ = &self.keys;
         &self.parts
-    }
-
-    /// What is kept of the group of a number.
-    pub fn parts_at(&self, number: usize) -> &[Part]
-        ensures { result.now ≡ slice_index_or self.now.parts number [] }
-    {
-        let _ = &self.keys;
-        self.parts.at(number)
     }
 }
 
@@ -174,31 +168,22 @@ fn has_at(keys: &[GroupKey], place: usize, key: &GroupKey) -> bool
     }
 }
 
-/// Adds a record to the parts of a number, or to new ones at the end.
-#[tactic(auto, using(crate::proofs::Gathering::of_putting))]
-fn put_record(
+/// Puts the parts of no record at the end, where a number has none yet.
+fn make_room(
     alloc: Global,
     counters: &[Counter],
-    context: &Context,
-    snapshot: &Snapshot,
     parts: &mut PartTable,
     number: usize,
 ) -> Result<(), OutOfMemory>
-    requires within { IsIn context.now snapshot.now }
-    requires number { number ≤ length parts.old }
-    ensures ok { OnOk result ((rs : List AReading)
-        → AllZip (IsReadyCounter context.now) rs counters.now → parts.new
-        ≡ put_parts parts.old number (parts_by rs (meaning context.now snapshot.now))) }
-    ensures long { OnOk result
-        (length parts.new ≡ max (length parts.old) (number + 1)) }
-    ensures err { OnErr result (length parts.new ≡ length parts.old) }
+    requires { number ≤ length parts.old }
+    ensures put { OnOk result ((fresh : List Gathered)
+        → merged_parts (map (λ counter. part_over counter.kernel []) counters.now) fresh ≡ fresh
+        → put_parts parts.new number fresh ≡ put_parts parts.old number fresh) }
+    ensures long { OnOk result (length parts.new ≡ max (length parts.old) (number + 1)) }
+    ensures err { OnErr result (parts.new ≡ parts.old) }
 {
     if number < parts.count() {
-        parts.add_at(number, counters, context, snapshot)?;
-    } else {
-        let mut fresh = no_parts_for(alloc, counters)?;
-        add_record(counters, context, snapshot, &mut fresh)?;
-        parts.push(fresh)?;
+        return Ok(());
     }
-    Ok(())
+    parts.push_none(alloc, counters)
 }

@@ -1,11 +1,12 @@
-ghost use Rattle.std.specs.Prelude.{◌≡◌, [], List, slice_index_or, IfOk};
+ghost use Rattle.std.specs.Prelude.{◌≡◌, [], List, slice_get, slice_index_or, IfOk};
+ghost use Rattle.std.specs.Option.{option_copied};
 ghost use Rattle.cal_value.specs.declared.record.Rec.{Rec as ARecord};
 ghost use Rattle.cal_engine.specs.Making.{AreOthers, below_of};
 ghost use Rattle.cal_engine.specs.Numbered.{AreGroups};
 ghost use Rattle.cal_engine.specs.Parts.{Gathered};
 
 use crate::below::parts_below_keys;
-use crate::finishing::{no_parts, some_inclusive};
+use crate::finishing::{no_parts, some_beyond, some_inclusive};
 use crate::groups::total;
 use crate::numbered::NumberedGroups;
 use crate::part::Part;
@@ -14,8 +15,8 @@ use cal_ql::Query;
 use cal_value::{OutOfMemory, Seq};
 use std::alloc::Global;
 
-/// What is kept of other records than a group's: of all, and for each group of those at or below
-/// it, where some kernel looks at them.
+/// What is kept of other records than a group's, where some kernel looks at them: of all, and for
+/// each group of those at or below it.
 #[derive(Drop)]
 pub(crate) struct OtherParts {
     all: Seq<Part>,
@@ -38,6 +39,13 @@ impl OtherParts {
         let aggs = query.aggs.as_slice();
         let none = no_parts(alloc, aggs)?;
         let own = groups.parts();
+        if !some_beyond(aggs) {
+            return Ok(OtherParts {
+                all: none,
+                inclusive: false,
+                below: Vec::new(alloc),
+            });
+        }
         let all = total(alloc, own, &none)?;
         if !some_inclusive(aggs) {
             return Ok(OtherParts {
@@ -62,18 +70,16 @@ impl OtherParts {
         self.all.as_slice()
     }
 
-    /// The parts below the group of a number, whose own parts these are.
-    pub(crate) fn below_at<'a>(&'a self, number: usize, own: &'a [Part]) -> &'a [Part]
-        ensures { (parts : List (List Gathered)) → own.now ≡ slice_index_or parts number []
-            → result.now ≡ slice_index_or (below_of self.now parts) number [] }
+    /// The part at a place of those below the group of a number, whose own part there is this one.
+    pub(crate) fn below_at(&self, number: usize, place: usize, own: Option<&Part>) -> Option<Part>
+        ensures { (parts : List (List Gathered))
+            → option_copied own.entry ≡ slice_get (slice_index_or parts number []) place
+            → result ≡ slice_get (slice_index_or (below_of self.now parts) number []) place }
     {
         let _ = &self.all;
         if !self.inclusive {
-            return own;
+            return Some(own?.twin());
         }
-        match self.below.get(number) {
-            Some(below) => below.as_slice(),
-            None => &[],
-        }
+        Some(self.below.get(number)?.get(place)?.twin())
     }
 }

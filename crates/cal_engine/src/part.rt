@@ -156,7 +156,7 @@ impl Part {
 
     /// A part of so many numbers, and what they come to.
     #[inline(always)]
-    fn made(many: u32, way: Way, whole: Option<i128>, fixed: Option<i128>) -> Part
+    pub fn made(many: u32, way: Way, whole: Option<i128>, fixed: Option<i128>) -> Part
         requires { HasRoom many (held_by way (record { whole = whole; fixed = fixed })) }
         ensures { result ≡ record {
           many = many;
@@ -175,7 +175,7 @@ impl Part {
     }
 
     #[inline(always)]
-    fn many(&self) -> u32
+    pub fn many(&self) -> u32
         ensures many { result ≡ self.now.many }
         ensures room { HasRoom self.now.many self.now.held }
     {
@@ -183,21 +183,21 @@ impl Part {
     }
 
     #[inline(always)]
-    fn way(&self) -> Way
+    pub fn way(&self) -> Way
         ensures { result ≡ way_in self.now.held }
     {
         self.way
     }
 
     #[inline(always)]
-    fn whole(&self) -> Option<i128>
+    pub fn whole(&self) -> Option<i128>
         ensures { result ≡ (parts_in self.now.held).whole }
     {
         given(self.has_whole, self.whole)
     }
 
     #[inline(always)]
-    fn fixed(&self) -> Option<i128>
+    pub fn fixed(&self) -> Option<i128>
         ensures { result ≡ (parts_in self.now.held).fixed }
     {
         given(self.has_fixed, self.fixed)
@@ -316,7 +316,7 @@ impl TryCopy for Part {
     }
 }
 
-fn way_of(kernel: KernelName) -> Way
+pub(crate) fn way_of(kernel: KernelName) -> Way
     ensures { result ≡ way_by kernel }
 {
     match kernel {
@@ -327,7 +327,7 @@ fn way_of(kernel: KernelName) -> Way
 }
 
 #[inline(always)]
-fn is_same(one: Way, other: Way) -> bool
+pub(crate) fn is_same(one: Way, other: Way) -> bool
     ensures { IsTrue result → one ≡ other }
 {
     one == other

@@ -1,16 +1,19 @@
-ghost use Rattle.std.specs.Prelude.{◌≡◌, ◌<◌, ◌++◌, [], ◌∷◌, List, length, IfOk, OnOk, OnErr};
-ghost use Rattle.std.specs.Prelude.{slice_index_or};
+ghost use Rattle.std.specs.Prelude.{◌≡◌, ◌<◌, ◌++◌, [], ◌∷◌, List, length, map, IfOk, OnOk, OnErr};
+ghost use Rattle.std.specs.Prelude.{slice_get, slice_index_or, take};
 ghost use Rattle.std.specs.List.{AllZip};
 ghost use Rattle.cal_context.specs.Snapshots.{IsIn, meaning};
 ghost use Rattle.cal_engine.specs.Counters.{IsReadyCounter};
 ghost use Rattle.cal_engine.specs.Folding.{put_parts};
+ghost use Rattle.cal_engine.specs.Parts.{part_over};
 ghost use Rattle.cal_engine.specs.Readings.{parts_of as parts_by};
 ghost use Rattle.cal_engine.specs.declared.reading.Reading.{Reading as AReading};
 
-use crate::counter::{Counter, add_record};
+use crate::counter::{Counter, add_record, put_none};
 use crate::part::Part;
+use crate::part_list::PartList;
+use crate::reading::push_some;
 use cal_context::{Context, Snapshot};
-use cal_value::{OutOfMemory, Seq, TryCopy};
+use cal_value::{OutOfMemory, Seq};
 use std::alloc::Global;
 use std::marker::Model;
 
@@ -18,7 +21,7 @@ use std::marker::Model;
 /// table is wide.
 #[derive(Drop)]
 pub(crate) struct PartTable {
-    parts: Vec<Part>,
+    parts: PartList,
     width: usize,
     count: usize,
 }
@@ -30,9 +33,9 @@ impl Model for PartTable {
 
     ghost Value = { List (List Gathered) };
 
-    ghost view = { λ s. first_chunks s.width s.count s.parts.items };
+    ghost view = { λ s. first_chunks s.width s.count s.parts };
 
-    ghost invariant = { λ s. length s.parts.items ≡ s.count * s.width };
+    ghost invariant = { λ s. length s.parts ≡ s.count * s.width };
 }
 
 impl PartTable {
@@ -41,7 +44,7 @@ impl PartTable {
         ensures { result ≡ [] }
     {
         PartTable {
-            parts: Vec::new(alloc),
+            parts: PartList::new(alloc),
             width: 0,
             count: 0,
         }
@@ -54,7 +57,7 @@ impl PartTable {
     {
         let mut table = PartTable::new(alloc);
         for parts in groups {
-            table.push(parts.copy(alloc)?.into_vec())?;
+            table.push(alloc, parts.as_slice())?;
         }
         Ok(table)
     }
@@ -68,19 +71,31 @@ impl PartTable {
     }
 
     /// What is kept of the group of a number.
-    pub fn at(&self, number: usize) -> &[Part]
-        ensures { result.now ≡ slice_index_or self.now number [] }
+    pub fn at(&self, alloc: Global, number: usize) -> Result<Vec<Part>, OutOfMemory>
+        ensures { IfOk result (λ parts. parts.items ≡ slice_index_or self.now number []) }
     {
-        if number >= self.count {
-            return &[];
+        let mut parts = Vec::new(alloc);
+        for place in 0..self.width {
+            push_some(&mut parts, self.get(number, place))?;
         }
-        let from = number * self.width;
-        &self.parts[from..from + self.width]
+        Ok(parts)
+    }
+
+    /// The part at a place of the group of a number.
+    #[inline(always)]
+    pub fn get(&self, number: usize, place: usize) -> Option<Part>
+        ensures { result ≡ slice_get (slice_index_or self.now number []) place }
+    {
+        let _ = self.parts.len();
+        if number >= self.count || place >= self.width {
+            return None;
+        }
+        self.parts.get(number * self.width + place)
     }
 
     /// Adds a group at the end. One of another number of parts is answered as want of memory is.
-    pub fn push(&mut self, parts: Vec<Part>) -> Result<(), OutOfMemory>
-        ensures ok { OnOk result (self.new ≡ self.old ++ parts.items ∷ []) }
+    pub fn push(&mut self, alloc: Global, parts: &[Part]) -> Result<(), OutOfMemory>
+        ensures ok { OnOk result (self.new ≡ self.old ++ parts.now ∷ []) }
         ensures err { OnErr result (self.new ≡ self.old) }
     {
         let Some(count) = self.count.checked_add(1) else {
@@ -90,8 +105,26 @@ impl PartTable {
         if self.count > 0 && self.width != width {
             return Err(OutOfMemory);
         }
-        let mut parts = parts;
-        self.parts.append(&mut parts)?;
+        put_all(alloc, &mut self.parts, parts)?;
+        self.width = width;
+        self.count = count;
+        Ok(())
+    }
+
+    /// Adds a group of no record at the end.
+    pub fn push_none(&mut self, alloc: Global, counters: &[Counter]) -> Result<(), OutOfMemory>
+        ensures ok { OnOk result (self.new
+            ≡ self.old ++ map (λ counter. part_over counter.kernel []) counters.now ∷ []) }
+        ensures err { OnErr result (self.new ≡ self.old) }
+    {
+        let Some(count) = self.count.checked_add(1) else {
+            return Err(OutOfMemory);
+        };
+        let width = counters.len();
+        if self.count > 0 && self.width != width {
+            return Err(OutOfMemory);
+        }
+        put_none(alloc, &mut self.parts, counters)?;
         self.width = width;
         self.count = count;
         Ok(())
@@ -101,6 +134,7 @@ impl PartTable {
     /// promised.
     pub fn add_at(
         &mut self,
+        alloc: Global,
         number: usize,
         counters: &[Counter],
         context: &Context,
@@ -113,8 +147,34 @@ impl PartTable {
             ≡ put_parts self.old number (parts_by rs (meaning context.now snapshot.now))) }
         ensures long { length self.new ≡ length self.old }
     {
+        let _ = self.parts.len();
+        if counters.len() != self.width {
+            return Err(OutOfMemory);
+        }
         let from = number * self.width;
-        let to = from + self.width;
-        add_record(counters, context, snapshot, &mut self.parts[from..to])
+        add_record(alloc, counters, context, snapshot, &mut self.parts, from)
     }
+}
+
+/// Adds parts at the end of a list.
+fn put_all(alloc: Global, list: &mut PartList, parts: &[Part]) -> Result<(), OutOfMemory>
+    ensures ok { OnOk result (list.new ≡ list.old ++ parts.now) }
+    ensures err { OnErr result (list.new ≡ list.old) }
+{
+    let count = list.len();
+    let put = put_each(alloc, list, parts);
+    if put.is_err() {
+        list.truncate(count);
+    }
+    put
+}
+
+fn put_each(alloc: Global, list: &mut PartList, parts: &[Part]) -> Result<(), OutOfMemory>
+    ensures ok { OnOk result (list.new ≡ list.old ++ parts.now) }
+    ensures front { take (length list.old) list.new ≡ list.old }
+{
+    for part in parts {
+        list.push(alloc, part.twin())?;
+    }
+    Ok(())
 }

@@ -1,8 +1,8 @@
-use Rattle.std.proofs.Common.{◌≡◌, ◌++◌, List, drop, length, take}
+use Rattle.std.proofs.Common.{◌≡◌, List, length, take}
 use Rattle.std.specs.List.{AllZip}
 use Rattle.cal_context.specs.Snapshots.{meaning}
 use Rattle.cal_engine.specs.Counters.{IsReadyCounter}
-use Rattle.cal_engine.specs.Parts.{merged_parts}
+use Rattle.cal_engine.specs.PartLists.{merged_from}
 use Rattle.cal_engine.specs.Readings.{parts_of}
 use Rattle.cal_engine.specs.declared.reading.Reading.{Reading}
 use Rattle.cal_engine.proofs.counter.add_record.Given as goal
@@ -10,7 +10,7 @@ use Rattle.cal_engine.proofs.counter.add_record.Given as goal
 -- those before this place are added to, and the others are as they were
 abbrev pub invariant-loop-place : goal.invariant-loop-place
 invariant-loop-place l = record {
-  long : length l.parts ≡ length l.counters;
+  long : length l.parts ≡ length l.fn.parts;
   merged : (rs : List Reading) → AllZip (IsReadyCounter l.context) rs l.counters → l.parts
-      ≡ merged_parts l.fn.parts (take l.place (parts_of rs (meaning l.context l.snapshot))) ++ drop l.place l.fn.parts;
+      ≡ merged_from l.fn.parts l.from (take l.place (parts_of rs (meaning l.context l.snapshot)));
 }

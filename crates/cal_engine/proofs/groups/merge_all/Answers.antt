@@ -1,4 +1,4 @@
-use Rattle.std.proofs.Common.{◌++◌, [], ◌∷◌, length, ap, ◌∙◌, arith}
+use Rattle.std.proofs.Common.{◌++◌, [], ◌∷◌, ap, ◌∙◌, arith}
 use Rattle.cal_engine.proofs.InPlace.{merged_beyond, merged_there, merged_whole}
 use Rattle.cal_engine.proofs.groups.merge_all.Goals as goal
 use Rattle.cal_engine.proofs.groups.merge_all.Goals.{then-place-len+in_ok-merge, else-place-len+in_ok-push}

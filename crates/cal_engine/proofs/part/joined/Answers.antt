@@ -1,4 +1,4 @@
-use Rattle.std.proofs.Common.{◌+ℤ◌, ◌^◌, ◌≤◌, unsigned_abs, FitsSigned, Some, refl, rules, subst, sym, ap, ◌∙◌, arith}
+use Rattle.std.proofs.Common.{◌+ℤ◌, FitsSigned, Some, refl, rules, subst, sym, ap, arith}
 use Rattle.std.proofs.lemmas.Int.{ints, to_z-of_z}
 use Rattle.cal_agg.specs.Numbers.{IsWithin}
 use Rattle.cal_engine.specs.Parts.{IsWithinWay, joined_by}

@@ -1,7 +1,5 @@
 use Rattle.std.proofs.Common.{List, filter, map, subst, sym, arith}
 use Rattle.std.proofs.lemmas.List.{take_all}
-use Rattle.std.specs.List.{All}
-use Rattle.std.proofs.lemmas.List.Elements.{All-weaker}
 use Rattle.cal_context.specs.Tree.{path_at}
 use Rattle.cal_context.proofs.CallerLemmas.{Grows-refl, Grows-trans}
 use Rattle.cal_value.specs.Flat.{joined}

@@ -1,4 +1,4 @@
-use Rattle.std.proofs.Common.{◌∙◌, ap, arith}
+use Rattle.std.proofs.Common.{◌∙◌, arith}
 use Rattle.std.proofs.lemmas.List.Elements.{All-push}
 use Rattle.cal_engine.specs.Sieves.{Sifts}
 use Rattle.cal_engine.proofs.Sifting.{choices_next}

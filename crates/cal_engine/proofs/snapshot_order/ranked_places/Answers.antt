@@ -1,7 +1,7 @@
-use Rattle.std.proofs.Common.{◌≡◌, ◌<◌, List, [], ◌∷◌, ◌++◌, length, map, take, sym, ap, ◌∙◌, arith}
+use Rattle.std.proofs.Common.{◌<◌, List, [], ◌∷◌, ◌++◌, length, map, take, sym, ap, ◌∙◌, arith}
 use Rattle.std.proofs.lemmas.List.{map-append, map_more, take_all}
 use Rattle.cal_rowset.specs.NumberedRows.{NumberedRow, meant, nth_numbered}
-use Rattle.cal_engine.specs.SnapshotRanks.{AreRanked, as_rank, rank_by}
+use Rattle.cal_engine.specs.SnapshotRanks.{as_rank, rank_by}
 use Rattle.cal_engine.proofs.snapshot_order.ranked_places.Goals as goal
 
 pub loop-place-preserved : goal.loop-place-preserved

@@ -1,8 +1,6 @@
 use Rattle.std.proofs.Common.{sym, ◌∙◌}
 use Rattle.cal_context.specs.Snapshots.{meaning}
-use Rattle.cal_filter.proofs.ReadyLemmas.{weaker}
-use Rattle.cal_engine.specs.Groups.{group_of}
-use Rattle.cal_engine.proofs.Tallying.{key_found_by_names, key_found_by_nodes}
+use Rattle.cal_engine.proofs.Tallying.{key_found_by_names}
 use Rattle.cal_engine.proofs.tally.key_of.Goals as goal
 
 pub returns-clause-key : goal.returns-clause-key

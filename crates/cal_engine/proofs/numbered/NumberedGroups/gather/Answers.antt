@@ -1,13 +1,24 @@
-use Rattle.std.proofs.Common.{◌≡◌, ◌+◌, length, sym, ◌∙◌}
-use Rattle.std.specs.Prelude.{max}
-use Rattle.cal_engine.proofs.Gathering.{place_long, when_ok}
+use Rattle.std.proofs.Common.{sym, subst, ◌∙◌}
+use Rattle.std.proofs.lemmas.Result.{on_ok_weaker}
+use Rattle.cal_context.specs.Snapshots.{meaning}
+use Rattle.cal_engine.specs.Numbered.{GathersKey, Numbered}
+use Rattle.cal_engine.specs.Readings.{parts_of}
+use Rattle.cal_engine.proofs.Adding.{first_merged}
+use Rattle.cal_engine.proofs.Gathering.{when_ok}
 use Rattle.cal_engine.proofs.numbered.NumberedGroups.gather.Goals as goal
 
-pub invariant_of-self-else-is_err : goal.invariant_of-self-else-is_err
-invariant_of-self-else-is_err c =
-    let old = c.self.inside.parts in
-    let new = c.put_record-put.new.parts in
-    let number = c.in_ok-number.number in
-    place_long c.self.inside.keys c.args.key.now c.intern_near.new.keys number old new c.in_ok-number.ensures.interned c.self.invariant
-    (when_ok (length new ≡ max (length old) (number + 1)) c.put_record-put.result (sym c.is_err.ensures.value ∙ c.if-is_err.false)
-    c.put_record-put.ensures.long)
+pub returns : goal.returns
+returns c =
+    let t = c.args.context.now in
+    let r = meaning t c.args.snapshot.now in
+    let new : Numbered = record { keys = c.intern_near.new.keys; parts = c.add_at.new.self } in
+    on_ok_weaker c.add_at.result
+    (λ added rs zip. subst (λ old. GathersKey old c.args.key.now (parts_of rs r) new) c.self.view_is (record {
+      number = c.in_ok-number.number;
+      keys = c.in_ok-number.ensures.interned;
+      apart = c.as_slice-count.ensures.apart;
+      parts = added rs zip
+          ∙ when_ok _ c.make_room-made.result (sym c.is_err.ensures.value ∙ c.if-is_err.false)
+          c.make_room-made.ensures.put (parts_of rs r) (first_merged t r rs c.args.counters.now zip);
+    }))
+    c.add_at.ensures.ok

@@ -1,13 +1,29 @@
-use Rattle.std.proofs.Common.{[], List, fold, length, map, refl, sym, ap, ◌∙◌}
+use Rattle.std.proofs.Common.{[], fold, length, map, refl, sym, ap, ◌∙◌}
 use Rattle.std.specs.List.{list_any}
-use Rattle.cal_engine.specs.Finishing.{is_inclusive, parts_where, rows_by}
+use Rattle.cal_engine.specs.Finishing.{is_inclusive, looks_beyond, parts_where, rows_by}
 use Rattle.cal_engine.specs.Folding.{Grouped}
 use Rattle.cal_engine.specs.Keys.{key_in}
 use Rattle.cal_engine.specs.Numbered.{grouped_in}
 use Rattle.cal_engine.specs.Parts.{merged_parts, parts_over}
 use Rattle.cal_engine.specs.Rows.{is_below}
-use Rattle.cal_engine.proofs.GroupRows.{flat_lists, flat_parts, query_lists, query_parts, query_rows, rows_alike}
+use Rattle.cal_engine.proofs.GroupRows.{flat_lists, flat_parts, lone_lists, lone_parts, query_lists, query_parts, query_rows, rows_alike, rows_alone}
 use Rattle.cal_engine.proofs.other_parts.OtherParts.of.Goals as goal
+
+pub returns-then-not-some_beyond : goal.returns-then-not-some_beyond
+returns-then-not-some_beyond c = λ rs h.
+    let q = c.args.query.now in
+    let groups : Grouped = grouped_in c.args.room.now c.args.groups.now in
+    let aggs = c.as_slice-aggs.ensures in
+    let lists = query_lists q rs in
+    let none = sym (c.some_beyond.ensures ∙ ap (λ xs. list_any (λ agg. looks_beyond agg.kernel) xs) aggs)
+    ∙ c.if-not-some_beyond.true in
+    record {
+      lists = lone_lists lists;
+      parts = lone_parts q rs groups c.in_ok-none.none h.groups
+          (c.in_ok-none.ensures ∙ ap (λ a. parts_over a []) aggs);
+      rows = query_rows q rs groups.keys (rows_by q.aggs (lone_lists lists) groups.keys)
+          (ap (λ g. g.keys) h.groups) (rows_alone q.aggs lists groups.keys none);
+    }
 
 pub returns-then-not-some_inclusive : goal.returns-then-not-some_inclusive
 returns-then-not-some_inclusive c = λ rs h.

@@ -5,4 +5,4 @@ use Rattle.cal_engine.proofs.part_table.PartTable.count.Goals as goal
 pub returns : goal.returns
 returns c =
     let s = c.self.inside in
-    sym (length-first_chunks s.width s.count s.parts.items) ∙ ap length c.self.view_is
+    sym (length-first_chunks s.width s.count s.parts) ∙ ap length c.self.view_is

@@ -1,7 +1,6 @@
 use Rattle.std.proofs.Common.{◌≤◌, Bool, List, length, refl, subst, sym, arith}
 use Rattle.std.proofs.lemmas.Grind.{common_steps}
 use Rattle.cal_context.proofs.CallerLemmas.{Grows-refl, Grows-trans}
-use Rattle.cal_context.specs.declared.numbers.NodeNumber.{NodeNumber}
 use Rattle.cal_engine.proofs.Sifting.{sifts_next}
 use Rattle.cal_engine.proofs.sieve.Sieve.know_nodes.Goals as goal
 

@@ -1,4 +1,3 @@
-use Rattle.std.proofs.Common.{sym, ◌∙◌}
 use Rattle.std.specs.List.{filter_map}
 use Rattle.cal_context.specs.Snapshots.{meaning}
 use Rattle.cal_filter.specs.Kept.{kept}

@@ -1,4 +1,4 @@
-use Rattle.std.proofs.Common.{◌≡◌, List, map, sym, ap, subst, ◌∙◌}
+use Rattle.std.proofs.Common.{◌≡◌, map, subst}
 use Rattle.std.specs.List.{filter_map}
 use Rattle.cal_context.specs.Snapshots.{entry_of, meaning}
 use Rattle.cal_context.specs.Tree.{path_at}

@@ -1,6 +1,0 @@
-use Rattle.std.proofs.Common.{◌≡◌, [], map, take}
-use Rattle.cal_engine.specs.Parts.{part_over}
-use Rattle.cal_engine.proofs.counter.no_parts_for.Given as goal
-
-abbrev pub invariant-loop-counter : goal.invariant-loop-counter
-invariant-loop-counter l = l.parts.items ≡ map (λ counter. part_over counter.kernel []) (take l.counter-index l.counters)
