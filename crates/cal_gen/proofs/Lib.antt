@@ -1,2 +1,3 @@
+mod DecimalParts
 mod Turns
 pub mod EachLine

@@ -2,26 +2,39 @@ ghost use Rattle.std.specs.Prelude.{◌≡◌, ◌<◌, ◌≤◌, [], ◌∷◌
 ghost use Rattle.cal_gen.specs.Draws.{drawn, next};
 ghost use Rattle.cal_gen.specs.Generated.{generated, line_from, lines_from, look_line};
 
+use crate::digits::push_digits;
 use crate::draws::Draws;
 use crate::moves::Move;
 use cal_value::{OutOfMemory, Text};
-use itoa::Buffer;
 use std::alloc::Global;
 
 const HEADER: &str = "attribute function string 276\nattribute iteration int 21\n\
     channel profile event,timer,aggregate\n";
 
-/// The script of a seed, with so many threads of so many lines. It takes time in their product.
+/// The most bytes that a line has, with its newline.
+const MOST_OF_A_LINE: usize = 18;
+
+/// The script of a seed, with so many threads of so many lines. It takes time in their product. The
+/// room for the longest one is taken at once: a system gives what isn't written of it no memory.
 pub fn generate(alloc: Global, seed: u32, threads: u32, lines: u32) -> Result<Text, OutOfMemory>
     ensures { IfOk result (λ text. text ≡ generated seed threads lines) }
 {
-    let mut text = Text::from_str(alloc, HEADER)?;
+    let mut text = Text::from_string(String::with_capacity(alloc, room_for(threads, lines))?);
+    text.push_str(HEADER)?;
     let mut draws = Draws { x: seed };
     for _ in 0..threads {
         text.push_str("thread\n")?;
         push_lines(&mut text, &mut draws, lines)?;
     }
     Ok(text)
+}
+
+/// As many bytes as a script of these sizes has at most. Nothing else rests on it.
+fn room_for(threads: u32, lines: u32) -> usize {
+    let of_a_thread = "thread\n".len() + lines as usize * MOST_OF_A_LINE;
+    of_a_thread
+        .saturating_mul(threads as usize)
+        .saturating_add(HEADER.len())
 }
 
 /// Appends the lines of a thread, each with its newline.
@@ -109,22 +122,24 @@ fn begin_line(value: u32) -> &'static str
     }
 }
 
-/// Appends a line of a word and a number that is drawn from so many.
+/// Appends a line of a word and a number that is drawn from so many, ten thousand at most.
+#[inline(always)]
 fn push_number(
     text: &mut Text,
     draws: &mut Draws,
     front: &str,
     count: u32,
 ) -> Result<(), OutOfMemory>
-    requires { 0 < count }
+    requires some { 0 < count }
+    requires few { count ≤ 10000 }
     ensures text { OnOk result (text.new
         ≡ text.old ++ ((front.now ++ decimal (drawn count (next draws.old.x))) ++ 10 ∷ [])) }
     ensures draws { draws.new.x ≡ next draws.old.x }
 {
     let number = draws.draw(count);
     text.push_str(front)?;
-    text.push_str(Buffer::new().format(number))?;
-    text.push_str("\n")
+    push_digits(text, number)?;
+    text.push('\n')
 }
 
 /// Appends a line that flushes, or one that takes a snapshot.

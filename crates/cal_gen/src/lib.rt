@@ -5,6 +5,7 @@
 //! how well the draws are mixed.
 #![tactic(auto)]
 
+mod digits;
 mod draws;
 mod generating;
 mod moves;
