@@ -6,6 +6,7 @@ pub mod PlacedNumbers
 pub mod ServiceLemmas
 pub mod LineLemmas
 pub mod RunLemmas
+pub mod NodeSetLemmas
 pub mod PathLemmas
 pub mod CountLemmas
 pub mod LawLemmas
