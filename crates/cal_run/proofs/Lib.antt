@@ -12,6 +12,7 @@ pub mod CountLemmas
 pub mod LawLemmas
 pub mod OutlineLemmas
 pub mod PlainLemmas
+pub mod NoHistory
 pub mod PlainLawLemmas
 pub mod BrokenLemmas
 pub mod RowLemmas

@@ -1,6 +1,6 @@
 -- A set of nodes that says by their numbers which are there.
-use Rattle.std.proofs.Common.{◌≡◌, ◌≢◌, ℕ, zero, suc, ◌<◌, Bool, true, false, ◌⊎◌, inl, inr, List, [], ◌∷◌, ◌++◌}
-use Rattle.std.proofs.Common.{length, get_or, refl, sym, ap, ◌∙◌, arith, true≢false, Contains}
+use Rattle.std.proofs.Common.{◌≡◌, ◌≢◌, ℕ, zero, suc, ◌<◌, Bool, true, false, ◌⊎◌, inl, inr}
+use Rattle.std.proofs.Common.{List, [], ◌∷◌, ◌++◌, length, get_or, sym, ap, ◌∙◌, arith, true≢false, Contains}
 use Rattle.std.proofs.Math.ListN.{set}
 use Rattle.std.proofs.lemmas.List.{get_or-set_same, get_or-set_other}
 use Rattle.std.proofs.lemmas.List.Elements.{Contains-append_cases, Contains-append_left}
@@ -40,7 +40,8 @@ module _ (there : List Bool) (nodes : List NodeNumber) (n : NodeNumber)
   pub marks-more : AreMarked (set there n.0 true) (nodes ++ n ∷ [])
   marks-more = record {
     listed = λ m is. elim (other m) [
-      | inl same ↦ Contains-append_right nodes (n ∷ []) m (0, omega arith, λ i. record { 0 = sym same i })
+      | inl same ↦ Contains-append_right nodes (n ∷ []) m
+          (0, omega arith, λ i. record { 0 = sym same i })
       | inr apart ↦ Contains-append_left nodes (n ∷ []) m
           (are.listed m (sym (get_or-set_other there n.0 m.0 true false apart) ∙ is))
     ];

@@ -115,11 +115,7 @@ impl HeldNodes {
 }
 
 /// Adds nodes to those that are there.
-fn add_nodes(
-    context: &Context,
-    nodes: &[NodeNumber],
-    held: &mut NodeSet,
-) -> Result<(), OutOfMemory>
+fn add_nodes(context: &Context, nodes: &[NodeNumber], held: &mut NodeSet) -> Result<(), OutOfMemory>
     requires { All (λ n. n.0 < length context.now.paths) nodes.now }
     ensures { OnOk result (HoldsPaths context.now context.now held.old held.new
         (map (path_at context.now) nodes.now)) }

@@ -1,4 +1,4 @@
-use Rattle.std.proofs.Common.{◌≡◌, Bool, List, [], ◌∷◌, ◌++◌, inl, true, false, get_or, sym, subst}
+use Rattle.std.proofs.Common.{◌≡◌, Bool, List, inl, true, false, get_or, sym, subst}
 use Rattle.std.proofs.Common.{◌∙◌, slice_set, Contains}
 use Rattle.std.proofs.lemmas.List.{get_or_default}
 use Rattle.cal_context.specs.declared.numbers.NodeNumber.{NodeNumber}
