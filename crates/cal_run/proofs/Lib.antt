@@ -6,11 +6,13 @@ pub mod PlacedNumbers
 pub mod ServiceLemmas
 pub mod LineLemmas
 pub mod RunLemmas
+pub mod NodeSetLemmas
 pub mod PathLemmas
 pub mod CountLemmas
 pub mod LawLemmas
 pub mod OutlineLemmas
 pub mod PlainLemmas
+pub mod NoHistory
 pub mod PlainLawLemmas
 pub mod BrokenLemmas
 pub mod RowLemmas

@@ -1,7 +1,10 @@
 -- How the paths that boards hold are kept: by the nodes of a context (private).
-use Rattle.std.specs.Prelude.{◌≡◌, ◌<◌, List, ◌++◌, length, map, All}
+use Rattle.std.specs.Prelude.{◌≡◌, ◌<◌, Bool, true, false, List, ◌++◌, length, map, All}
+use Rattle.std.specs.Prelude.{slice_index_or}
+use Rattle.std.specs.List.{Contains}
 use Rattle.std.specs.Ordering.{eq_by_cmp}
 use Rattle.std.specs.Set.{is_member}
+use Rattle.cal_context.specs.Lists.{AreApart}
 use Rattle.cal_context.specs.Tree.{Tree, path_at}
 use Rattle.cal_context.specs.declared.numbers.NodeNumber.{NodeNumber}
 use Rattle.cal_value.specs.Order.{path_cmp}
@@ -17,3 +20,9 @@ pub record AreHeld (t : Tree) (nodes : List NodeNumber) (paths : List (List Entr
 abbrev pub HoldsPaths : (was is : Tree) → (old new : List NodeNumber) → List (List Entry) → Type 0
 HoldsPaths was is old new more =
     (paths : List (List Entry)) → AreHeld was old paths → AreHeld is new (paths ++ more)
+
+-- a set of nodes says by their numbers which are there, and none stands twice
+pub record AreMarked (there : List Bool) (nodes : List NodeNumber) : Type 0 where
+  pub listed : (n : NodeNumber) → slice_index_or there n.0 false ≡ true → Contains nodes n
+  pub marked : (n : NodeNumber) → Contains nodes n → slice_index_or there n.0 false ≡ true
+  pub apart : AreApart nodes

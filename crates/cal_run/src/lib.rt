@@ -19,6 +19,7 @@ mod lines;
 mod meeting;
 mod merged;
 mod moment;
+mod node_set;
 mod note;
 mod noting;
 mod numbers;

@@ -11,9 +11,10 @@ ghost use Rattle.cal_value.specs.declared.variant.Variant as variants;
 
 use crate::boards::operate;
 use crate::lines::is_process_line;
+use crate::node_set::NodeSet;
 use crate::{Numbers, Operation, operation_of};
 use cal_board::Board;
-use cal_context::{Context, Interner, NodeNumber};
+use cal_context::{Context, NodeNumber};
 use cal_script::{Line, Script};
 use cal_value::OutOfMemory;
 use std::alloc::Global;
@@ -21,7 +22,7 @@ use std::alloc::Global;
 /// The nodes whose paths boards held so far, each once.
 #[derive(Drop)]
 pub(crate) struct HeldNodes {
-    pub nodes: Interner<NodeNumber>,
+    pub nodes: NodeSet,
     /// Room for the nodes of a board.
     room: Vec<NodeNumber>,
 }
@@ -72,7 +73,7 @@ impl HeldNodes {
         ensures { result.nodes ≡ [] }
     {
         HeldNodes {
-            nodes: Interner::new(alloc),
+            nodes: NodeSet::new(alloc),
             room: Vec::new(alloc),
         }
     }
@@ -114,18 +115,14 @@ impl HeldNodes {
 }
 
 /// Adds nodes to those that are there.
-fn add_nodes(
-    context: &Context,
-    nodes: &[NodeNumber],
-    held: &mut Interner<NodeNumber>,
-) -> Result<(), OutOfMemory>
+fn add_nodes(context: &Context, nodes: &[NodeNumber], held: &mut NodeSet) -> Result<(), OutOfMemory>
     requires { All (λ n. n.0 < length context.now.paths) nodes.now }
     ensures { OnOk result (HoldsPaths context.now context.now held.old held.new
         (map (path_at context.now) nodes.now)) }
 {
     let _ = context;
     for node in nodes {
-        held.intern(*node)?;
+        held.add(*node)?;
     }
     Ok(())
 }

@@ -1,26 +1,43 @@
 ghost use Rattle.std.specs.Prelude.{◌≡◌, ◌<◌, ◌≤◌, List, [], ◌∷◌, ◌++◌, length, IfOk, OnOk};
 ghost use Rattle.std.specs.Prelude.{if◌then◌else◌, slice_index_or};
+ghost use Rattle.std.specs.List.{list_any};
 ghost use Rattle.cal_run.specs.Lines.{is_process_line};
 ghost use Rattle.cal_run.specs.Plain.{placed_lines, plain_history};
 ghost use Rattle.cal_script.specs.declared.script.Line as lines_of;
 ghost use Rattle.cal_valid.specs.Valid.{IsRunnable};
+ghost use Rattle.cal_value.specs.Props.{has_process_scope};
 
 use crate::lines::is_process_line;
 use cal_script::{Line, Placed, Script};
 use cal_value::{OutOfMemory, Seq};
 use std::alloc::Global;
 
-/// All process lines of a script: the threads in order, and each thread's in line order.
+/// All process lines of a script: the threads in order, and each thread's in line order. Most
+/// scripts have no process attribute, and then no line is looked at.
 pub(crate) fn plain_history(alloc: Global, script: &Script) -> Result<Seq<Placed>, OutOfMemory>
     requires runnable { IsRunnable script.now }
     ensures { IfOk result (λ history. history ≡ plain_history script.now) }
 {
     let mut history = Seq::new(alloc);
+    if !has_process_attribute(script) {
+        return Ok(history);
+    }
     for number in 0..script.threads.len() {
         let lines = lines_of_thread(script, number);
         place_lines(script, number as u32, lines, &mut history)?;
     }
     Ok(history)
+}
+
+/// Whether there is an attribute with process scope, without which no line is a process line.
+fn has_process_attribute(script: &Script) -> bool
+    ensures { result ≡ list_any (λ a. has_process_scope a.props) script.now.attributes }
+{
+    script
+        .attributes
+        .as_slice()
+        .iter()
+        .any(|attribute| attribute.props.has_process_scope())
 }
 
 /// Places the process lines of a thread behind a history.

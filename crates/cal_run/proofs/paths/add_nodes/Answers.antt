@@ -11,10 +11,10 @@ loop-node-preserved c =
     let t = c.args.context.now in
     let i = c.loop-node.node-index in
     let below = c.loop-node-test.true in
-    holds-node_more t c.args.held.now c.loop-node.held c.intern.new.self c.args.nodes.now i _ below
+    holds-node_more t c.args.held.now c.loop-node.held c.add.new.self c.args.nodes.now i _ below
     c.loop-node.invariant
-    (holds-node t c.loop-node.held c.intern.new.self _ (c.requires i _ below)
-    c.in_ok-intern.ensures.interned.adds)
+    (holds-node t c.loop-node.held c.add.new.self _ (c.requires i _ below)
+    c.in_ok-add.ensures)
 
 pub returns : goal.returns
 returns c =

@@ -1,7 +1,9 @@
-use Rattle.std.proofs.Common.{List, ◌+◌, ◌<◌, ◌≤◌, ◌++◌, drop, length, ap, ◌∙◌, arith}
+use Rattle.std.proofs.Common.{◌≡◌, List, ◌+◌, ◌<◌, ◌≤◌, ◌++◌, drop, false, length, ap, sym}
+use Rattle.std.proofs.Common.{◌∙◌, arith}
 use Rattle.std.specs.Prelude.{flat_map}
-use Rattle.std.specs.List.{enumerate_from}
+use Rattle.std.specs.List.{enumerate_from, list_any}
 use Rattle.std.proofs.lemmas.List.Sums.{get_or-le-sum_by}
+use Rattle.cal_run.proofs.NoHistory.{no-history, of_process}
 use Rattle.cal_run.proofs.PlainLemmas.{history-drop, history-end}
 use Rattle.cal_run.specs.Plain.{placed_lines}
 use Rattle.cal_script.specs.declared.journal.Placed.{Placed}
@@ -36,3 +38,10 @@ returns c =
     let past : length c.args.script.now.threads ≤ c.loop-number.number = omega arith in
     history-end c.args.script.now c.args.script.now.threads c.loop-number.number
     c.loop-number.history _ past c.loop-number.invariant.so_far
+
+pub returns-then-not-has_process_attribute : goal.returns-then-not-has_process_attribute
+returns-then-not-has_process_attribute c =
+    let script = c.args.script.now in
+    let none : list_any of_process script.attributes ≡ false =
+    sym c.has_process_attribute.ensures ∙ c.if-not-has_process_attribute.true in
+    c.new-history.ensures ∙ sym (no-history script none 0 script.threads)
