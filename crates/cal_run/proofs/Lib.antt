@@ -21,3 +21,4 @@ pub mod TellLemmas
 pub mod WalkLemmas
 pub mod FirstLemmas
 pub mod WalkingLemmas
+pub mod ScopeLemmas

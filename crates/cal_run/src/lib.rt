@@ -8,6 +8,7 @@
 mod behind;
 mod boards;
 mod closing;
+mod drafts;
 mod end;
 mod filling;
 mod finding;
@@ -22,7 +23,6 @@ mod moment;
 mod note;
 mod noting;
 mod numbers;
-mod only;
 mod operation;
 mod order;
 mod outline;
