@@ -22,3 +22,4 @@ pub mod WalkLemmas
 pub mod FirstLemmas
 pub mod WalkingLemmas
 pub mod ScopeLemmas
+pub mod AcceptedLemmas

@@ -141,7 +141,7 @@ impl Behind {
             ≡ before_after script.now self.old.before line) }
         ensures grows { Grows context.old context.new }
     {
-        let shared = is_process_line(script, line);
+        let shared = is_placed(script, line, history);
         let first = seen_first(shared, self.before, self.thread.process.count);
         self.thread
             .process
@@ -174,6 +174,15 @@ impl Behind {
         self.before = count_behind(shared, self.before);
         Ok(note.reply)
     }
+}
+
+/// Whether a line is a process line, which no line is where the history is empty.
+#[inline(always)]
+fn is_placed(script: &Script, line: Line, history: &[Placed]) -> bool
+    requires { is_process_line script.now line ≡ true → 0 < length history.now }
+    ensures { result ≡ is_process_line script.now line }
+{
+    !history.is_empty() && is_process_line(script, line)
 }
 
 /// How much of the history a thread takes in before a line is answered: for a process line, all

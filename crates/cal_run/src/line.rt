@@ -2,7 +2,7 @@ ghost use Rattle.std.specs.Prelude.{◌≡◌, ℕ, ◌-◌, ◌<◌, true, [], 
 ghost use Rattle.std.specs.Prelude.{unwrap_or, OnOk};
 ghost use Rattle.cal_context.specs.Taking.{TakesMore};
 ghost use Rattle.cal_context.specs.Tree.{Grows};
-ghost use Rattle.cal_run.specs.Adding.{MayHavePlaces};
+ghost use Rattle.cal_run.specs.Adding.{MayAccept, MayHavePlaces};
 ghost use Rattle.cal_run.specs.Held.{HoldsSome, HoldsThen};
 ghost use Rattle.cal_run.specs.History.{board_placed as board_changed};
 ghost use Rattle.cal_run.specs.Lines.{is_process_line, operation_of, takes};
@@ -13,7 +13,7 @@ ghost use Rattle.cal_run.specs.Steps.{seen_before};
 ghost use Rattle.cal_run.specs.Threads.{CanRun, IsSomeThread, IsThread, RunsLine, ShowsThread};
 ghost use Rattle.cal_valid.specs.Valid.{IsPlaced, IsRunnable};
 
-use crate::boards::operate;
+use crate::boards::operate_accepted;
 use crate::drafts::Drafts;
 use crate::filling::fill;
 use crate::lines::{attr_ref, is_process_line, takes};
@@ -206,6 +206,7 @@ fn make_change(
     requires numbered { AreNumbered context.old script.now numbers.now }
     requires places { MayHavePlaces script.now (operation_of line) }
     requires holds { HoldsSome context.old script.now thread.old.board }
+    requires accepted { MayAccept script.now thread.old.board (operation_of line) }
     ensures board { OnOk result (HoldsThen context.old context.new script.now
         thread.old.board thread.new.board (λ b. board_changed script.now b (operation_of line))) }
     ensures readings { OnOk result (thread.old.timed ≡ true → thread.new.readings
@@ -218,7 +219,7 @@ fn make_change(
     match operation_of(line) {
         None => Ok(()),
         Some(op) => {
-            operate(alloc, script, numbers, op, &mut thread.board, context)?;
+            operate_accepted(alloc, script, numbers, op, &mut thread.board, context)?;
             if !thread.timed {
                 return Ok(());
             }
