@@ -157,6 +157,44 @@ impl<N> Board<N> {
         reply
     }
 
+    /// Opens a value that the board accepts, as `check` has said.
+    #[inline(always)]
+    pub fn begin_accepted<V: Drop, M: NodeMaker<V, N>>(
+        &mut self,
+        alloc: Global,
+        maker: &mut M,
+        attr: AttrRef,
+        value: V,
+    ) -> Result<(), OutOfMemory>
+    where
+        N: Drop,
+        requires known { M.knows maker.old attr.number value }
+        requires stands { StandsForSome (M.is_node maker.old) self.old }
+        requires accepted { reply_to self.old code.Begin attr ≡ reply.Done }
+        ensures steps { OnOk result (Steps (M.is_node maker.old) (M.is_node maker.new)
+            self.old self.new code.Begin attr (M.value_of maker.old value) reply.Done) }
+        ensures err { OnErr result (self.new ≡ self.old) }
+        ensures onward { M.grows maker.old maker.new }
+    {
+        self.open(alloc, maker, attr, value)?;
+        Ok(())
+    }
+
+    /// Closes the slot's last value, which the board accepts, as `check` has said.
+    #[inline(always)]
+    pub fn end_accepted(&mut self, attr: AttrRef)
+    where
+        N: Drop,
+        requires { reply_to self.old code.End attr ≡ reply.Done }
+        ensures { self.new ≡ ended self.old attr }
+    {
+        if attr.as_value {
+            self.as_values.pop(attr.slot());
+        } else {
+            self.references.pop(attr.slot());
+        }
+    }
+
     /// The last nodes of the reference slots, in the order of the slots. An `Err` leaves the list.
     #[inline(always)]
     pub fn refs(&self, out: &mut Vec<N>) -> Result<(), OutOfMemory>

@@ -8,6 +8,7 @@
 
 mod attr;
 mod board;
+mod draft;
 mod entries;
 mod maker;
 mod opened;
@@ -18,6 +19,7 @@ mod slots;
 
 pub use attr::AttrRef;
 pub use board::Board;
+pub use draft::Draft;
 pub use maker::NodeMaker;
 pub use opened::{Opened, Slot};
 pub use path_board::PathBoard;

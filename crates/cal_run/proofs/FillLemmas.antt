@@ -208,13 +208,7 @@ module _ (t : Tree) (script : Script) (front : IsFront script.attributes t.attri
     (mine process : Blackboard NodeNumber)
     (b p : Blackboard Variant) (is : Holds t script mine b) (other : Holds t script process p) where
   module _ (ordered : AreOrdered mine.references) (also : AreOrdered process.references)
-      (old mid new : List NodeNumber)
-      (none : old ≡ []) (first : mid ≡ old ++ last_nodes mine)
-      (second : new ≡ mid ++ last_nodes process) where
-    both : new ≡ last_nodes mine ++ last_nodes process
-    both = second ∙ ap (λ ns. ns ++ last_nodes process) (first
-        ∙ ap (λ ns. ns ++ last_nodes mine) none)
-
+      (new : List NodeNumber) (both : new ≡ last_nodes mine ++ last_nodes process) where
     pub both-below : All (IsBelowRoot t) new
     both-below = subst (All (IsBelowRoot t)) (sym both)
         (All-append (IsBelowRoot t) (last_nodes mine) (last_nodes process)

@@ -12,7 +12,6 @@ pub mod CountLemmas
 pub mod LawLemmas
 pub mod OutlineLemmas
 pub mod PlainLemmas
-pub mod NoHistory
 pub mod PlainLawLemmas
 pub mod BrokenLemmas
 pub mod RowLemmas
@@ -23,3 +22,5 @@ pub mod TellLemmas
 pub mod WalkLemmas
 pub mod FirstLemmas
 pub mod WalkingLemmas
+pub mod ScopeLemmas
+pub mod AcceptedLemmas

@@ -3,7 +3,8 @@ use Rattle.std.specs.Prelude.{◌≡◌, ◌<◌, List, ◌++◌, length, map, A
 use Rattle.cal_context.specs.Snapshots.{entry_of}
 use Rattle.cal_context.specs.Tree.{Tree}
 use Rattle.cal_context.specs.declared.snapshot.Immediate.{Immediate}
-use Rattle.cal_run.specs.Held.{HasPlaces, Shows}
+use Rattle.cal_board.specs.Blackboard.{Blackboard}
+use Rattle.cal_run.specs.Held.{Accepts, HasPlaces, Shows}
 use Rattle.cal_run.specs.Snapshots.{Sight}
 use Rattle.cal_run.specs.declared.moment.Moment.{Moment}
 use Rattle.cal_run.specs.declared.operation.Operation.{Operation}
@@ -33,3 +34,8 @@ AddsShown t script moment old new entries =
 abbrev pub MayHavePlaces : Script → Option Operation → Type 0
 MayHavePlaces script None = Unit {0}
 MayHavePlaces script (Some op) = HasPlaces script op
+
+-- a board accepts the operation, if there is one
+abbrev pub MayAccept : {V : Type 0} → Script → Blackboard V → Option Operation → Type 0
+MayAccept script b None = Unit {0}
+MayAccept script b (Some op) = Accepts script b op

@@ -1,13 +1,15 @@
 -- How a run keeps boards in a context: by nodes.
 use Rattle.std.specs.Prelude.{◌≡◌, ℕ, ◌<◌, ◌≤◌, List, length, true, All}
-use Rattle.cal_board.specs.Blackboard.{Blackboard}
+use Rattle.cal_board.specs.Blackboard.{Blackboard, reply_to}
 use Rattle.cal_board.specs.Contexts.{NodeStands}
 use Rattle.cal_board.specs.PathBoards.{AreKnown}
 use Rattle.cal_board.specs.Standing.{Stands}
 use Rattle.cal_board.specs.declared.opened.Slot.{Slot}
+use Rattle.cal_board.specs.declared.reply.BoardReply.TheVariants as reply
 use Rattle.cal_context.specs.Tree.{Tree}
 use Rattle.cal_context.specs.declared.numbers.NodeNumber.{NodeNumber}
 use Rattle.cal_run.specs.History.{process_board}
+use Rattle.cal_run.specs.Lines.{attr_ref}
 use Rattle.cal_run.specs.Snapshots.{Sight}
 use Rattle.cal_run.specs.declared.operation.Operation.{Operation}
 use Rattle.cal_run.specs.declared.moment.Moment.{Moment}
@@ -27,6 +29,10 @@ IsOpened script code.Set value = value < length script.values
 pub record HasPlaces (script : Script) (op : Operation) : Type 0 where
   pub attr : op.attr < length script.attributes
   pub value : IsOpened script op.code op.value
+
+-- a board accepts an operation
+abbrev pub Accepts : {V : Type 0} → Script → Blackboard V → Operation → Type 0
+Accepts script b op = reply_to b op.code (attr_ref script op.attr) ≡ reply.Done
 
 -- the attribute of each open value is one of the script's
 pub record IsKnown (script : Script) (b : Blackboard Variant) : Type 0 where

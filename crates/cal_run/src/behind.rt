@@ -11,12 +11,13 @@ ghost use Rattle.cal_run.specs.Steps.{ThreadState};
 ghost use Rattle.cal_valid.specs.Valid.{IsPlaced, IsRunnable};
 
 use crate::Numbers;
+use crate::drafts::Drafts;
 use crate::line::{reply_of, run_known, seen_before};
 use crate::lines::is_process_line;
 use crate::note::note_behind;
 use crate::steps::{clock_after, is_accepted};
 use crate::thread::Thread;
-use cal_context::{Context, Snapshot, Taker};
+use cal_context::{Context, Taker};
 use cal_script::{Channel, Line, Placed, Reply, Script};
 use cal_value::OutOfMemory;
 use std::alloc::Global;
@@ -54,6 +55,7 @@ impl Behind {
 
     /// Runs a line: hands what the channel takes of it to a taker, makes the change, and gives the
     /// reply.
+    #[inline(always)]
     pub(crate) fn run_line<T: Taker>(
         &mut self,
         alloc: Global,
@@ -63,7 +65,7 @@ impl Behind {
         history: &[Placed],
         line: Line,
         context: &mut Context,
-        snapshot: &mut Snapshot,
+        drafts: &mut Drafts,
         taker: &mut T,
     ) -> Result<Reply, OutOfMemory>
         requires runnable { IsRunnable script.now }
@@ -88,24 +90,24 @@ impl Behind {
     {
         match line {
             Line::Begin { .. } => self.step(
-                alloc, script, numbers, channel, history, line, context, snapshot, taker,
+                alloc, script, numbers, channel, history, line, context, drafts, taker,
             ),
             Line::End { .. } => self.step(
-                alloc, script, numbers, channel, history, line, context, snapshot, taker,
+                alloc, script, numbers, channel, history, line, context, drafts, taker,
             ),
             Line::Set { .. } => self.step(
-                alloc, script, numbers, channel, history, line, context, snapshot, taker,
+                alloc, script, numbers, channel, history, line, context, drafts, taker,
             ),
             Line::Snapshot => self.step(
-                alloc, script, numbers, channel, history, line, context, snapshot, taker,
+                alloc, script, numbers, channel, history, line, context, drafts, taker,
             ),
             Line::Flush { .. } | Line::Tick { .. } => self.step(
-                alloc, script, numbers, channel, history, line, context, snapshot, taker,
+                alloc, script, numbers, channel, history, line, context, drafts, taker,
             ),
         }
     }
 
-    /// Runs a line. Each kind of line has a copy of this of its own, in which much of it falls away.
+    /// Runs a line. Each kind of line has its own copy of this, in which much of it falls away.
     #[inline(always)]
     fn step<T: Taker>(
         &mut self,
@@ -116,7 +118,7 @@ impl Behind {
         history: &[Placed],
         line: Line,
         context: &mut Context,
-        snapshot: &mut Snapshot,
+        drafts: &mut Drafts,
         taker: &mut T,
     ) -> Result<Reply, OutOfMemory>
         requires runnable { IsRunnable script.now }
@@ -139,7 +141,7 @@ impl Behind {
             ≡ before_after script.now self.old.before line) }
         ensures grows { Grows context.old context.new }
     {
-        let shared = is_process_line(script, line);
+        let shared = is_placed(script, line, history);
         let first = seen_first(shared, self.before, self.thread.process.count);
         self.thread
             .process
@@ -164,7 +166,7 @@ impl Behind {
             accepted,
             &mut self.thread,
             context,
-            snapshot,
+            drafts,
             taker,
         )?;
         self.seen = note.seen;
@@ -172,6 +174,15 @@ impl Behind {
         self.before = count_behind(shared, self.before);
         Ok(note.reply)
     }
+}
+
+/// Whether a line is a process line, which no line is where the history is empty.
+#[inline(always)]
+fn is_placed(script: &Script, line: Line, history: &[Placed]) -> bool
+    requires { is_process_line script.now line ≡ true → 0 < length history.now }
+    ensures { result ≡ is_process_line script.now line }
+{
+    !history.is_empty() && is_process_line(script, line)
 }
 
 /// How much of the history a thread takes in before a line is answered: for a process line, all

@@ -72,6 +72,7 @@ fn closed_value<'a>(
 }
 
 /// The last value in an attribute's slot.
+#[inline(always)]
 fn last_value<'a>(
     board: &'a Board<NodeNumber>,
     attr: AttrRef,
@@ -92,6 +93,7 @@ fn last_value<'a>(
 }
 
 /// The value of a node's own entry.
+#[inline(always)]
 fn node_value<'a>(node: NodeNumber, context: &'a Context) -> Option<&'a Variant>
     requires { IsBelowRoot context.now node }
     ensures { (link : links.Link) × IsLinked context.now link node

@@ -8,6 +8,7 @@
 mod behind;
 mod boards;
 mod closing;
+mod drafts;
 mod end;
 mod filling;
 mod finding;
@@ -23,7 +24,6 @@ mod node_set;
 mod note;
 mod noting;
 mod numbers;
-mod only;
 mod operation;
 mod order;
 mod outline;

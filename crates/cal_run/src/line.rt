@@ -2,7 +2,7 @@ ghost use Rattle.std.specs.Prelude.{◌≡◌, ℕ, ◌-◌, ◌<◌, true, [], 
 ghost use Rattle.std.specs.Prelude.{unwrap_or, OnOk};
 ghost use Rattle.cal_context.specs.Taking.{TakesMore};
 ghost use Rattle.cal_context.specs.Tree.{Grows};
-ghost use Rattle.cal_run.specs.Adding.{MayHavePlaces};
+ghost use Rattle.cal_run.specs.Adding.{MayAccept, MayHavePlaces};
 ghost use Rattle.cal_run.specs.Held.{HoldsSome, HoldsThen};
 ghost use Rattle.cal_run.specs.History.{board_placed as board_changed};
 ghost use Rattle.cal_run.specs.Lines.{is_process_line, operation_of, takes};
@@ -13,14 +13,15 @@ ghost use Rattle.cal_run.specs.Steps.{seen_before};
 ghost use Rattle.cal_run.specs.Threads.{CanRun, IsSomeThread, IsThread, RunsLine, ShowsThread};
 ghost use Rattle.cal_valid.specs.Valid.{IsPlaced, IsRunnable};
 
-use crate::boards::operate;
+use crate::boards::operate_accepted;
+use crate::drafts::Drafts;
 use crate::filling::fill;
 use crate::lines::{attr_ref, is_process_line, takes};
 use crate::moment::Moment;
 use crate::steps::{is_accepted, reply_to_line};
 use crate::thread::Thread;
 use crate::{Numbers, operation_of};
-use cal_context::{Context, Snapshot, Taker};
+use cal_context::{Context, Taker};
 use cal_script::{Channel, Line, LineNote, Placed, Reply, Script};
 use cal_value::OutOfMemory;
 use std::alloc::Global;
@@ -36,7 +37,7 @@ pub(crate) fn run_line<T: Taker>(
     note: LineNote,
     thread: &mut Thread,
     context: &mut Context,
-    snapshot: &mut Snapshot,
+    drafts: &mut Drafts,
     taker: &mut T,
 ) -> Result<(), OutOfMemory>
     requires runnable { IsRunnable script.now }
@@ -63,7 +64,7 @@ pub(crate) fn run_line<T: Taker>(
     let accepted = is_accepted(reply);
     run_known(
         alloc, script, numbers, channel, history, line, note, shared, accepted, thread, context,
-        snapshot, taker,
+        drafts, taker,
     )?;
     Ok(())
 }
@@ -83,7 +84,7 @@ pub(crate) fn run_known<T: Taker>(
     accepted: bool,
     thread: &mut Thread,
     context: &mut Context,
-    snapshot: &mut Snapshot,
+    drafts: &mut Drafts,
     taker: &mut T,
 ) -> Result<(), OutOfMemory>
     requires numbered { AreNumbered context.old script.now numbers.now }
@@ -107,7 +108,7 @@ pub(crate) fn run_known<T: Taker>(
         return Ok(());
     }
     hand_on(
-        alloc, script, numbers, channel, line, note, thread, context, snapshot, taker,
+        alloc, script, numbers, channel, line, note, thread, context, drafts, taker,
     )?;
     if shared {
         return Ok(());
@@ -149,7 +150,7 @@ fn hand_on<T: Taker>(
     note: LineNote,
     thread: &mut Thread,
     context: &Context,
-    snapshot: &mut Snapshot,
+    drafts: &mut Drafts,
     taker: &mut T,
 ) -> Result<(), OutOfMemory>
     requires numbered { AreNumbered context.now script.now numbers.now }
@@ -182,9 +183,8 @@ fn hand_on<T: Taker>(
         timed: thread.timed,
     };
     let op = operation_of(line);
-    fill(
-        alloc, script, numbers, channel, op, &moment, context, snapshot,
-    )?;
+    let draft = drafts.of(line);
+    let snapshot = fill(alloc, script, numbers, channel, op, &moment, context, draft)?;
     taker.take(context, snapshot)?;
     if channel.timer {
         thread.previous = reading;
@@ -206,6 +206,7 @@ fn make_change(
     requires numbered { AreNumbered context.old script.now numbers.now }
     requires places { MayHavePlaces script.now (operation_of line) }
     requires holds { HoldsSome context.old script.now thread.old.board }
+    requires accepted { MayAccept script.now thread.old.board (operation_of line) }
     ensures board { OnOk result (HoldsThen context.old context.new script.now
         thread.old.board thread.new.board (λ b. board_changed script.now b (operation_of line))) }
     ensures readings { OnOk result (thread.old.timed ≡ true → thread.new.readings
@@ -218,7 +219,7 @@ fn make_change(
     match operation_of(line) {
         None => Ok(()),
         Some(op) => {
-            operate(alloc, script, numbers, op, &mut thread.board, context)?;
+            operate_accepted(alloc, script, numbers, op, &mut thread.board, context)?;
             if !thread.timed {
                 return Ok(());
             }

@@ -12,32 +12,41 @@ use cal_script::{Line, Placed, Script};
 use cal_value::{OutOfMemory, Seq};
 use std::alloc::Global;
 
-/// All process lines of a script: the threads in order, and each thread's in line order. Most
-/// scripts have no process attribute, and then no line is looked at.
+/// All process lines of a script: the threads in order, and each thread's in line order.
 pub(crate) fn plain_history(alloc: Global, script: &Script) -> Result<Seq<Placed>, OutOfMemory>
     requires runnable { IsRunnable script.now }
     ensures { IfOk result (λ history. history ≡ plain_history script.now) }
 {
-    let mut history = Seq::new(alloc);
-    if !has_process_attribute(script) {
-        return Ok(history);
+    if has_shared(script) {
+        place_threads(alloc, script)
+    } else {
+        Ok(Seq::new(alloc))
     }
-    for number in 0..script.threads.len() {
-        let lines = lines_of_thread(script, number);
-        place_lines(script, number as u32, lines, &mut history)?;
-    }
-    Ok(history)
 }
 
-/// Whether there is an attribute with process scope, without which no line is a process line.
-fn has_process_attribute(script: &Script) -> bool
-    ensures { result ≡ list_any (λ a. has_process_scope a.props) script.now.attributes }
+/// Whether some attribute of a script is the process's. Only such a one has process lines.
+fn has_shared(script: &Script) -> bool
+    ensures { result ≡ list_any (λ attribute. has_process_scope attribute.props)
+        script.now.attributes }
 {
     script
         .attributes
         .as_slice()
         .iter()
         .any(|attribute| attribute.props.has_process_scope())
+}
+
+/// The process lines of all threads, found line by line.
+fn place_threads(alloc: Global, script: &Script) -> Result<Seq<Placed>, OutOfMemory>
+    requires runnable { IsRunnable script.now }
+    ensures { IfOk result (λ history. history ≡ plain_history script.now) }
+{
+    let mut history = Seq::new(alloc);
+    for number in 0..script.threads.len() {
+        let lines = lines_of_thread(script, number);
+        place_lines(script, number as u32, lines, &mut history)?;
+    }
+    Ok(history)
 }
 
 /// Places the process lines of a thread behind a history.

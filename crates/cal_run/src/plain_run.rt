@@ -12,8 +12,9 @@ ghost use Rattle.cal_valid.specs.Valid.{IsPlaced, IsRunnable};
 
 use crate::Numbers;
 use crate::behind::Behind;
+use crate::drafts::Drafts;
 use crate::placing::{line_in, lines_of_thread, plain_history};
-use cal_context::{Context, Snapshot, Taker};
+use cal_context::{Context, Taker};
 use cal_script::{Channel, Line, Placed, Reply, Script};
 use cal_value::OutOfMemory;
 use std::alloc::Global;
@@ -46,7 +47,7 @@ pub fn take_plain_channel<T: Taker>(
     ensures refused { IfOk result (λ refused. refused ≡ refused_in (plain script.now).threads) }
     ensures grows { Grows context.old context.new }
 {
-    let mut snapshot = Snapshot::new(alloc);
+    let mut drafts = Drafts::new(alloc);
     let history = plain_history(alloc, script)?;
     let mut before = 0;
     let mut refused = 0;
@@ -61,7 +62,7 @@ pub fn take_plain_channel<T: Taker>(
             lines,
             before,
             context,
-            &mut snapshot,
+            &mut drafts,
             taker,
         )?;
         before = end.before;
@@ -80,7 +81,7 @@ fn run_behind<T: Taker>(
     lines: &[Line],
     before: usize,
     context: &mut Context,
-    snapshot: &mut Snapshot,
+    drafts: &mut Drafts,
     taker: &mut T,
 ) -> Result<ThreadEnd, OutOfMemory>
     requires runnable { IsRunnable script.now }
@@ -102,7 +103,7 @@ fn run_behind<T: Taker>(
     for place in 0..lines.len() {
         let line = line_in(lines, place);
         let reply = behind.run_line(
-            alloc, script, numbers, channel, history, line, context, snapshot, taker,
+            alloc, script, numbers, channel, history, line, context, drafts, taker,
         )?;
         refused += refusals(reply);
     }

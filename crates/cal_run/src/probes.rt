@@ -7,21 +7,23 @@ ghost use Rattle.cal_script.specs.declared.script.ProbeKind.TheVariants as probe
 use crate::Numbers;
 use crate::moment::Moment;
 use crate::services::push_number;
-use cal_context::{AttributeNumber, Context, Immediate};
+use cal_board::Draft;
+use cal_context::{AttributeNumber, Context};
 use cal_script::{ProbeKind, Script};
 use cal_value::OutOfMemory;
 
 /// Adds what the probes answer on the thread's board, which is walked only where there are some.
+#[inline(always)]
 pub(crate) fn add_probes(
     script: &Script,
     numbers: &Numbers,
     probes: &[ProbeKind],
     moment: &Moment,
     context: &Context,
-    out: &mut Vec<Immediate>,
+    out: &mut Draft,
 ) -> Result<(), OutOfMemory>
     requires numbered { AreNumbered context.now script.now numbers.now }
-    ensures { OnOk result (AddsShown context.now script.now moment.now out.old.items out.new.items
+    ensures { OnOk result (AddsShown context.now script.now moment.now out.old out.new
         (λ s. probe_entries script.now s probes.now)) }
 {
     if probes.is_empty() {
@@ -31,16 +33,17 @@ pub(crate) fn add_probes(
     }
 }
 
+#[inline(never)]
 fn add_answers(
     script: &Script,
     numbers: &Numbers,
     probes: &[ProbeKind],
     moment: &Moment,
     context: &Context,
-    out: &mut Vec<Immediate>,
+    out: &mut Draft,
 ) -> Result<(), OutOfMemory>
     requires numbered { AreNumbered context.now script.now numbers.now }
-    ensures { OnOk result (AddsShown context.now script.now moment.now out.old.items out.new.items
+    ensures { OnOk result (AddsShown context.now script.now moment.now out.old out.new
         (λ s. probe_entries script.now s probes.now)) }
 {
     let _ = script;
@@ -54,12 +57,12 @@ fn push_probes(
     probes: &[ProbeKind],
     depths: &[u32],
     context: &Context,
-    out: &mut Vec<Immediate>,
+    out: &mut Draft,
 ) -> Result<(), OutOfMemory>
     requires depth { IsNumber context.now numbers.now.depth (probe_of probe.Depth) }
     requires count { IsNumber context.now numbers.now.count (probe_of probe.Count) }
     requires few { length depths.now ≤ 65 }
-    ensures { OnOk result (AddsEntries context.now out.old.items out.new.items
+    ensures { OnOk result (AddsEntries context.now out.old out.new
         (map (λ p. numbered (probe_of p) (probe_value p depths.now)) probes.now)) }
 {
     for probe in probes {

@@ -9,10 +9,11 @@ ghost use Rattle.cal_script.specs.declared.script.Line as script_lines;
 ghost use Rattle.cal_valid.specs.Valid.{IsPlaced, IsRunnable};
 
 use crate::Numbers;
+use crate::drafts::Drafts;
 use crate::line::run_line;
 use crate::lines::lines_to_run;
 use crate::thread::Thread;
-use cal_context::{Context, Snapshot, Taker};
+use cal_context::{Context, Taker};
 use cal_script::{Channel, Journal, Line, LineNote, Placed, Script, ThreadNote};
 use cal_value::OutOfMemory;
 use std::alloc::Global;
@@ -38,7 +39,7 @@ pub fn take_channel<T: Taker>(
         (snapshots script.now journal.now channel.now)) }
     ensures grows { Grows context.old context.new }
 {
-    let mut snapshot = Snapshot::new(alloc);
+    let mut drafts = Drafts::new(alloc);
     let threads = script.threads.as_slice();
     let notes = journal.threads.as_slice();
     let history = journal.ops.as_slice();
@@ -54,7 +55,7 @@ pub fn take_channel<T: Taker>(
             lines,
             note,
             context,
-            &mut snapshot,
+            &mut drafts,
             taker,
         )?;
     }
@@ -72,7 +73,7 @@ fn take_thread<T: Taker>(
     lines: &[Line],
     note: &ThreadNote,
     context: &mut Context,
-    snapshot: &mut Snapshot,
+    drafts: &mut Drafts,
     taker: &mut T,
 ) -> Result<(), OutOfMemory>
     requires runnable { IsRunnable script.now }
@@ -102,7 +103,7 @@ fn take_thread<T: Taker>(
             note,
             &mut thread,
             context,
-            snapshot,
+            drafts,
             taker,
         )?;
     }

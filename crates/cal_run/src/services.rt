@@ -12,18 +12,18 @@ ghost use Rattle.cal_run.specs.Snapshots.{time_entries, value_on};
 use crate::closing::event_value;
 use crate::lines::{attr_ref, is_shared};
 use crate::moment::Moment;
-use crate::only::put_only;
 use crate::probes::add_probes;
 use crate::{Numbers, Operation};
-use cal_context::{AttributeNumber, Context, Immediate};
+use cal_board::Draft;
+use cal_context::{AttributeNumber, Context};
 use cal_script::{Channel, Script};
 use cal_value::{OutOfMemory, Variant};
 use cal_words::OpCode;
 use std::alloc::Global;
 
-/// Puts what the services of a channel say of a moment into the place of what was there: the event,
-/// the times and the probes.
-pub(crate) fn put_services(
+/// Adds what the services of a channel say of a moment: the event, the times and the probes.
+#[inline(always)]
+pub(crate) fn add_services(
     alloc: Global,
     script: &Script,
     numbers: &Numbers,
@@ -31,17 +31,17 @@ pub(crate) fn put_services(
     op: Option<Operation>,
     moment: &Moment,
     context: &Context,
-    out: &mut Vec<Immediate>,
+    out: &mut Draft,
 ) -> Result<(), OutOfMemory>
     requires numbered { AreNumbered context.now script.now numbers.now }
     requires places { MayHavePlaces script.now op }
     requires timed { moment.now.timed ≡ channel.now.timer }
     requires shown { ShowsSome context.now script.now moment.now }
-    ensures { OnOk result (AddsShown context.now script.now moment.now [] out.new.items
+    ensures { OnOk result (AddsShown context.now script.now moment.now out.old out.new
         (λ s. event_entries script.now s op ++ time_entries script.now s channel.now.timer op
         ++ probe_entries script.now s channel.now.probes)) }
 {
-    put_event(alloc, script, numbers, op, moment, context, out)?;
+    add_event(alloc, script, numbers, op, moment, context, out)?;
     add_times(script, numbers, channel.timer, op, moment, context, out)?;
     add_probes(
         script,
@@ -53,50 +53,67 @@ pub(crate) fn put_services(
     )
 }
 
-/// Puts the event into the place of what was there.
-fn put_event(
+/// Adds the event of an operation, if there is one.
+#[inline(always)]
+fn add_event(
     alloc: Global,
     script: &Script,
     numbers: &Numbers,
     op: Option<Operation>,
     moment: &Moment,
     context: &Context,
-    out: &mut Vec<Immediate>,
+    out: &mut Draft,
 ) -> Result<(), OutOfMemory>
     requires numbered { AreNumbered context.now script.now numbers.now }
     requires places { MayHavePlaces script.now op }
     requires shown { ShowsSome context.now script.now moment.now }
-    ensures { OnOk result (AddsShown context.now script.now moment.now [] out.new.items
+    ensures { OnOk result (AddsShown context.now script.now moment.now out.old out.new
         (λ s. event_entries script.now s op)) }
 {
     match op {
-        None => {
-            out.clear();
-            Ok(())
-        }
-        Some(op) => put_event_of(alloc, script, numbers, op, moment, context, out),
+        None => Ok(()),
+        Some(op) => add_event_of(alloc, script, numbers, op, moment, context, out),
     }
 }
 
-fn put_event_of(
+#[inline(always)]
+fn add_event_of(
     alloc: Global,
     script: &Script,
     numbers: &Numbers,
     op: Operation,
     moment: &Moment,
     context: &Context,
-    out: &mut Vec<Immediate>,
+    out: &mut Draft,
 ) -> Result<(), OutOfMemory>
     requires numbered { AreNumbered context.now script.now numbers.now }
     requires places { HasPlaces script.now op }
     requires shown { ShowsSome context.now script.now moment.now }
-    ensures { OnOk result (AddsShown context.now script.now moment.now [] out.new.items
+    ensures { OnOk result (AddsShown context.now script.now moment.now out.old out.new
         (λ s. event_entries script.now s (Some op))) }
 {
     let attribute = event_number(script, numbers, op, context);
     let value = shown_value(script, op, moment, context);
-    put_only(alloc, attribute, value, out)?;
-    Ok(())
+    push_value(alloc, attribute, value, out)
+}
+
+/// Adds a copy of a value, or false where there is none.
+#[inline(always)]
+fn push_value(
+    alloc: Global,
+    attribute: AttributeNumber,
+    value: Option<&Variant>,
+    out: &mut Draft,
+) -> Result<(), OutOfMemory>
+    ensures { OnOk result (out.new ≡ out.old ++ record {
+      attribute = attribute;
+      value = unwrap_or (option_copied value.entry) no_value;
+    } ∷ []) }
+{
+    match value {
+        Some(value) => out.push_copy(alloc, attribute, value),
+        None => out.push_copy(alloc, attribute, &Variant::Bool(false)),
+    }
 }
 
 /// The value of an event, by the board of the moment that its operation acts on.
@@ -120,6 +137,7 @@ fn shown_value<'a>(
 }
 
 /// The number of the attribute of an operation's event.
+#[inline(always)]
 fn event_number(
     script: &Script,
     numbers: &Numbers,
@@ -142,6 +160,7 @@ fn event_number(
 
 /// Adds the time since the snapshot before, and at an end that of the value that is closed, where
 /// the channel has the timer.
+#[inline(always)]
 fn add_times(
     script: &Script,
     numbers: &Numbers,
@@ -149,11 +168,11 @@ fn add_times(
     op: Option<Operation>,
     moment: &Moment,
     context: &Context,
-    out: &mut Vec<Immediate>,
+    out: &mut Draft,
 ) -> Result<(), OutOfMemory>
     requires numbered { AreNumbered context.now script.now numbers.now }
     requires timed { moment.now.timed ≡ timer }
-    ensures { OnOk result (AddsShown context.now script.now moment.now out.old.items out.new.items
+    ensures { OnOk result (AddsShown context.now script.now moment.now out.old out.new
         (λ s. time_entries script.now s timer op)) }
 {
     if !timer {
@@ -167,17 +186,18 @@ fn add_times(
     }
 }
 
+#[inline(always)]
 fn add_inclusive(
     script: &Script,
     numbers: &Numbers,
     op: Operation,
     moment: &Moment,
     context: &Context,
-    out: &mut Vec<Immediate>,
+    out: &mut Draft,
 ) -> Result<(), OutOfMemory>
     requires numbered { AreNumbered context.now script.now numbers.now }
     requires timed { moment.now.timed ≡ true }
-    ensures { OnOk result (AddsShown context.now script.now moment.now out.old.items out.new.items
+    ensures { OnOk result (AddsShown context.now script.now moment.now out.old out.new
         (λ s. inclusive_entries script.now s (Some op))) }
 {
     if op.code == OpCode::End && !is_shared(script, op) {
@@ -190,18 +210,17 @@ fn add_inclusive(
 }
 
 /// Adds a number of a service.
+#[inline(always)]
 pub(crate) fn push_number(
     context: &Context,
     attribute: AttributeNumber,
     n: u64,
-    out: &mut Vec<Immediate>,
+    out: &mut Draft,
 ) -> Result<(), OutOfMemory>
     requires { attribute.0 < length context.now.attributes }
-    ensures { OnOk result (AddsEntries context.now out.old.items out.new.items
+    ensures { OnOk result (AddsEntries context.now out.old out.new
         (numbered (attribute_at context.now attribute) n ∷ [])) }
 {
     let _ = context;
-    let value = Variant::Uint(n);
-    out.push(Immediate { attribute, value })?;
-    Ok(())
+    out.push_number(attribute, n)
 }

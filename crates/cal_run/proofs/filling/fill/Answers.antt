@@ -1,9 +1,11 @@
-use Rattle.std.proofs.Common.{◌<◌, [], ◌++◌, length, ap, ◌∙◌}
+use Rattle.std.proofs.Common.{◌<◌, [], ◌++◌, length, map, ap, subst, sym, ◌∙◌}
 use Rattle.std.proofs.lemmas.List.Elements.{All-nil}
-use Rattle.std.proofs.lemmas.Result.{on_ok_weaker}
+use Rattle.cal_context.specs.Snapshots.{entry_of}
 use Rattle.cal_context.specs.declared.snapshot.Immediate.{Immediate}
 use Rattle.cal_run.specs.Adding.{AreWithin}
-use Rattle.cal_run.specs.Snapshots.{snapshot_of, value_entries}
+use Rattle.cal_run.specs.Snapshots.{event_entries, probe_entries, snapshot_of, time_entries}
+use Rattle.cal_run.specs.Snapshots.{value_entries}
+use Rattle.cal_run.proofs.FillLemmas.{both-below, both-paths}
 use Rattle.cal_run.proofs.filling.fill.Goals as goal
 
 pub returns-clause-inside : goal.returns-clause-inside
@@ -11,20 +13,35 @@ returns-clause-inside c =
     let s = c.requires.shown.0 in
     let shows = c.requires.shown.1 in
     let t = c.args.context.now in
+    let m = c.args.moment.now in
     let none : AreWithin t [] =
     All-nil (λ (i : Immediate). i.attribute.0 < length t.attributes) in
-    on_ok_weaker c.add_values.result (λ more. record {
-      nodes = c.in_ok-add_nodes.ensures.inside;
-      imms = (more s shows).within ((c.in_ok-put_services.ensures s shows).within none);
-    }) c.add_values.ensures
+    record {
+      nodes = both-below t c.args.script.now c.requires.numbered.attributes m.board.now
+          m.process.now s.mine s.process shows.mine shows.process
+          c.has_few_slots.ensures.references c.has_few_slots-2.ensures.references _
+          c.in_ok-snapshot.ensures.nodes;
+      imms = subst (AreWithin t) (sym c.in_ok-snapshot.ensures.imms)
+          ((c.in_ok-add_values.ensures s shows).within
+          ((c.in_ok-add_services.ensures s shows).within
+          (subst (AreWithin t) (sym c.clear.ensures) none)));
+    }
 
 pub returns-clause-means : goal.returns-clause-means
 unfolding snapshot_of
-returns-clause-means c =
+returns-clause-means c = λ s shows.
     let t = c.args.context.now in
     let script = c.args.script.now in
-    on_ok_weaker c.add_values.result (λ more s shows.
-    let imms = (more s shows).means
-    ∙ ap (λ es. es ++ value_entries script s) (c.in_ok-put_services.ensures s shows).means in
-    λ j. record { paths = c.in_ok-add_nodes.ensures.means s shows j; imms = imms j })
-    c.add_values.ensures
+    let m = c.args.moment.now in
+    let parts = event_entries script s c.args.op
+    ++ time_entries script s c.args.channel.now.timer c.args.op
+    ++ probe_entries script s c.args.channel.now.probes in
+    let paths = both-paths t script c.requires.numbered.attributes m.board.now
+    m.process.now s.mine s.process shows.mine shows.process
+    c.has_few_slots.ensures.references c.has_few_slots-2.ensures.references _
+    c.in_ok-snapshot.ensures.nodes in
+    let imms = ap (map (entry_of t)) c.in_ok-snapshot.ensures.imms
+    ∙ (c.in_ok-add_values.ensures s shows).means
+    ∙ ap (λ es. es ++ value_entries script s) ((c.in_ok-add_services.ensures s shows).means
+    ∙ ap (λ is. map (entry_of t) is ++ parts) c.clear.ensures) in
+    λ j. record { paths = paths j; imms = imms j }

@@ -1,6 +1,10 @@
-use Rattle.std.proofs.Common.{◌≡◌, true, false, subst, sym}
+use Rattle.std.proofs.Common.{◌≡◌, Bool, true, false, if◌then◌else◌, subst, sym, ◌∙◌}
 use Rattle.cal_context.proofs.CallerLemmas.{Grows-refl}
+use Rattle.cal_run.proofs.AcceptedLemmas.{accepted-line}
+use Rattle.cal_run.specs.Adding.{MayAccept}
 use Rattle.cal_run.specs.Held.{Holds}
+use Rattle.cal_run.specs.Lines.{operation_of}
+use Rattle.cal_run.specs.Steps.{is_accepted, reply_to_line}
 use Rattle.cal_run.proofs.LineLemmas.{line-own, line-places, line-refused, line-shared}
 use Rattle.cal_run.proofs.line.run_known.Goals as goal
 
@@ -53,6 +57,20 @@ make_change-requires-clause-holds g c = (
   subst (λ b. Holds c.args.context.now c.args.script.now b c.requires.thread.0.board)
       (sym c.in_ok-hand_on.ensures.board) c.requires.thread.2.mine,
 )
+
+pub make_change-requires-clause-accepted : goal.make_change-requires-clause-accepted
+make_change-requires-clause-accepted g c =
+    let own : c.args.shared ≡ false = cc in
+    let so : c.args.accepted ≡ true = cc in
+    let script = c.args.script.now in
+    let process = c.args.thread.now.process.board in
+    let mine = c.args.thread.now.board in
+    let answer = subst (λ (p : Bool). c.args.accepted
+    ≡ is_accepted (reply_to_line script (if p then process else mine) c.args.line)) own
+    c.requires.answer in
+    subst (λ b. MayAccept script b (operation_of c.args.line))
+    (sym c.in_ok-hand_on.ensures.board)
+    (accepted-line script mine c.args.line (sym answer ∙ so))
 
 pub returns-clause-runs : goal.returns-clause-runs
 returns-clause-runs g c = λ state previous kept.

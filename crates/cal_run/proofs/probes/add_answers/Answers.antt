@@ -11,7 +11,7 @@ returns c =
     let t = c.args.context.now in
     let held = c.args.moment.now.board.now in
     on_ok_weaker c.push_probes.result (λ added s shows.
-    subst (λ (ds : List ℕ). AddsEntries t c.args.out.now.items c.push_probes.new.out.items
+    subst (λ (ds : List ℕ). AddsEntries t c.args.out.now c.push_probes.new.out
     (map (λ p. numbered (probe_of p) (probe_value p ds)) c.args.probes.now))
     (c.depths-count.ensures.depths ∙ depths-Stand (NodeStands t) held s.mine shows.mine.stands)
     added)

@@ -45,7 +45,7 @@ run_known-requires-clause-thread g c =
       subst (λ (h : List Placed). IsThread c.take_in-2.new.context c.args.script.now h met was.0
           was.1) (sym c.requires.history)
           (behind-thread c.take_in.ensures.grows c.take_in-2.ensures.grows c.args.script.now c.args.self.now
-          c.args.line c.is_process_line-shared.result c.is_process_line-shared.ensures
+          c.args.line c.is_placed-shared.result c.is_placed-shared.ensures
           c.take_in.new.self c.take_in-2.new.self
           (subst (λ (h : List Placed). IsProcess c.take_in.new.context c.args.script.now h
           c.take_in.new.self) c.requires.history c.in_ok-take_in.ensures.process)
@@ -62,7 +62,7 @@ pub run_known-requires-clause-answer : goal.run_known-requires-clause-answer
 run_known-requires-clause-answer g c =
     let was = c.requires.behind in
     behind-answer c.take_in.ensures.grows c.take_in-2.ensures.grows c.args.script.now c.args.self.now
-    c.args.line c.is_process_line-shared.result c.is_process_line-shared.ensures
+    c.args.line c.is_placed-shared.result c.is_placed-shared.ensures
     c.take_in.new.self c.take_in-2.new.self
     (subst (λ (h : List Placed). IsProcess c.take_in.new.context c.args.script.now h
     c.take_in.new.self) c.requires.history c.in_ok-take_in.ensures.process)
@@ -108,7 +108,7 @@ returns-clause-runs g c = λ state previous is.
       timed = c.args.self.now.thread.timed;
     } in
     let thread = behind-thread c.take_in.ensures.grows c.take_in-2.ensures.grows c.args.script.now c.args.self.now
-    c.args.line c.is_process_line-shared.result c.is_process_line-shared.ensures
+    c.args.line c.is_placed-shared.result c.is_placed-shared.ensures
     c.take_in.new.self c.take_in-2.new.self
     (subst (λ (h : List Placed). IsProcess c.take_in.new.context c.args.script.now h
     c.take_in.new.self) c.requires.history c.in_ok-take_in.ensures.process)
@@ -123,7 +123,7 @@ returns-clause-runs g c = λ state previous is.
     (subst (λ (h : List Placed). IsThread c.take_in-2.new.context script h met state previous)
     (sym c.requires.history) thread) in
     runs-behind c.take_in.ensures.grows c.take_in-2.ensures.grows c.args.script.now c.args.self.now
-    c.args.line c.is_process_line-shared.result c.is_process_line-shared.ensures
+    c.args.line c.is_placed-shared.result c.is_placed-shared.ensures
     c.take_in.new.self c.take_in-2.new.self
     (subst (λ (h : List Placed). IsProcess c.take_in.new.context c.args.script.now h
     c.take_in.new.self) c.requires.history c.in_ok-take_in.ensures.process)
