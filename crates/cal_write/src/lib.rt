@@ -14,6 +14,8 @@ mod lines;
 mod measurer;
 mod memo;
 mod node_writer;
+mod page;
+mod placing;
 mod snapshot_needs;
 mod stream;
 mod whole;
