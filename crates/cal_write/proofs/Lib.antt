@@ -2,6 +2,7 @@ pub mod EscapeLemmas
 mod LineLemmas
 pub mod PlaceLemmas
 pub mod PlacingLemmas
+pub mod DigitLemmas
 pub mod AfterLemmas
 pub mod StreamLemmas
 pub mod BuiltInLemmas

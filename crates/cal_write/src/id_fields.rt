@@ -46,6 +46,7 @@ impl IdField {
     }
 
     /// Takes these ids instead. An `Err` leaves none.
+    #[inline(always)]
     fn set(&mut self, ids: &[u32]) -> Result<(), OutOfMemory>
         ensures { OnOk result (self.new ≡ ids.now) }
     {
@@ -102,6 +103,7 @@ impl IdFields {
 }
 
 /// Puts ids and their field in the place of others.
+#[inline(never)]
 fn fill(old: &mut Vec<u32>, text: &mut Page, ids: &[u32]) -> Result<(), OutOfMemory>
     ensures ids { OnOk result (old.new.items ≡ ids.now) }
     ensures text { OnOk result (text.new ≡ field (codes "attr") (map decimal ids.now)) }

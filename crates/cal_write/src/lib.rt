@@ -8,6 +8,7 @@
 
 mod built_in;
 mod described;
+mod digits;
 mod id_fields;
 mod interning;
 mod lines;

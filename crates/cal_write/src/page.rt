@@ -72,6 +72,7 @@ impl Page {
     }
 
     /// Adds the text of another page at the end.
+    #[inline(always)]
     pub(crate) fn put_page(&mut self, page: &Page) -> Result<(), OutOfMemory>
         ensures { OnOk result (self.new ≡ self.old ++ page.now) }
     {

@@ -2,8 +2,8 @@ ghost use Rattle.std.specs.Prelude.{◌≡◌, ◌+◌, ◌≤◌, false, [], �
 ghost use Rattle.std.specs.Prelude.{codes, decimal, IsTrue, OnOk};
 ghost use Rattle.cal_line.specs.Escapes.{escaped, escaped_byte};
 
+use crate::digits::{put_digit, put_number};
 use cal_value::OutOfMemory;
-use itoa::write_digits;
 
 // how much room is made beyond what is wanted
 const MORE: usize = 4096;
@@ -83,51 +83,8 @@ pub(crate) fn put_equals(bytes: &mut [u8], at: usize, number: u32) -> usize
     ensures written { take result bytes.new ≡ take at bytes.old ++ codes "=" ++ decimal number }
 {
     bytes[at] = b'=';
-    put_number(bytes, at + 1, number)
-}
-
-#[inline(always)]
-fn put_number(bytes: &mut [u8], at: usize, number: u32) -> usize
-    requires { at + 10 ≤ length bytes.old }
-    ensures within { result ≤ length bytes.new }
-    ensures written { take result bytes.new ≡ take at bytes.old ++ decimal number }
-{
     if number < 10 {
-        bytes[at] = b'0' + number as u8;
-        return at + 1;
+        return put_digit(bytes, at + 1, number);
     }
-    let end = at + digits_of(number);
-    write_digits(u64::from(number), bytes, end);
-    end
-}
-
-/// How many digits a number has that has two or more.
-#[inline(always)]
-fn digits_of(number: u32) -> usize
-    requires { 10 ≤ number }
-    ensures count { result ≡ length (decimal number) }
-    ensures few { result ≤ 10 }
-{
-    if number < 100 {
-        return 2;
-    }
-    if number < 1_000 {
-        return 3;
-    }
-    if number < 10_000 {
-        return 4;
-    }
-    if number < 100_000 {
-        return 5;
-    }
-    if number < 1_000_000 {
-        return 6;
-    }
-    if number < 10_000_000 {
-        return 7;
-    }
-    if number < 100_000_000 {
-        return 8;
-    }
-    if number < 1_000_000_000 { 9 } else { 10 }
+    put_number(bytes, at + 1, number)
 }
