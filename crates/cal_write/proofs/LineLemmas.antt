@@ -1,21 +1,9 @@
-use Rattle.std.proofs.Common.{◌≡◌, ℕ, ◌+◌, ◌<◌, List, [], ◌∷◌, ◌++◌, length, get_or, take, map, decimal, refl, sym, ap, ◌∙◌, arith, lit<}
-use Rattle.std.specs.Prelude.{codes, encode_utf8}
+use Rattle.std.proofs.Common.{◌≡◌, ℕ, ◌+◌, ◌<◌, List, [], ◌∷◌, ◌++◌, length, get_or, take, map, refl, ap, ◌∙◌, arith}
+use Rattle.std.specs.Prelude.{codes}
 use Rattle.std.specs.List.{flat_map}
 use Rattle.std.proofs.lemmas.List.{append-nil, append_assoc, map_more}
 use Rattle.std.proofs.lemmas.List.Concat.{flat_map-append}
-use Rattle.std.proofs.lemmas.Fmt.{decimal_digit}
-use Rattle.std.proofs.lemmas.Str.{encode_ascii}
 use Rattle.cal_write.specs.Lines.{field}
-
-pub equals_sign : encode_utf8 61 ≡ 61 ∷ []
-equals_sign = encode_ascii 61 (lit< tt)
-
-pub newline : encode_utf8 10 ≡ 10 ∷ []
-newline = encode_ascii 10 (lit< tt)
-
--- a digit as a character is the text of its number
-pub digit-character : (n : ℕ) → n < 10 → encode_utf8 (48 + n) ≡ decimal n
-digit-character n h = encode_ascii (48 + n) (omega arith) ∙ sym (decimal_digit n h)
 
 -- values as a field joins them, with one more
 pub joined_more : {X : Type 0} (f : X → List ℕ) (xs : List X) (i : ℕ) (d : X) → i < length xs
@@ -30,10 +18,11 @@ pub field-some : (key : List ℕ) (vs : List (List ℕ)) → 0 < length vs → f
 field-some key [] h = absurd (omega (arith, h))
 field-some key (v ∷ vs) h = refl
 
-regroup : (o n i k a m v p e : List ℕ) → o ++ n ++ i ++ k ++ a ++ m ++ v ++ p ++ e ≡ o ++ (n ++ i ++ (k ++ a) ++ (m ++ v) ++ p ++ e)
-regroup o n i k a m v p e = simp append_assoc
+regroup : (o n q i k a m v p e : List ℕ) → o ++ n ++ q ++ i ++ k ++ q ++ a ++ m ++ q ++ v ++ p ++ e
+    ≡ o ++ ((n ++ q) ++ i ++ ((k ++ q) ++ a) ++ ((m ++ q) ++ v) ++ p ++ e)
+regroup o n q i k a m v p e = simp append_assoc
 
 -- the parts of a node's line, one after another
-pub joined_node : (out i a v p : List ℕ) → out ++ codes "__rec=node,id=" ++ i ++ codes ",attr=" ++ a ++ codes ",data=" ++ v ++ p ++ codes "\n"
+pub joined_node : (out i a v p : List ℕ) → out ++ codes "__rec=node,id" ++ codes "=" ++ i ++ codes ",attr" ++ codes "=" ++ a ++ codes ",data" ++ codes "=" ++ v ++ p ++ codes "\n"
     ≡ out ++ (codes "__rec=node" ++ field (codes "id") (i ∷ []) ++ field (codes "attr") (a ∷ []) ++ field (codes "data") (v ∷ []) ++ p ++ codes "\n")
-joined_node out i a v p = rw (append-nil i, append-nil a, append-nil v) (regroup out (codes "__rec=node,id=") i (codes ",attr=") a (codes ",data=") v p (codes "\n"))
+joined_node out i a v p = rw (append-nil i, append-nil a, append-nil v) (regroup out (codes "__rec=node,id") (codes "=") i (codes ",attr") a (codes ",data") v p (codes "\n"))

@@ -5,6 +5,7 @@ pub mod Written
 pub mod Places
 pub mod BuiltIn
 pub mod Memo
+pub mod Page
 pub mod Described
 pub mod Stream
 pub mod Kept

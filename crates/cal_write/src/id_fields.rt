@@ -2,7 +2,8 @@ ghost use Rattle.std.specs.Prelude.{◌≡◌, ◌++◌, [], IfOk, IsTrue, OnOk,
 ghost use Rattle.cal_write.specs.Lines.{field};
 
 use crate::lines::write_ids;
-use cal_value::{OutOfMemory, Text};
+use crate::page::Page;
+use cal_value::OutOfMemory;
 use std::alloc::Global;
 use std::marker::Model;
 
@@ -13,7 +14,7 @@ const SLOTS: usize = 16;
 #[derive(Drop)]
 pub(crate) struct IdField {
     ids: Vec<u32>,
-    text: Text,
+    text: Page,
 }
 
 /// The fields of ids of attributes that were written last, since records have few different ones.
@@ -40,11 +41,12 @@ impl IdField {
     {
         IdField {
             ids: Vec::new(alloc),
-            text: Text::new(alloc),
+            text: Page::new(alloc),
         }
     }
 
     /// Takes these ids instead. An `Err` leaves none.
+    #[inline(always)]
     fn set(&mut self, ids: &[u32]) -> Result<(), OutOfMemory>
         ensures { OnOk result (self.new ≡ ids.now) }
     {
@@ -56,18 +58,18 @@ impl IdField {
             Ok(()) => Ok(()),
             Err(error) => {
                 self.ids.clear();
-                self.text.truncate(0);
+                self.text.clear();
                 Err(error)
             }
         }
     }
 
     /// The field that is written of the ids.
-    fn text(&self) -> &str
+    fn text(&self) -> &Page
         ensures { result.now ≡ field (codes "attr") (map decimal self.now) }
     {
         let _ = &self.ids;
-        self.text.as_str()
+        &self.text
     }
 }
 
@@ -83,7 +85,8 @@ impl IdFields {
 
     /// Appends the field of attributes of these ids, or none where there is no id. Where the ids
     /// came before it takes one comparison and one copy.
-    pub(crate) fn write(&mut self, out: &mut Text, ids: &[u32]) -> Result<(), OutOfMemory>
+    #[inline(always)]
+    pub(crate) fn write(&mut self, out: &mut Page, ids: &[u32]) -> Result<(), OutOfMemory>
         ensures { OnOk result (out.new ≡ out.old ++ field (codes "attr") (map decimal ids.now)) }
     {
         let Some(first) = ids.first() else {
@@ -92,7 +95,7 @@ impl IdFields {
         match self.slots.get_mut(*first as usize % SLOTS) {
             Some(slot) => {
                 slot.set(ids)?;
-                out.push_str(slot.text())
+                out.put_page(slot.text())
             }
             None => write_ids(out, ",attr", ids),
         }
@@ -100,12 +103,13 @@ impl IdFields {
 }
 
 /// Puts ids and their field in the place of others.
-fn fill(old: &mut Vec<u32>, text: &mut Text, ids: &[u32]) -> Result<(), OutOfMemory>
+#[inline(never)]
+fn fill(old: &mut Vec<u32>, text: &mut Page, ids: &[u32]) -> Result<(), OutOfMemory>
     ensures ids { OnOk result (old.new.items ≡ ids.now) }
     ensures text { OnOk result (text.new ≡ field (codes "attr") (map decimal ids.now)) }
 {
     old.clear();
-    text.truncate(0);
+    text.clear();
     write_ids(text, ",attr", ids)?;
     old.extend_from_slice(ids)?;
     Ok(())

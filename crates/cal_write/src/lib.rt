@@ -8,12 +8,15 @@
 
 mod built_in;
 mod described;
+mod digits;
 mod id_fields;
 mod interning;
 mod lines;
 mod measurer;
 mod memo;
 mod node_writer;
+mod page;
+mod placing;
 mod snapshot_needs;
 mod stream;
 mod whole;

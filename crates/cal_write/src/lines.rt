@@ -1,16 +1,18 @@
 ghost use Rattle.std.specs.Prelude.{◌≡◌, ℕ, List, ◌++◌, OnOk, codes, decimal, map, option_to_list};
 ghost use Rattle.std.specs.Fmt.{signed_decimal};
+ghost use Rattle.cal_line.specs.Escapes.{escaped};
+ghost use Rattle.cal_value.specs.Values.{value_text};
 ghost use Rattle.cal_write.specs.Lines.{field, node_line, record_line, written_value};
 
 use crate::id_fields::IdFields;
+use crate::page::Page;
 use cal_context::Immediate;
-use cal_line::escape;
 use cal_value::{OutOfMemory, Text, Variant, print_value};
-use itoa::Buffer;
+use itoa::{Buffer, Integer};
 
 /// Appends the line of a node.
 pub(crate) fn write_node(
-    out: &mut Text,
+    out: &mut Page,
     id: u32,
     attribute: u32,
     value: &Variant,
@@ -18,20 +20,21 @@ pub(crate) fn write_node(
 ) -> Result<(), OutOfMemory>
     ensures { OnOk result (out.new ≡ out.old ++ node_line id attribute value.now parent) }
 {
-    out.push_str("__rec=node,id=")?;
-    write_number(out, id)?;
-    out.push_str(",attr=")?;
-    write_number(out, attribute)?;
-    out.push_str(",data=")?;
+    out.put("__rec=node,id")?;
+    out.put_equals(id)?;
+    out.put(",attr")?;
+    out.put_equals(attribute)?;
+    out.put(",data")?;
     write_value(out, value)?;
     write_parent(out, parent)?;
-    out.push('\n')?;
+    out.put("\n")?;
     Ok(())
 }
 
 /// Appends the line of a record, by the ids of its nodes and of its immediates' attributes.
+#[inline(always)]
 pub(crate) fn write_record(
-    out: &mut Text,
+    out: &mut Page,
     fields: &mut IdFields,
     sort: &str,
     nodes: &[u32],
@@ -45,31 +48,33 @@ pub(crate) fn write_record(
     write_ids(out, ",ref", nodes)?;
     fields.write(out, attributes)?;
     write_values(out, imms)?;
-    out.push('\n')?;
+    out.put("\n")?;
     Ok(())
 }
 
 /// Appends how a record's line begins. Nearly all are `ctx` lines, and a text that is known when
 /// the program is built is appended without a call.
-fn write_sort(out: &mut Text, sort: &str) -> Result<(), OutOfMemory>
+#[inline(always)]
+fn write_sort(out: &mut Page, sort: &str) -> Result<(), OutOfMemory>
     ensures { OnOk result (out.new ≡ out.old ++ codes "__rec=" ++ sort.now) }
 {
     if sort == "ctx" {
-        out.push_str("__rec=ctx")?;
+        out.put("__rec=ctx")?;
         return Ok(());
     }
-    out.push_str("__rec=")?;
-    out.push_str(sort)?;
+    out.put("__rec=")?;
+    out.put(sort)?;
     Ok(())
 }
 
-fn write_parent(out: &mut Text, parent: Option<u32>) -> Result<(), OutOfMemory>
+#[inline(always)]
+fn write_parent(out: &mut Page, parent: Option<u32>) -> Result<(), OutOfMemory>
     ensures { OnOk result (out.new ≡ out.old
         ++ field (codes "parent") (map decimal (option_to_list parent))) }
 {
     if let Some(id) = parent {
-        out.push_str(",parent=")?;
-        write_number(out, id)?;
+        out.put(",parent")?;
+        out.put_equals(id)?;
     }
     Ok(())
 }
@@ -77,80 +82,107 @@ fn write_parent(out: &mut Text, parent: Option<u32>) -> Result<(), OutOfMemory>
 /// Appends a field of these ids, or none where there is no id. The text before the first `=` is a
 /// comma and the key.
 #[inline(always)]
-pub(crate) fn write_ids(out: &mut Text, start: &str, ids: &[u32]) -> Result<(), OutOfMemory>
+pub(crate) fn write_ids(out: &mut Page, start: &str, ids: &[u32]) -> Result<(), OutOfMemory>
     ensures { OnOk result ((key : List ℕ) → start.now ≡ codes "," ++ key
         → out.new ≡ out.old ++ field key (map decimal ids.now)) }
 {
     if ids.is_empty() {
         return Ok(());
     }
-    out.push_str(start)?;
+    out.put(start)?;
     for id in ids {
-        out.push('=')?;
-        write_number(out, *id)?;
+        out.put_equals(*id)?;
     }
     Ok(())
 }
 
 /// Appends the field of immediates' values, or none where there is no immediate.
-fn write_values(out: &mut Text, imms: &[Immediate]) -> Result<(), OutOfMemory>
+#[inline(always)]
+fn write_values(out: &mut Page, imms: &[Immediate]) -> Result<(), OutOfMemory>
     ensures { OnOk result (out.new ≡ out.old
         ++ field (codes "data") (map written_value (map (λ i. i.value) imms.now))) }
 {
     if imms.is_empty() {
         return Ok(());
     }
-    out.push_str(",data")?;
+    out.put(",data")?;
     for imm in imms {
-        out.push('=')?;
         write_value(out, &imm.value)?;
     }
     Ok(())
 }
 
-/// Appends a value as it is written. The texts of the other variants hold nothing to escape.
-fn write_value(out: &mut Text, value: &Variant) -> Result<(), OutOfMemory>
-    ensures { OnOk result (out.new ≡ out.old ++ written_value value.now) }
+/// Appends an `=` and a value as it is written.
+#[inline(always)]
+fn write_value(out: &mut Page, value: &Variant) -> Result<(), OutOfMemory>
+    ensures { OnOk result (out.new ≡ out.old ++ codes "=" ++ written_value value.now) }
 {
     match value {
-        Variant::Text(text) => escape(text.as_str(), out),
-        Variant::Real(text) => escape(text.as_str(), out),
-        Variant::Usr(text) => escape(text.as_str(), out),
-        Variant::Ptr(text) => escape(text.as_str(), out),
         Variant::Int(number) => write_int(out, *number),
         Variant::Uint(number) => write_uint(out, *number),
-        _ => print_value(value, out),
+        Variant::Text(text) => write_text(out, text.as_str()),
+        _ => write_other(out, value),
     }
 }
 
-/// Appends a number. Most fit into 32 bits, whose digits take less time.
-fn write_int(out: &mut Text, number: i128) -> Result<(), OutOfMemory>
-    ensures { OnOk result (out.new ≡ out.old ++ signed_decimal number) }
+/// Appends an `=` and a number. Most fit into 32 bits, whose digits take less time.
+#[inline(always)]
+fn write_int(out: &mut Page, number: i128) -> Result<(), OutOfMemory>
+    ensures { OnOk result (out.new ≡ out.old ++ codes "=" ++ signed_decimal number) }
 {
     if let Ok(small) = u32::try_from(number) {
-        return write_number(out, small);
+        return out.put_equals(small);
     }
-    let mut digits = Buffer::new();
-    out.push_str(digits.format(number))
+    write_long(out, number)
 }
 
-fn write_uint(out: &mut Text, number: u64) -> Result<(), OutOfMemory>
-    ensures { OnOk result (out.new ≡ out.old ++ decimal number) }
+#[inline(always)]
+fn write_uint(out: &mut Page, number: u64) -> Result<(), OutOfMemory>
+    ensures { OnOk result (out.new ≡ out.old ++ codes "=" ++ decimal number) }
 {
     if let Ok(small) = u32::try_from(number) {
-        return write_number(out, small);
+        return out.put_equals(small);
     }
-    let mut digits = Buffer::new();
-    out.push_str(digits.format(number))
+    write_long(out, number)
 }
 
-#[inline]
-fn write_number(out: &mut Text, number: u32) -> Result<(), OutOfMemory>
-    ensures { OnOk result (out.new ≡ out.old ++ decimal number) }
+#[inline(never)]
+fn write_long<I: Integer>(out: &mut Page, number: I) -> Result<(), OutOfMemory>
+    ensures { OnOk result (out.new ≡ out.old ++ codes "=" ++ I.text number) }
 {
-    if number < 10 {
-        return out.push(char::from(b'0' + number as u8));
-    }
+    out.put("=")?;
     let mut digits = Buffer::new();
-    out.push_str(digits.format(number))
+    out.put(digits.format(number))
+}
+
+#[inline(never)]
+fn write_text(out: &mut Page, text: &str) -> Result<(), OutOfMemory>
+    ensures { OnOk result (out.new ≡ out.old ++ codes "=" ++ escaped text.now) }
+{
+    out.put("=")?;
+    out.put_escaped(text)
+}
+
+/// Appends an `=` and a value that is seldom met. The texts of most of them hold nothing to escape.
+#[inline(never)]
+fn write_other(out: &mut Page, value: &Variant) -> Result<(), OutOfMemory>
+    ensures { OnOk result (out.new ≡ out.old ++ codes "=" ++ written_value value.now) }
+{
+    match value {
+        Variant::Text(text) => write_text(out, text.as_str()),
+        Variant::Real(text) => write_text(out, text.as_str()),
+        Variant::Usr(text) => write_text(out, text.as_str()),
+        Variant::Ptr(text) => write_text(out, text.as_str()),
+        _ => write_printed(out, value),
+    }
+}
+
+/// Appends an `=` and the text of a value, which is made beside.
+fn write_printed(out: &mut Page, value: &Variant) -> Result<(), OutOfMemory>
+    ensures { OnOk result (out.new ≡ out.old ++ codes "=" ++ value_text value.now) }
+{
+    let mut text = Text::new(out.allocator());
+    print_value(value, &mut text)?;
+    out.put("=")?;
+    out.put(text.as_str())
 }

@@ -79,7 +79,7 @@ impl Measurer {
         self.writer.write(context, sort, snapshot)?;
         let text = &mut self.writer.nodes.stream.lines.text;
         let more = text.len() as u64;
-        text.truncate(0);
+        text.clear();
         self.so_far.bytes = sum(self.so_far.bytes, more)?;
         Ok(())
     }

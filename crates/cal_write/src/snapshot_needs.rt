@@ -8,6 +8,7 @@ use cal_context::{Context, Immediate, NodeNumber, Snapshot};
 use cal_value::OutOfMemory;
 
 /// Writes what a record's nodes need, and puts their ids into `ids`.
+#[inline(always)]
 pub(crate) fn need_nodes(
     writer: &mut NodeWriter,
     context: &Context,
@@ -26,6 +27,7 @@ pub(crate) fn need_nodes(
 }
 
 /// Writes what a record's immediates need, and puts the ids of their attributes' nodes into `ids`.
+#[inline(always)]
 pub(crate) fn need_immediates(
     writer: &mut NodeWriter,
     context: &Context,
@@ -36,10 +38,20 @@ pub(crate) fn need_immediates(
     ensures { OnOk result
         (NeedsImmediates context.now writer.old writer.new imms.now ids.new.items) }
 {
-    ids.clear();
-    for imm in imms {
-        let id = writer.need_attribute(context, imm.attribute)?;
-        ids.push(id)?;
+    make_long(ids, imms.len())?;
+    for place in 0..imms.len() {
+        ids[place] = writer.need_attribute(context, imms[place].attribute)?;
+    }
+    Ok(())
+}
+
+/// Makes a list so long.
+#[inline(always)]
+fn make_long(list: &mut Vec<u32>, len: usize) -> Result<(), OutOfMemory>
+    ensures { OnOk result (length list.new.items ≡ len) }
+{
+    if list.len() != len {
+        list.resize(len, 0)?;
     }
     Ok(())
 }

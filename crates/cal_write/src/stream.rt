@@ -6,8 +6,9 @@ ghost use Rattle.cal_write.specs.Stream.{AddsDescribed, AddsEntry, AddsLine, Des
 use crate::built_in::{BuiltIn, built_in_nodes};
 use crate::described::DescribedNode;
 use crate::lines::write_node;
+use crate::page::Page;
 use cal_context::Interner;
-use cal_value::{Attribute, Entry, OutOfMemory, Text, TryCopy, Variant};
+use cal_value::{Attribute, Entry, OutOfMemory, TryCopy, Variant};
 use std::alloc::Global;
 
 // properties without a node of their own
@@ -19,7 +20,7 @@ const BUILT_IN_IDS: [u32; 12] = [0, 1, 2, 3, 4, 5, 6, 7, 8, 9, 10, 11];
 #[derive(Drop)]
 pub(crate) struct Lines {
     pub(crate) next: u32,
-    pub(crate) text: Text,
+    pub(crate) text: Page,
 }
 
 /// A stream as it is written: its lines, and the ids of the nodes of built-in attributes, which a
@@ -61,7 +62,7 @@ impl Stream {
             ids: BUILT_IN_IDS.to_vec(alloc)?,
             lines: Lines {
                 next: 12,
-                text: Text::new(alloc),
+                text: Page::new(alloc),
             },
         })
     }

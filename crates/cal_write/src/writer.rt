@@ -48,7 +48,7 @@ impl Writer {
     {
         let mut writer = self;
         writer.write_globals(context, globals)?;
-        Ok(writer.nodes.stream.lines.text)
+        Ok(writer.nodes.stream.lines.text.into_text())
     }
 
     /// Writes globals behind the rows, if they have an entry.

@@ -1,12 +1,12 @@
 use Rattle.std.proofs.Common.{◌<◌, length, map, append_assoc, decimal, arith, refl}
 use Rattle.std.proofs.lemmas.List.{length-map, take_all}
 use Rattle.std.proofs.lemmas.Bool.Decides.{nat_tests}
-use Rattle.cal_write.proofs.LineLemmas.{equals_sign, joined_more, field-some}
+use Rattle.cal_write.proofs.LineLemmas.{joined_more, field-some}
 use Rattle.cal_write.proofs.lines.write_ids.Goals as goal
 
 pub loop-id-preserved : goal.loop-id-preserved
 loop-id-preserved c =
-    rw (joined_more decimal c.args.ids.now c.loop-id.id-index 0 c.loop-id-test.true, c.in_ok-write_number.ensures, c.in_ok-push.ensures.ok, equals_sign, c.loop-id.invariant) (simp append_assoc)
+    rw (joined_more decimal c.args.ids.now c.loop-id.id-index 0 c.loop-id-test.true, c.in_ok-put_equals.ensures, c.loop-id.invariant) (simp append_assoc)
 
 pub returns : goal.returns
 returns c = λ key is.

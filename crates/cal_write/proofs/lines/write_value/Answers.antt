@@ -1,6 +1,6 @@
 use Rattle.std.proofs.Common.{FitsSigned, rules}
 use Rattle.std.proofs.lemmas.Int.{to_z-of_z}
-use Rattle.cal_write.proofs.EscapeLemmas.{plain-value, written-int, written-uint}
+use Rattle.cal_write.proofs.EscapeLemmas.{written-int, written-uint}
 use Rattle.cal_write.proofs.lines.write_value.Goals as goal
 use mir.Syntax.{w128}
 
@@ -12,8 +12,3 @@ returns-in-Int c =
 
 pub returns-in-Uint : goal.returns-in-Uint
 returns-in-Uint c = rw (written-uint c.args.value.now c.in-Uint.number c.in-Uint.is) c.write_uint.ensures
-
-pub returns-in_default : goal.returns-in_default
-returns-in_default c =
-    let d = c.in_default in
-    rw (plain-value c.args.value.now d.not-Text d.not-Real d.not-Usr d.not-Ptr) c.print_value.ensures.ok

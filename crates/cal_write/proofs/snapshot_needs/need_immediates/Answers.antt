@@ -1,21 +1,42 @@
-use Rattle.std.proofs.Common.{ℕ, ◌+◌, List, sym, subst, take}
-use Rattle.std.proofs.lemmas.List.{take_all}
+use Rattle.std.proofs.Common.{ℕ, ◌+◌, ◌<◌, List, ap, arith, get_or, length, sym, subst, take, ◌∙◌}
+use Rattle.std.proofs.lemmas.List.{length-set, take_all, take_more_set}
 use Rattle.cal_context.specs.declared.snapshot.Immediate.{Immediate}
 use Rattle.cal_write.specs.SnapshotNeeds.{NeedsImmediates}
 use Rattle.cal_write.proofs.RecordLemmas.{no-immediates, immediates-more}
 use Rattle.cal_write.proofs.snapshot_needs.need_immediates.Goals as goal
 
-pub loop-imm-init : goal.loop-imm-init
-loop-imm-init c =
-    subst (λ (l : List ℕ). NeedsImmediates c.args.context.now c.args.writer.now c.args.writer.now (take 0 c.args.imms.now) l) (sym c.clear.ensures.items) (no-immediates c.args.context.now c.args.writer.now)
+pub loop-place-init : goal.loop-place-init
+loop-place-init c = record {
+  long = c.in_ok-make_long.ensures;
+  needs = no-immediates c.args.context.now c.args.writer.now;
+}
 
-pub loop-imm-preserved : goal.loop-imm-preserved
-loop-imm-preserved c =
-    subst (λ (l : List ℕ). NeedsImmediates c.args.context.now c.args.writer.now c.need_attribute.new.self (take (c.loop-imm.imm-index + 1) c.args.imms.now) l) (sym c.in_ok-push.ensures.items)
-    (immediates-more c.args.context.now c.args.writer.now c.loop-imm.writer c.need_attribute.new.self c.args.imms.now c.loop-imm.ids.items c.loop-imm.imm-index c.imm-item.result c.in_ok-id.id
-    c.loop-imm-test.true c.imm-item.is c.loop-imm.invariant c.in_ok-id.ensures.needs)
+pub loop-place-preserved : goal.loop-place-preserved
+loop-place-preserved c =
+    let place = c.loop-place.place in
+    let ids = c.loop-place.ids.items in
+    let id = c.in_ok-ids.field-0 in
+    let within : place < length ids =
+    omega (arith, c.loop-place.invariant.long, c.loop-place-test.true) in
+    record {
+      long = length-set ids place id ∙ c.loop-place.invariant.long;
+      needs = subst (λ (l : List ℕ). NeedsImmediates c.args.context.now c.args.writer.now
+          c.need_attribute.new.self (take (place + 1) c.args.imms.now) l)
+          (sym (take_more_set ids place id within))
+          (immediates-more c.args.context.now c.args.writer.now c.loop-place.writer
+          c.need_attribute.new.self c.args.imms.now (take place ids) place
+          (get_or c.args.imms.now place c.index-imms-place.result) id c.loop-place-test.true
+          (ap (get_or c.args.imms.now place) c.index-imms-place.is)
+          c.loop-place.invariant.needs c.in_ok-ids.ensures.needs);
+    }
 
 pub returns : goal.returns
 returns c =
-    subst (λ (l : List Immediate). NeedsImmediates c.args.context.now c.args.writer.now c.loop-imm.writer l c.loop-imm.ids.items)
-    (take_all c.loop-imm.imm-index c.args.imms.now c.loop-imm-test.false) c.loop-imm.invariant
+    let place = c.loop-place.place in
+    let ids = c.loop-place.ids.items in
+    subst (λ (l : List Immediate). NeedsImmediates c.args.context.now c.args.writer.now
+    c.loop-place.writer l ids) (take_all place c.args.imms.now c.loop-place-test.false)
+    (subst (λ (l : List ℕ). NeedsImmediates c.args.context.now c.args.writer.now
+    c.loop-place.writer (take place c.args.imms.now) l)
+    (take_all place ids (omega (arith, c.loop-place.invariant.long, c.loop-place-test.false)))
+    c.loop-place.invariant.needs)

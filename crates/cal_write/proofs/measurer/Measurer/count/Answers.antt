@@ -8,5 +8,5 @@ returns-clause-counted c =
     record-counted c.args.context.now c.args.self.now
     (record c.args.self.now { writer = c.write.new.self }) _ c.args.sort.now
     (meaning c.args.context.now c.args.snapshot.now) c.in_ok-write.ensures.written
-    (ap (with_text c.write.new.self.nodes) c.truncate.ensures)
+    (ap (with_text c.write.new.self.nodes) c.clear.ensures)
     (c.in_ok-self.ensures ∙ ap (λ n. c.args.self.now.so_far.bytes + n) c.len-more.ensures)
