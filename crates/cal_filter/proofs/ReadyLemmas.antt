@@ -147,6 +147,13 @@ ready_is_right t q f h = record {
   known = h.known;
 }
 
+-- a map of a list of one item
+pub map_one : {A B : Type 0} (f : A → B) (xs : List A) (x : A) → length xs ≡ 1 → x ≡ get_or xs 0 x
+    → map f xs ≡ f x ∷ []
+map_one f [] x one read = absurd (omega (arith, one))
+map_one f (y ∷ []) x one read = ap (λ z. f z ∷ []) (sym read)
+map_one f (y ∷ z ∷ zs) x one read = absurd (omega (arith, one))
+
 -- one item more of a map
 pub map_more : {A B : Type 0} (f : A → B) (xs : List A) (i : ℕ) (x : A) → i < length xs
     → x ≡ get_or xs i x → map f (take (i + 1) xs) ≡ map f (take i xs) ++ f x ∷ []

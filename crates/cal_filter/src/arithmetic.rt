@@ -1,4 +1,5 @@
 ghost use Rattle.std.specs.Prelude.{◌≡◌, ◌<ℤ◌, ◌*ℤ◌, ◌^◌, pos, unsigned_abs};
+ghost use Rattle.std.specs.Int.{int_div_euclid};
 ghost use Rattle.std.specs.Option.{ForSome};
 ghost use Rattle.cal_agg.specs.Numbers.{IsSmall, IsWithin, measure as measure_of};
 ghost use Rattle.cal_filter.specs.Lets.{floor_to as multiple_below, limited as limited_to};
@@ -33,7 +34,21 @@ fn floor_to(step: i128, number: i128) -> i128
     requires small { IsWithin 86 number }
     ensures { result ≡ multiple_below step number }
 {
-    step * number.div_euclid(step)
+    step * quotient_below(step, number)
+}
+
+/// The greatest quotient that isn't above the true one. Small numbers are divided as such, which
+/// takes less time.
+fn quotient_below(step: i128, number: i128) -> i128
+    requires above { pos 0 <ℤ step }
+    ensures { result ≡ int_div_euclid number step }
+{
+    if let Ok(step) = u64::try_from(step) {
+        if let Ok(number) = u64::try_from(number) {
+            return i128::from(number / step);
+        }
+    }
+    number.div_euclid(step)
 }
 
 /// `scale`: the product.

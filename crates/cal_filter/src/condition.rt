@@ -46,6 +46,6 @@ impl Condition {
         ensures { (c : CondOf) → IsReadyCondition context.now c self.now
             → result ≡ cond_holds c (meaning context.now snapshot.now) }
     {
-        self.seeker.find(context, snapshot).is_some() != self.negated
+        self.seeker.finds(context, snapshot) != self.negated
     }
 }

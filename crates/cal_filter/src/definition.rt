@@ -1,10 +1,13 @@
-ghost use Rattle.std.specs.Prelude.{◌≡◌, Some, option_and_then, option_map, IfOk, OnOk};
+ghost use Rattle.std.specs.Prelude.{◌≡◌, Some, map, option_and_then, option_map, IfOk, OnOk};
 ghost use Rattle.std.specs.Option.{ForSome};
 ghost use Rattle.cal_agg.specs.Numbers.{IsSmall};
 ghost use Rattle.cal_filter.specs.Numbers.{value_of_number as value_of};
 ghost use Rattle.std.specs.List.{All};
 ghost use Rattle.cal_context.specs.Snapshots.{IsIn, meaning};
 ghost use Rattle.cal_filter.specs.Kept.{with_let, with_result};
+ghost use Rattle.cal_filter.specs.Known.{KnowsAll, sought};
+ghost use Rattle.cal_filter.specs.Sought.{number_sought};
+ghost use Rattle.cal_value.specs.Flat.{flat};
 ghost use Rattle.cal_filter.specs.Lets.{let_value, limited, operation};
 ghost use Rattle.cal_filter.specs.Named.{HasSmallNumbers};
 ghost use Rattle.cal_filter.specs.Ready.{IsDefinition, IsReadyDefinition};
@@ -15,7 +18,7 @@ ghost use Rattle.cal_ql.specs.Valid.{IsLet};
 ghost use Rattle.cal_context.specs.Tree.{Grows};
 
 use crate::kinds::{kind_of, kind_place};
-use crate::operands::{catch_up_all, fill_numbers, first_found, seekers_of};
+use crate::operands::{catch_up_all, fill_numbers, first_found, number_found, seekers_of};
 use crate::operation::{Operator, let_number};
 use crate::results::result_attributes;
 use crate::seeker::Seeker;
@@ -102,13 +105,34 @@ impl Definition {
     {
         match self.operator.op {
             Op::First => first_found(alloc, &self.seekers, context, snapshot),
-            _ => {
-                fill_numbers(&self.seekers, context, snapshot, numbers)?;
-                self.result(numbers)
-            }
+            _ => self.value_of_numbers(context, snapshot, numbers),
         }
     }
 
+    /// The same of an operator over numbers. A single one takes no room.
+    fn value_of_numbers(
+        &self,
+        context: &Context,
+        snapshot: &Snapshot,
+        numbers: &mut Vec<Option<Num>>,
+    ) -> Result<Option<Variant>, OutOfMemory>
+        requires { IsIn context.now snapshot.now }
+        ensures { IfOk result (λ value. All (KnowsAll context.now) self.now.seekers.items
+            → HasSmallNumbers (meaning context.now snapshot.now)
+            → value ≡ option_map value_of (option_and_then limited
+            (operation self.now.operator.op self.now.operator.n (map (λ s.
+            number_sought (sought s) (flat (meaning context.now snapshot.now)))
+            self.now.seekers.items)))) }
+    {
+        if self.seekers.len() == 1 {
+            let number = number_found(&self.seekers[0], context, snapshot);
+            return self.result(&[number]);
+        }
+        fill_numbers(&self.seekers, context, snapshot, numbers)?;
+        self.result(numbers)
+    }
+
+    #[inline(always)]
     fn result(&self, numbers: &[Option<Num>]) -> Result<Option<Variant>, OutOfMemory>
         requires { All (λ number. ForSome number IsSmall) numbers.now }
         ensures { IfOk result (λ value. value ≡ option_map value_of (option_and_then limited

@@ -1,4 +1,4 @@
-ghost use Rattle.std.specs.Prelude.{◌≡◌, ◌<◌, ◌++◌, length, map, slice_get, None, IfSome};
+ghost use Rattle.std.specs.Prelude.{◌≡◌, ◌<◌, ◌++◌, length, map, slice_get, None, IfSome, is_some};
 ghost use Rattle.std.specs.Prelude.{option_and_then, option_map};
 ghost use Rattle.std.specs.List.{All, last_or};
 ghost use Rattle.std.specs.Option.{option_copied};
@@ -15,6 +15,7 @@ use cal_value::Variant;
 impl Seeker {
     /// The value of the last entry of a record that is sought. It takes time for its nodes and
     /// immediates.
+    #[inline(always)]
     pub fn find<'a>(&self, context: &'a Context, snapshot: &'a Snapshot) -> Option<&'a Variant>
         requires { IsIn context.now snapshot.now }
         ensures { KnowsAll context.now self.now → option_copied result
@@ -24,7 +25,29 @@ impl Seeker {
     }
 
     /// The same of the record that nodes and immediates mean.
+    #[inline(always)]
     pub fn find_among<'a>(
+        &self,
+        context: &'a Context,
+        nodes: &[NodeNumber],
+        imms: &'a [Immediate],
+    ) -> Option<&'a Variant>
+        requires nodes { All (IsBelowRoot context.now) nodes.now }
+        requires imms { All (λ imm. imm.attribute.0 < length context.now.attributes) imms.now }
+        ensures { KnowsAll context.now self.now
+            → option_copied result ≡ value_sought (sought self.now)
+            (joined (map (path_at context.now) nodes.now)
+            ++ map (entry_of context.now) imms.now) }
+    {
+        context.has_each_once();
+        if self.sees_nothing() {
+            return None;
+        }
+        self.find_known(context, nodes, imms)
+    }
+
+    /// The same, where something may be found.
+    fn find_known<'a>(
         &self,
         context: &'a Context,
         nodes: &[NodeNumber],
@@ -43,7 +66,22 @@ impl Seeker {
         }
     }
 
+    /// Whether some entry of a record is sought. Its nodes are looked at first, which takes less
+    /// time.
+    pub fn finds(&self, context: &Context, snapshot: &Snapshot) -> bool
+        requires { IsIn context.now snapshot.now }
+        ensures { KnowsAll context.now self.now → result
+            ≡ is_some (value_sought (sought self.now) (flat (meaning context.now snapshot.now))) }
+    {
+        context.has_each_once();
+        if self.last_node(context, &snapshot.nodes) != NodeNumber::ROOT {
+            return true;
+        }
+        self.last_immediate(context, &snapshot.imms).is_some()
+    }
+
     /// The place of the last immediate that is sought.
+    #[inline]
     fn last_immediate(&self, context: &Context, imms: &[Immediate]) -> Option<usize>
         requires { All (λ imm. imm.attribute.0 < length context.now.attributes) imms.now }
         ensures within { IfSome result (λ place. place < length imms.now) }
@@ -54,13 +92,13 @@ impl Seeker {
         if self.is_unnamed() {
             return None;
         }
-        let mut last = None;
-        for (place, imm) in imms.iter().enumerate() {
+        for place in (0..imms.len()).rev() {
+            let imm = &imms[place];
             if self.seeks(context, imm.attribute, &imm.value) {
-                last = Some(place);
+                return Some(place);
             }
         }
-        last
+        None
     }
 
     /// The node whose entry is the last one on the nodes' paths that is sought, or the root.

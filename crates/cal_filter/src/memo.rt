@@ -1,5 +1,5 @@
-ghost use Rattle.std.specs.Prelude.{◌≡◌, ◌+◌, ◌≤◌, [], ◌∷◌, ◌++◌, length, slice_index_or};
-ghost use Rattle.std.specs.Prelude.{OnOk, OnErr};
+ghost use Rattle.std.specs.Prelude.{◌≡◌, ℕ, ◌+◌, ◌≤◌, [], ◌∷◌, ◌++◌, length, slice_index_or};
+ghost use Rattle.std.specs.Prelude.{IsTrue, OnOk, OnErr};
 ghost use Rattle.cal_filter.specs.Memo.{with_roots};
 
 use cal_context::NodeNumber;
@@ -45,6 +45,15 @@ impl NodeMemo {
     {
         let _ = &self.nodes;
         self.count
+    }
+
+    /// Whether it is the root for each node.
+    pub fn is_none(&self) -> bool
+        ensures { IsTrue result → (n : ℕ)
+            → slice_index_or self.now n (record { 0 = 0 }) ≡ record { 0 = 0 } }
+    {
+        let _ = self.count;
+        self.nodes.is_empty()
     }
 
     /// What is kept of a node, or else the root.

@@ -69,7 +69,8 @@ pub(crate) fn fill_numbers(
 }
 
 // A number above the limit is none, so that no record makes a sum too large.
-fn number_found(seeker: &Seeker, context: &Context, snapshot: &Snapshot) -> Option<Num>
+#[inline(always)]
+pub(crate) fn number_found(seeker: &Seeker, context: &Context, snapshot: &Snapshot) -> Option<Num>
     requires { IsIn context.now snapshot.now }
     ensures small { ForSome result IsSmall }
     ensures found { KnowsAll context.now seeker.now
@@ -82,6 +83,7 @@ fn number_found(seeker: &Seeker, context: &Context, snapshot: &Snapshot) -> Opti
     }
 }
 
+#[inline(always)]
 fn small_number(value: &Variant) -> Option<Num>
     ensures small { ForSome result IsSmall }
     ensures number { IsSmallValue value.now → result ≡ number_in_value value.now }

@@ -18,6 +18,7 @@ pub(crate) struct Operator {
 }
 
 /// What an operator over numbers gives of the last numbers of its names, within its limit.
+#[inline(always)]
 pub(crate) fn let_number(operator: Operator, numbers: &[Option<Num>]) -> Option<Num>
     requires small { All (λ number. ForSome number IsSmall) numbers.now }
     requires few { length numbers.now ≤ 16 }

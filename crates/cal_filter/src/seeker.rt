@@ -1,6 +1,7 @@
 ghost use Rattle.std.specs.Prelude.{◌≡◌, ◌<◌, false, length, IsTrue, OnOk};
 ghost use Rattle.cal_context.specs.Tree.{Tree, attribute_at};
 ghost use Rattle.cal_context.specs.declared.numbers.AttributeNumber.{AttributeNumber as AttributeNumberOf};
+ghost use Rattle.cal_context.specs.declared.numbers.NodeNumber.{NodeNumber as NodeNumberOf};
 ghost use Rattle.cal_filter.specs.Known.{IsNearest, Knows, KnowsAll, KnowsAttributes, named_at};
 ghost use Rattle.cal_filter.specs.Known.{nearest_at, sought};
 ghost use Rattle.cal_filter.specs.Sought.{any_of, number_of, seeks as is_sought, whole_of};
@@ -146,6 +147,16 @@ impl Seeker {
         ensures { IsTrue result → (a : AttributeNumberOf) → named_at self.now a ≡ false }
     {
         self.named.is_none()
+    }
+
+    /// Whether no attribute that is known has the name, and no node a sought entry on its path.
+    pub(crate) fn sees_nothing(&self) -> bool
+        ensures unnamed { IsTrue result
+            → (a : AttributeNumberOf) → named_at self.now a ≡ false }
+        ensures nowhere { IsTrue result
+            → (n : NodeNumberOf) → nearest_at self.now n ≡ record { 0 = 0 } }
+    {
+        self.named.is_none() && self.nearest.is_none()
     }
 
     /// The nearest node at or above a node that is known.

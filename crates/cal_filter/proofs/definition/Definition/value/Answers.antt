@@ -1,4 +1,4 @@
-use Rattle.std.proofs.Common.{◌≡◌, ap, map, subst, sym, ◌∙◌, option_map, option_and_then, slice_get}
+use Rattle.std.proofs.Common.{◌≡◌, ap, map, refl, subst, sym, ◌∙◌, option_map, option_and_then, slice_get}
 use Rattle.std.specs.List.{All, filter_map}
 use Rattle.cal_context.specs.Snapshots.{meaning}
 use Rattle.cal_ql.specs.declared.query.Let.{Let}
@@ -9,6 +9,7 @@ use Rattle.cal_filter.specs.Named.{HasSmallNumbers}
 use Rattle.cal_filter.specs.Numbers.{value_of_number}
 use Rattle.cal_filter.specs.Ready.{IsReadyDefinition}
 use Rattle.cal_filter.specs.Sought.{number_sought, value_sought}
+use Rattle.cal_filter.specs.declared.seeker.Seeker.{Seeker}
 use Rattle.cal_filter.proofs.OperandLemmas.{first_is, number_is}
 use Rattle.cal_filter.proofs.ReadyLemmas.{weaker}
 use Rattle.cal_filter.proofs.definition.Definition.value.Goals as goal
@@ -31,21 +32,17 @@ returns-in-First c =
     ∙ first_is t l d r ready.defined c.in-First.is)
     c.first_found.ensures
 
-pub returns-in_ok-fill_numbers-in_default : goal.returns-in_ok-fill_numbers-in_default
-returns-in_ok-fill_numbers-in_default c =
+pub returns-in_default : goal.returns-in_default
+returns-in_default c =
     let t = c.args.context.now in
     let r = meaning t c.args.snapshot.now in
     let d = c.args.self.now in
-    let numbers = c.deref-in_default-2.result.now in
+    let numbers = map (λ (s : Seeker). number_sought (sought s) (flat r)) d.seekers.items in
     weaker
-    (λ v. v ≡ option_map value_of_number
+    (λ v. All (KnowsAll t) d.seekers.items → HasSmallNumbers r → v ≡ option_map value_of_number
     (option_and_then limited (operation d.operator.op d.operator.n numbers)))
     (λ v. (l : Let) → IsReadyDefinition t l d → HasSmallNumbers r → v ≡ let_value l r)
-    c.result.result
+    c.value_of_numbers.result
     (λ v h l ready small.
-    let knows = subst (All (KnowsAll t)) (sym c.deref-in_default.ensures.value) ready.knows in
-    let found = c.deref-in_default-2.ensures.value
-    ∙ c.in_ok-fill_numbers-in_default.ensures.found knows small
-    ∙ ap (map (λ s. number_sought (sought s) (flat r))) c.deref-in_default.ensures.value in
-    h ∙ number_is t l d r numbers ready.defined c.in_default.not-First found)
-    c.result.ensures
+    h ready.knows small ∙ number_is t l d r numbers ready.defined c.in_default.not-First refl)
+    c.value_of_numbers.ensures

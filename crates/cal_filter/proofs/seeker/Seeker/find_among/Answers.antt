@@ -1,26 +1,19 @@
-use Rattle.std.proofs.Common.{ap, sym, ◌∙◌, Some, option_map}
-use Rattle.std.proofs.lemmas.Option.{slice_get-get_or}
-use Rattle.cal_context.specs.Snapshots.{entry_of}
-use Rattle.cal_context.specs.declared.snapshot.Immediate.{Immediate}
-use Rattle.cal_filter.specs.Known.{sought}
-use Rattle.cal_filter.proofs.Finding.{found_immediate, found_node}
+use Rattle.std.proofs.Common.{sym, subst, arith, get_or}
+use Rattle.cal_filter.specs.Known.{IsNearest, sought}
+use Rattle.cal_filter.proofs.Finding.{found_nothing, nodes_none, unnamed_none}
 use Rattle.cal_filter.proofs.seeker.Seeker.find_among.Goals as goal
 
-pub returns-in-Some : goal.returns-in-Some
-returns-in-Some c = λ k.
+pub returns-then-sees_nothing : goal.returns-then-sees_nothing
+returns-then-sees_nothing c = λ k.
     let t = c.args.context.now in
-    let s = sought c.args.self.now in
-    let imms = c.args.imms.now in
-    let at = slice_get-get_or imms c.in-Some.place c.index-imms-place.result c.in-Some.ensures.within
-    ∙ ap Some (sym c.index-imms-place.is) in
-    ap (λ (i : Immediate). Some i.value) (sym c.index-imms-place.is)
-    ∙ sym (found_immediate t s c.args.nodes.now imms c.index-imms-place.result
-    (c.in-Some.ensures.last k ∙ ap (option_map (entry_of t)) at))
-
-pub returns-in-None : goal.returns-in-None
-returns-in-None c = λ k.
-    let t = c.args.context.now in
-    let s = sought c.args.self.now in
-    c.own_value.ensures (c.last_node.ensures.within k)
-    ∙ sym (found_node t s c.args.nodes.now c.args.imms.now c.last_node.result
-    (c.in-None.ensures.last k) (c.last_node.ensures.last k))
+    let s = c.args.self.now in
+    let nodes = c.args.nodes.now in
+    sym (found_nothing t (sought s) nodes c.args.imms.now
+    (unnamed_none t s k (c.sees_nothing.ensures.unnamed c.if-sees_nothing.true)
+    c.args.imms.now c.requires.imms)
+    (nodes_none t (sought s) c.has_each_once.ensures nodes
+    (λ i n short.
+    subst (IsNearest t (sought s) (get_or nodes i n))
+    (c.sees_nothing.ensures.nowhere c.if-sees_nothing.true (get_or nodes i n))
+    (k.knows.nodes (get_or nodes i n)
+    (omega (arith, (c.requires.nodes i n short).within, k.nodes))))))

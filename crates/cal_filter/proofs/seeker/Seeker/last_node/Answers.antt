@@ -1,24 +1,14 @@
-use Rattle.std.proofs.Common.{◌≡◌, ◌<◌, Bool, true, false, ap, sym, subst, ◌∙◌, arith, length, None}
+use Rattle.std.proofs.Common.{◌<◌, ap, sym, subst, ◌∙◌, arith, length, None}
 use Rattle.std.proofs.Common.{get_or}
 use Rattle.std.specs.List.{last_or}
-use Rattle.std.specs.Prelude.{not, ◌==◌}
-use Rattle.std.proofs.lemmas.Bool.Decides.{nat_tests}
 use Rattle.cal_context.specs.Tree.{path_at}
 use Rattle.cal_context.specs.declared.numbers.NodeNumber.{NodeNumber}
 use Rattle.cal_filter.specs.Known.{IsNearest, KnowsAll, sought}
-use Rattle.cal_filter.proofs.Finding.{node_none, node_some}
+use Rattle.cal_filter.proofs.Finding.{is_root, isnt_root, node_none, node_some}
 use Rattle.cal_filter.proofs.Seeking.{root}
 use Rattle.cal_filter.proofs.Zips.{get_or-inside}
 use Rattle.cal_filter.proofs.seeker.Seeker.last_node.Goals as goal
 use Rattle.cal_filter.proofs.seeker.Seeker.last_node.Goals.{then-ne, else-ne}
-
--- `!=` tells whether a number is the root's
-is_root : (n : NodeNumber) (b : Bool) → b ≡ not (n.0 == 0) → b ≡ false → n ≡ root
-is_root n b is isnt = let e : n.0 ≡ 0 = grind (arith, nat_tests) in λ i. record { 0 = e i }
-
-isnt_root : (n : NodeNumber) (b : Bool) → b ≡ not (n.0 == 0) → b ≡ true → n ≡ root → ⊥
-isnt_root n b is ne same =
-    let e : n.0 ≡ 0 = ap (λ (m : NodeNumber). m.0) same in grind (arith, nat_tests)
 
 pub loop-node-preserved : goal.loop-node-preserved
 loop-node-preserved c =
