@@ -1,3 +1,2 @@
-mod DecimalParts
 mod Turns
 pub mod EachLine

@@ -2,17 +2,17 @@ ghost use Rattle.std.specs.Prelude.{◌≡◌, ◌<◌, ◌≤◌, [], ◌∷◌
 ghost use Rattle.cal_gen.specs.Draws.{drawn, next};
 ghost use Rattle.cal_gen.specs.Generated.{generated, line_from, lines_from, look_line};
 
-use crate::digits::push_digits;
 use crate::draws::Draws;
 use crate::moves::Move;
 use cal_value::{OutOfMemory, Text};
+use itoa::Buffer;
 use std::alloc::Global;
 
 const HEADER: &str = "attribute function string 276\nattribute iteration int 21\n\
     channel profile event,timer,aggregate\n";
 
 /// The most bytes that a line has, with its newline.
-const MOST_OF_A_LINE: usize = 18;
+const MOST_OF_A_LINE: usize = 19;
 
 /// The script of a seed, with so many threads of so many lines. It takes time in their product. The
 /// room for the longest one is taken at once: a system gives what isn't written of it no memory.
@@ -122,23 +122,21 @@ fn begin_line(value: u32) -> &'static str
     }
 }
 
-/// Appends a line of a word and a number that is drawn from so many, ten thousand at most.
-#[inline(always)]
+/// Appends a line of a word and a number that is drawn from so many.
 fn push_number(
     text: &mut Text,
     draws: &mut Draws,
     front: &str,
     count: u32,
 ) -> Result<(), OutOfMemory>
-    requires some { 0 < count }
-    requires few { count ≤ 10000 }
+    requires { 0 < count }
     ensures text { OnOk result (text.new
         ≡ text.old ++ ((front.now ++ decimal (drawn count (next draws.old.x))) ++ 10 ∷ [])) }
     ensures draws { draws.new.x ≡ next draws.old.x }
 {
     let number = draws.draw(count);
     text.push_str(front)?;
-    push_digits(text, number)?;
+    text.push_str(Buffer::new().format(number))?;
     text.push('\n')
 }
 

@@ -5,7 +5,6 @@
 //! how well the draws are mixed.
 #![tactic(auto)]
 
-mod digits;
 mod draws;
 mod generating;
 mod moves;
