@@ -2,7 +2,6 @@ pub mod EscapeLemmas
 mod LineLemmas
 pub mod PlaceLemmas
 pub mod PlacingLemmas
-pub mod DigitLemmas
 pub mod AfterLemmas
 pub mod StreamLemmas
 pub mod BuiltInLemmas

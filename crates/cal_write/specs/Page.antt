@@ -1,10 +1,6 @@
-use Rattle.std.specs.Prelude.{ℕ, ◌+◌, ◌/◌, ◌%◌, ◌≤◌, List, [], ◌∷◌, IsUtf8, length, take}
+use Rattle.std.specs.Prelude.{ℕ, ◌≤◌, List, IsUtf8, length, take}
 
 -- the first bytes of a block are a text
 pub record IsPage (used : ℕ) (bytes : List ℕ) : Type 0 where
   pub within : used ≤ length bytes
   pub utf8 : IsUtf8 (take used bytes)
-
--- two digits
-abbrev pub pair : ℕ → List ℕ
-pair n = (48 + n / 10) ∷ (48 + n % 10) ∷ []

@@ -8,7 +8,6 @@
 
 mod built_in;
 mod described;
-mod digits;
 mod id_fields;
 mod interning;
 mod lines;

@@ -2,8 +2,8 @@ ghost use Rattle.std.specs.Prelude.{◌≡◌, ◌+◌, ◌≤◌, false, [], �
 ghost use Rattle.std.specs.Prelude.{codes, decimal, IsTrue, OnOk};
 ghost use Rattle.cal_line.specs.Escapes.{escaped, escaped_byte};
 
-use crate::digits::{put_digit, put_number};
 use cal_value::OutOfMemory;
+use itoa::Buffer;
 
 // how much room is made beyond what is wanted
 const MORE: usize = 4096;
@@ -83,8 +83,8 @@ pub(crate) fn put_equals(bytes: &mut [u8], at: usize, number: u32) -> usize
     ensures written { take result bytes.new ≡ take at bytes.old ++ codes "=" ++ decimal number }
 {
     bytes[at] = b'=';
-    if number < 10 {
-        return put_digit(bytes, at + 1, number);
-    }
-    put_number(bytes, at + 1, number)
+    let mut digits = Buffer::new();
+    let text = digits.format(number).as_bytes();
+    put_bytes(bytes, at + 1, text);
+    at + 1 + text.len()
 }
