@@ -15,6 +15,7 @@ mod finding;
 mod found;
 mod lawful;
 mod laws;
+mod likely;
 mod line;
 mod lines;
 mod meeting;
