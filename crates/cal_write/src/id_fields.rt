@@ -50,7 +50,7 @@ impl IdField {
     fn set(&mut self, ids: &[u32]) -> Result<(), OutOfMemory>
         ensures { OnOk result (self.new ≡ ids.now) }
     {
-        if self.ids.as_slice() == ids {
+        if are_same(self.ids.as_slice(), ids) {
             let _ = &self.text;
             return Ok(());
         }
@@ -113,4 +113,20 @@ fn fill(old: &mut Vec<u32>, text: &mut Page, ids: &[u32]) -> Result<(), OutOfMem
     write_ids(text, ",attr", ids)?;
     old.extend_from_slice(ids)?;
     Ok(())
+}
+
+/// Whether two lists are the same. Most have a few ids, which are compared here one by one.
+#[inline(always)]
+fn are_same(ids: &[u32], others: &[u32]) -> bool
+    ensures { IsTrue result → ids.now ≡ others.now }
+{
+    if ids.len() != others.len() {
+        return false;
+    }
+    for place in 0..ids.len() {
+        if ids[place] != others[place] {
+            return false;
+        }
+    }
+    true
 }

@@ -6,7 +6,7 @@ use cal_value::OutOfMemory;
 use itoa::Buffer;
 
 // how much room is made beyond what is wanted
-const MORE: usize = 4096;
+const MORE: usize = 1024;
 
 /// Makes room behind the first `used` bytes, and leaves these.
 #[inline(always)]

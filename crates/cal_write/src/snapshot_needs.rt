@@ -1,4 +1,5 @@
 ghost use Rattle.std.specs.Prelude.{◌≡◌, ◌==◌, ◌<◌, ◌++◌, ◌&&◌, length, option_to_list, OnOk};
+ghost use Rattle.std.specs.Prelude.{◌≤◌, take};
 ghost use Rattle.std.specs.List.{All};
 ghost use Rattle.cal_context.specs.Snapshots.{IsBelowRoot};
 ghost use Rattle.cal_write.specs.SnapshotNeeds.{NeedsImmediates, NeedsNodes};
@@ -26,7 +27,8 @@ pub(crate) fn need_nodes(
     Ok(())
 }
 
-/// Writes what a record's immediates need, and puts the ids of their attributes' nodes into `ids`.
+/// Writes what a record's immediates need, and puts the ids of their attributes' nodes into `ids`,
+/// in front of what may be left there.
 #[inline(always)]
 pub(crate) fn need_immediates(
     writer: &mut NodeWriter,
@@ -35,8 +37,9 @@ pub(crate) fn need_immediates(
     ids: &mut Vec<u32>,
 ) -> Result<(), OutOfMemory>
     requires { All (λ i. i.attribute.0 < length context.now.attributes) imms.now }
-    ensures { OnOk result
-        (NeedsImmediates context.now writer.old writer.new imms.now ids.new.items) }
+    ensures needs { OnOk result (NeedsImmediates context.now writer.old writer.new imms.now
+        (take (length imms.now) ids.new.items)) }
+    ensures room { OnOk result (length imms.now ≤ length ids.new.items) }
 {
     make_long(ids, imms.len())?;
     for place in 0..imms.len() {
@@ -45,12 +48,12 @@ pub(crate) fn need_immediates(
     Ok(())
 }
 
-/// Makes a list so long.
+/// Makes a list so long, if it isn't.
 #[inline(always)]
 fn make_long(list: &mut Vec<u32>, len: usize) -> Result<(), OutOfMemory>
-    ensures { OnOk result (length list.new.items ≡ len) }
+    ensures { OnOk result (len ≤ length list.new.items) }
 {
-    if list.len() != len {
+    if list.len() < len {
         list.resize(len, 0)?;
     }
     Ok(())

@@ -87,7 +87,7 @@ impl Writer {
             &mut self.fields,
             sort,
             &self.refs,
-            &self.columns,
+            &self.columns[..snapshot.imms.len()],
             &snapshot.imms,
         )?;
         Ok(())

@@ -1,4 +1,4 @@
-use Rattle.std.proofs.Common.{ℕ, ◌+◌, ◌<◌, List, ap, arith, get_or, length, sym, subst, take, ◌∙◌}
+use Rattle.std.proofs.Common.{◌≡◌, ℕ, ◌+◌, ◌<◌, List, ap, arith, get_or, length, sym, subst, take}
 use Rattle.std.proofs.lemmas.List.{length-set, take_all, take_more_set}
 use Rattle.cal_context.specs.declared.snapshot.Immediate.{Immediate}
 use Rattle.cal_write.specs.SnapshotNeeds.{NeedsImmediates}
@@ -7,7 +7,7 @@ use Rattle.cal_write.proofs.snapshot_needs.need_immediates.Goals as goal
 
 pub loop-place-init : goal.loop-place-init
 loop-place-init c = record {
-  long = c.in_ok-make_long.ensures;
+  room = c.in_ok-make_long.ensures;
   needs = no-immediates c.args.context.now c.args.writer.now;
 }
 
@@ -17,9 +17,9 @@ loop-place-preserved c =
     let ids = c.loop-place.ids.items in
     let id = c.in_ok-ids.field-0 in
     let within : place < length ids =
-    omega (arith, c.loop-place.invariant.long, c.loop-place-test.true) in
+    omega (arith, c.loop-place.invariant.room, c.loop-place-test.true) in
     record {
-      long = length-set ids place id ∙ c.loop-place.invariant.long;
+      room = omega (arith, length-set ids place id, c.loop-place.invariant.room);
       needs = subst (λ (l : List ℕ). NeedsImmediates c.args.context.now c.args.writer.now
           c.need_attribute.new.self (take (place + 1) c.args.imms.now) l)
           (sym (take_more_set ids place id within))
@@ -30,13 +30,12 @@ loop-place-preserved c =
           c.loop-place.invariant.needs c.in_ok-ids.ensures.needs);
     }
 
-pub returns : goal.returns
-returns c =
-    let place = c.loop-place.place in
-    let ids = c.loop-place.ids.items in
+pub returns-clause-needs : goal.returns-clause-needs
+returns-clause-needs c =
+    let imms = c.args.imms.now in
+    let all : c.loop-place.place ≡ length imms = omega arith in
     subst (λ (l : List Immediate). NeedsImmediates c.args.context.now c.args.writer.now
-    c.loop-place.writer l ids) (take_all place c.args.imms.now c.loop-place-test.false)
-    (subst (λ (l : List ℕ). NeedsImmediates c.args.context.now c.args.writer.now
-    c.loop-place.writer (take place c.args.imms.now) l)
-    (take_all place ids (omega (arith, c.loop-place.invariant.long, c.loop-place-test.false)))
-    c.loop-place.invariant.needs)
+    c.loop-place.writer l (take (length imms) c.loop-place.ids.items))
+    (take_all (length imms) imms (omega arith))
+    (subst (λ (n : ℕ). NeedsImmediates c.args.context.now c.args.writer.now c.loop-place.writer
+    (take n imms) (take n c.loop-place.ids.items)) all c.loop-place.invariant.needs)
