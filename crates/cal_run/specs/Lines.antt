@@ -8,6 +8,7 @@ use Rattle.cal_script.specs.declared.script.Channel.{Channel}
 use Rattle.cal_script.specs.declared.script.Line as lines
 use Rattle.cal_script.specs.declared.script.Line.TheVariants as line
 use Rattle.cal_script.specs.declared.script.Script.{Script}
+use Rattle.cal_script.specs.Ticks.{number_of_ticks}
 use Rattle.cal_value.specs.Props.{has_process_scope, is_as_value, is_nested, skips_events}
 use Rattle.cal_value.specs.declared.attribute.Attribute.{Attribute}
 use Rattle.cal_value.specs.declared.variant.Variant.{Variant}
@@ -67,5 +68,5 @@ module _ (script : Script) where
 
 -- The script clock behind a line: `tick n` adds n to it, and it stops at the greatest number.
 abbrev pub clock_after : ℕ → lines.Line → ℕ
-clock_after clock (line.Tick n) = min (clock + n) 18446744073709551615
+clock_after clock (line.Tick n) = min (clock + number_of_ticks n) 18446744073709551615
 clock_after clock _ = clock

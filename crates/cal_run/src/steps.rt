@@ -97,7 +97,7 @@ pub(crate) fn clock_after(clock: u64, line: Line) -> u64
     ensures { result ≡ clock_after clock line }
 {
     match line {
-        Line::Tick { n } => clock.saturating_add(n),
+        Line::Tick { n } => clock.saturating_add(n.number()),
         _ => clock,
     }
 }

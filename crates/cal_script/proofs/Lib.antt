@@ -8,3 +8,5 @@ pub mod Plain
 pub mod Kept
 pub mod NewlineCuts
 pub mod Naming
+pub mod Limiting
+pub mod Halves

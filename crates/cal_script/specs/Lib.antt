@@ -1,5 +1,6 @@
 pub mod Kinds
 pub mod Lines
+pub mod Ticks
 pub mod Rests
 pub mod Names
 pub mod State

@@ -1,5 +1,6 @@
 -- What the reader of a script knows of the lines so far (private).
 use Rattle.std.specs.Prelude.{◌≡◌, ◌++◌, option_to_list, ◌≤◌, Bool, List, [], length, Option, Some, None, if◌then◌else◌}
+use Rattle.std.specs.Prelude.{nat_le, ◌&&◌}
 use Rattle.std.specs.Prelude.{IsTrue}
 use Rattle.std.specs.List.{All}
 use Rattle.cal_value.specs.declared.attribute.Attribute.{Attribute}
@@ -58,6 +59,10 @@ pub record IsNear (tally : Tally) : Type 0 where
   pub shared : tally.shared ≤ 134218244
   pub own : tally.own ≤ 134218244
   pub most : tally.most ≤ 134217728
+
+-- the limits that a line without a node may pass
+abbrev pub counts_fit : Tally → Bool
+counts_fit tally = nat_le tally.lines 1048576 && nat_le tally.process_lines 65536
 
 -- A header line leaves the lines of threads.
 pub record SameLines (old new : Reader) : Type 0 where

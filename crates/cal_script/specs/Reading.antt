@@ -19,6 +19,7 @@ use Rattle.cal_script.specs.Lines.{lines_of, words_of, is_skipped, no_word, one_
 use Rattle.cal_script.specs.Parts.{attribute_names, attribute_named, attribute_of, channel_named, channel_of, is_among, number_said, value_said, with_name}
 use Rattle.cal_script.specs.State.{State, no_lines, next_thread, opening, script_of, with_line, with_opening}
 use Rattle.cal_script.specs.Limits.{fits}
+use Rattle.cal_script.specs.Ticks.{ticks_of}
 
 -- a header line stands before the first `thread` line, and a line of a thread behind one
 abbrev pub in_header : {A : Type 0} → State → Result A ScriptKind → Result A ScriptKind
@@ -154,7 +155,7 @@ abbrev pub tick_after : State → List (List ℕ) → Result State ScriptKind
 tick_after state words = in_thread state (do
   word ← ok_or (one_word words) WrongArity
   n ← number_said word
-  Ok (with_line (line.Tick n) false 0 state))
+  Ok (with_line (line.Tick (ticks_of n)) false 0 state))
 
 -- a line goes by its first word
 abbrev pub words_after : State → List (List ℕ) → Result State ScriptKind

@@ -12,4 +12,4 @@ value_in kept place = slice_index_or kept place (variant.Bool false)
 -- the value that a line says
 abbrev pub value_of_form : forms.SaidForm → Variant
 value_of_form (form.Text text hash) = variant.Text text.now
-value_of_form (form.Value value) = value
+value_of_form (form.Value value hash) = value

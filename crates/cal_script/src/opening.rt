@@ -32,14 +32,19 @@ pub(crate) struct Opening<'a> {
 impl Reader {
     #[inline(always)]
     #[tactic(auto, using(crate::proofs::Naming::opening_goes))]
-    fn opening_of<'a>(&self, alloc: Global, rest: Option<&'a str>) -> Result<Opening<'a>, LineEnd>
+    fn opening_of<'a>(
+        &self,
+        alloc: Global,
+        likely: usize,
+        rest: Option<&'a str>,
+    ) -> Result<Opening<'a>, LineEnd>
         requires kept { IsReading self.now }
         requires fits { fits (state_of self.now) ≡ true }
         ensures said { Gives (λ opening. opening) result
             (opening_said (state_of self.now) (words_behind rest.entry)) }
         ensures small { IfOk result (λ opening. opening.words ≤ 516) }
     {
-        let Naming { named, rest } = match self.naming(rest) {
+        let Naming { named, rest } = match self.naming(likely, rest) {
             Ok(naming) => naming,
             Err(kind) => return Err(LineEnd::Bad(kind)),
         };
@@ -85,7 +90,7 @@ impl Reader {
             process,
             words,
             value,
-        } = self.opening_of(alloc, rest)?;
+        } = self.opening_of(alloc, self.recent, rest)?;
         self.recent = attr as usize;
         let value = self.add_value(alloc, value)?;
         self.add_line(Line::Begin { attr, value }, process, words)?;
@@ -110,8 +115,8 @@ impl Reader {
             process,
             words,
             value,
-        } = self.opening_of(alloc, rest)?;
-        self.recent = attr as usize;
+        } = self.opening_of(alloc, self.recent_set, rest)?;
+        self.recent_set = attr as usize;
         let value = self.add_value(alloc, value)?;
         self.add_line(Line::Set { attr, value }, process, words)?;
         Ok(())

@@ -1,7 +1,8 @@
 ghost use Rattle.std.specs.Prelude.{◌≡◌, ◌+◌, ◌<◌, ◌≤◌, ◌^◌, ◌++◌, ◌∷◌, length, option_to_list, true, IfOk, OnOk, IsTrue};
 ghost use Rattle.cal_script.specs.Limits.{fits, thread_count};
 ghost use Rattle.cal_script.specs.Lines.{words_of};
-ghost use Rattle.cal_script.specs.Reader.{HasNames, IsNear, IsReading, IsSmall, last_thread, state_of};
+ghost use Rattle.cal_script.specs.Reader.{HasNames, IsNear, IsReading, IsSmall, counts_fit};
+ghost use Rattle.cal_script.specs.Reader.{last_thread, state_of};
 ghost use Rattle.cal_script.specs.Reading.{line_after, text_after, words_after};
 ghost use Rattle.cal_script.specs.Rests.{bytes_in};
 ghost use Rattle.cal_script.specs.State.{no_lines, script_of, with_line};
@@ -41,8 +42,10 @@ pub struct Reader {
     pub(crate) in_thread: bool,
     pub(crate) lines: Seq<Line>,
     pub(crate) tally: Tally,
-    /// Where the attribute stands that a line named last. The next line likely names it too.
+    /// Where the attribute stands that a `begin` or `end` line named last, and a `set` line. The
+    /// next such line likely names it too.
     pub(crate) recent: usize,
+    pub(crate) recent_set: usize,
     /// Where attributes may stand, by their names.
     pub(crate) near: Hints,
 }
@@ -71,6 +74,7 @@ impl Reader {
                 most: 0,
             },
             recent: 0,
+            recent_set: 0,
             near: Hints::new(alloc),
         }
     }
@@ -132,8 +136,8 @@ impl Reader {
         ensures kept { OnOk result (IsReading self.new) }
         ensures fits { OnOk result (fits (state_of self.new) ≡ true) }
     {
-        self.read_words(alloc, line)?;
-        if !self.fits() {
+        let few = self.read_words(alloc, line)?;
+        if !self.still_fits(few) {
             return Err(LineEnd::Bad(ScriptKind::TooMany));
         }
         Ok(())
@@ -162,29 +166,55 @@ impl Reader {
             && tree_words(threads, self.tally.arena()) <= MOST_TREE_WORDS
     }
 
-    /// Reads a line by its words. The most frequent first words are tried first.
-    fn read_words(&mut self, alloc: Global, line: &str) -> Result<(), LineEnd>
+    /// The same, where it may be known that the last line has no node.
+    #[inline(always)]
+    fn still_fits(&self, few: bool) -> bool
+        requires threads { length self.now.earlier < 65 }
+        requires near { IsNear self.now.tally }
+        requires few { few ≡ true → fits (state_of self.now) ≡ counts_fit self.now.tally }
+        ensures { result ≡ fits (state_of self.now) }
+    {
+        if few {
+            return self.tally.lines <= MOST_LINES && self.tally.process_lines <= MOST_PROCESS_LINES;
+        }
+        self.fits()
+    }
+
+    /// Reads a line by its words. The most frequent first words are tried first. It tells whether
+    /// the line is known to have no node.
+    fn read_words(&mut self, alloc: Global, line: &str) -> Result<bool, LineEnd>
         requires kept { IsReading self.old }
         requires fits { fits (state_of self.old) ≡ true }
         ensures said { Gives (λ _. state_of self.new) result
             (words_after (state_of self.old) (words_of line.now)) }
         ensures kept { OnOk result (IsReading self.new) }
         ensures threads { OnOk result (length self.new.earlier < 65) }
+        ensures few { IfOk result (λ few. few ≡ true
+            → fits (state_of self.new) ≡ counts_fit self.new.tally) }
         ensures near { OnOk result (IsNear self.new.tally) }
     {
         if let Some((_, rest)) = behind(line, "begin") {
-            return self.read_begin(alloc, Some(rest));
+            self.read_begin(alloc, Some(rest))?;
+            return Ok(false);
         }
         if let Some((_, rest)) = behind(line, "end") {
-            return self.read_end(Some(rest));
+            self.read_end(Some(rest))?;
+            return Ok(true);
         }
         if line == "snapshot" {
-            return self.read_snapshot(None);
+            self.read_snapshot(None)?;
+            return Ok(true);
         }
         if let Some((_, rest)) = behind(line, "tick") {
-            return self.read_tick(alloc, Some(rest));
+            self.read_tick(alloc, Some(rest))?;
+            return Ok(true);
         }
-        self.read_by_word(alloc, line)
+        if let Some((_, rest)) = behind(line, "set") {
+            self.read_set(alloc, Some(rest))?;
+            return Ok(false);
+        }
+        self.read_by_word(alloc, line)?;
+        Ok(false)
     }
 
     /// Reads a line by its first word, whichever that is.
@@ -254,6 +284,7 @@ impl Reader {
             lines,
             tally: _,
             recent: _,
+            recent_set: _,
             near: _,
         } = self;
         Ok(Script {

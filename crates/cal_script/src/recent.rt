@@ -31,19 +31,19 @@ pub(crate) struct Naming<'a, 'b> {
 
 /// The names of attributes in the lines of threads. The one that a line had last is tried first.
 impl Reader {
-    /// The attribute that a line named last.
+    /// The attribute at a place.
     #[inline(always)]
     #[tactic(auto, using(crate::proofs::Naming::attribute_at, crate::proofs::Naming::named_at))]
-    fn recent(&self) -> Option<Declared<'_>>
+    fn declared_at(&self, place: usize) -> Option<Declared<'_>>
         requires kept { IsReading self.now }
         requires fits { fits (state_of self.now) ≡ true }
         ensures named { IfSome result (λ named. attribute_named self.now.attributes.items
             named.attribute.now.name ≡ Ok (named.place, named.attribute.now)) }
         ensures word { IfSome result (λ named. IsTrue (is_name named.attribute.now.name)) }
     {
-        let attribute = self.attributes.at(self.recent)?;
+        let attribute = self.attributes.at(place)?;
         Some(Declared {
-            place: self.recent as u32,
+            place: place as u32,
             attribute,
         })
     }
@@ -64,11 +64,12 @@ impl Reader {
         })
     }
 
-    /// The attribute that a line names before a value.
+    /// The attribute that a line names before a value, likely the one at a place.
     #[inline(always)]
     #[tactic(auto, using(crate::proofs::Naming::naming_of, crate::proofs::FirstWords::name_and_rest_of))]
     pub(crate) fn naming<'a, 'b>(
         &'a self,
+        likely: usize,
         rest: Option<&'b str>,
     ) -> Result<Naming<'a, 'b>, ScriptKind>
         requires kept { IsReading self.now }
@@ -78,7 +79,7 @@ impl Reader {
         let Some(text) = rest else {
             return Err(ScriptKind::WrongArity);
         };
-        if let Some(named) = self.recent() {
+        if let Some(named) = self.declared_at(likely) {
             if let Some((_, rest)) = behind(text, named.attribute.name.as_str()) {
                 return Ok(Naming { named, rest });
             }
@@ -86,7 +87,7 @@ impl Reader {
         self.other_naming(text)
     }
 
-    /// The same, for another attribute than the one that a line named last.
+    /// The same, for any attribute.
     fn other_naming<'a, 'b>(&'a self, text: &'b str) -> Result<Naming<'a, 'b>, ScriptKind>
         requires kept { IsReading self.now }
         requires fits { fits (state_of self.now) ≡ true }
@@ -112,7 +113,7 @@ impl Reader {
         let Some(text) = rest else {
             return Err(ScriptKind::WrongArity);
         };
-        if let Some(named) = self.recent() {
+        if let Some(named) = self.declared_at(self.recent) {
             if text == named.attribute.name.as_str() {
                 return Ok(named);
             }
@@ -120,7 +121,7 @@ impl Reader {
         self.other_alone(text)
     }
 
-    /// The same, for another attribute than the one that a line named last.
+    /// The same, for any attribute.
     fn other_alone(&self, text: &str) -> Result<Declared<'_>, ScriptKind>
         requires kept { IsReading self.now }
         requires fits { fits (state_of self.now) ≡ true }

@@ -3,6 +3,7 @@ ghost use Rattle.std.specs.Prelude.{IfNone, IfSome};
 ghost use Rattle.cal_script.specs.Lines.{lines_of};
 ghost use Rattle.cal_script.specs.Rests.{bytes_in};
 
+use crate::newline::newline_near;
 use cal_line::{ended_line, next_line};
 
 /// What is left of an input, or a line of it. Where bytes are known to be a text, so are the lines
@@ -62,6 +63,18 @@ impl<'a> Rest<'a> {
 /// The first line of a text, and what stands behind it.
 #[inline(always)]
 fn next_text(text: &str) -> (&str, &str)
+    requires { 0 < length text.now }
+    ensures lines { lines_of text.now ≡ result.0.now ∷ lines_of result.1.now }
+    ensures shorter { length result.1.now < length text.now }
+{
+    if let Some(end) = newline_near(text.as_bytes()) {
+        return cut(text, end);
+    }
+    far_text(text)
+}
+
+/// The same, where the line may be long.
+fn far_text(text: &str) -> (&str, &str)
     requires { 0 < length text.now }
     ensures lines { lines_of text.now ≡ result.0.now ∷ lines_of result.1.now }
     ensures shorter { length result.1.now < length text.now }

@@ -13,9 +13,9 @@ pub(crate) struct Said<'a> {
 
 #[derive(Debug, Drop)]
 pub(crate) enum SaidForm<'a> {
-    /// A text, and what it is looked for by.
+    /// Each with what it is looked for by.
     Text { text: &'a str, hash: usize },
-    Value(Variant),
+    Value { value: Variant, hash: usize },
 }
 
 impl<'a> Model for Said<'a> {
@@ -34,7 +34,7 @@ impl<'a> Said<'a> {
     {
         match self.form {
             SaidForm::Text { text, hash: _ } => Ok(Variant::Text(Text::from_str(alloc, text)?)),
-            SaidForm::Value(value) => Ok(value),
+            SaidForm::Value { value, hash: _ } => Ok(value),
         }
     }
 }

@@ -1,4 +1,4 @@
-use crate::ValueList;
+use crate::{Ticks, ValueList};
 use cal_value::{Attribute, Entry, Seq, Text};
 
 /// What a script declares and what its threads do.
@@ -62,5 +62,5 @@ pub enum Line {
     Set { attr: u32, value: u32 },
     Snapshot,
     Flush { channel: u32 },
-    Tick { n: u64 },
+    Tick { n: Ticks },
 }

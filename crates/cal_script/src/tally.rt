@@ -85,7 +85,7 @@ pub(crate) fn made_words(attribute: &Attribute, value: &Said<'_>) -> u64
     }
     match &value.form {
         SaidForm::Text { text, hash: _ } => text_node_length(text),
-        SaidForm::Value(value) => node_length(value),
+        SaidForm::Value { value, hash: _ } => node_length(value),
     }
 }
 

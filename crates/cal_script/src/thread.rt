@@ -2,7 +2,7 @@ ghost use Rattle.std.specs.Prelude.{◌≡◌, ◌<◌, length, true, OnOk};
 ghost use Rattle.std.specs.Option.{ok_or, option_map};
 ghost use Rattle.cal_script.specs.Limits.{fits};
 ghost use Rattle.cal_script.specs.Parts.{channel_named};
-ghost use Rattle.cal_script.specs.Reader.{IsNear, IsReading, ended, state_of};
+ghost use Rattle.cal_script.specs.Reader.{IsNear, IsReading, counts_fit, ended, state_of};
 ghost use Rattle.cal_script.specs.Reading.{end_after, flush_after, snapshot_after};
 ghost use Rattle.cal_script.specs.Reading.{thread_after, tick_after};
 ghost use Rattle.cal_script.specs.Steps.{Gives, words_behind};
@@ -13,7 +13,7 @@ use crate::reader::Reader;
 use crate::recent::Declared;
 use crate::value::read_number;
 use crate::words::one_word;
-use crate::{Channel, Line, ScriptKind};
+use crate::{Channel, Line, ScriptKind, Ticks};
 use cal_value::{OutOfMemory, Seq};
 use std::alloc::Global;
 use std::mem;
@@ -53,7 +53,7 @@ impl Reader {
     }
 
     #[inline(always)]
-    #[tactic(auto, using(crate::proofs::Naming::end_by_name))]
+    #[tactic(auto, using(crate::proofs::Naming::end_by_name, crate::proofs::Limiting::fits_again))]
     pub(crate) fn read_end(&mut self, rest: Option<&str>) -> Result<(), LineEnd>
         requires kept { IsReading self.old }
         requires fits { fits (state_of self.old) ≡ true }
@@ -61,6 +61,7 @@ impl Reader {
             (end_after (state_of self.old) (words_behind rest.entry)) }
         ensures kept { OnOk result (IsReading self.new) }
         ensures earlier { OnOk result (self.new.earlier ≡ self.old.earlier) }
+        ensures few { OnOk result (fits (state_of self.new) ≡ counts_fit self.new.tally) }
         ensures near { OnOk result (IsNear self.new.tally) }
     {
         if !self.in_thread {
@@ -77,7 +78,7 @@ impl Reader {
         Ok(())
     }
 
-    #[tactic(auto, using(crate::proofs::Cuts::no_word_more))]
+    #[tactic(auto, using(crate::proofs::Cuts::no_word_more, crate::proofs::Limiting::fits_again))]
     pub(crate) fn read_snapshot(&mut self, rest: Option<&str>) -> Result<(), LineEnd>
         requires kept { IsReading self.old }
         requires fits { fits (state_of self.old) ≡ true }
@@ -85,6 +86,7 @@ impl Reader {
             (snapshot_after (state_of self.old) (words_behind rest.entry)) }
         ensures kept { OnOk result (IsReading self.new) }
         ensures earlier { OnOk result (self.new.earlier ≡ self.old.earlier) }
+        ensures few { OnOk result (fits (state_of self.new) ≡ counts_fit self.new.tally) }
         ensures near { OnOk result (IsNear self.new.tally) }
     {
         if !self.in_thread {
@@ -133,6 +135,7 @@ impl Reader {
         Ok(())
     }
 
+    #[tactic(auto, using(crate::proofs::Limiting::fits_again))]
     pub(crate) fn read_tick(&mut self, alloc: Global, rest: Option<&str>) -> Result<(), LineEnd>
         requires kept { IsReading self.old }
         requires fits { fits (state_of self.old) ≡ true }
@@ -140,6 +143,7 @@ impl Reader {
             (tick_after (state_of self.old) (words_behind rest.entry)) }
         ensures kept { OnOk result (IsReading self.new) }
         ensures earlier { OnOk result (self.new.earlier ≡ self.old.earlier) }
+        ensures few { OnOk result (fits (state_of self.new) ≡ counts_fit self.new.tally) }
         ensures near { OnOk result (IsNear self.new.tally) }
     {
         if !self.in_thread {
@@ -148,7 +152,7 @@ impl Reader {
         let Some(word) = one_word(rest) else {
             return Err(LineEnd::Bad(ScriptKind::WrongArity));
         };
-        let n = read_number(alloc, word)?;
+        let n = Ticks::new(read_number(alloc, word)?);
         self.add_line(Line::Tick { n }, false, 0)?;
         Ok(())
     }

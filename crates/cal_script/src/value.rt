@@ -77,7 +77,7 @@ fn is_allowed(value: &Variant) -> bool
 }
 
 #[inline(always)]
-fn allowed(value: Variant) -> Result<Said<'static>, LineEnd>
+fn allowed(value: Variant, hash: usize) -> Result<Said<'static>, LineEnd>
     ensures allowed { IfOk result (λ value. IsTrue (is_allowed value)) }
     ensures said { Gives (λ value. value) result (allowed value) }
 {
@@ -85,7 +85,7 @@ fn allowed(value: Variant) -> Result<Said<'static>, LineEnd>
         return Err(LineEnd::Bad(ScriptKind::BadValue));
     }
     Ok(Said {
-        form: SaidForm::Value(value),
+        form: SaidForm::Value { value, hash },
     })
 }
 
@@ -111,23 +111,28 @@ pub(crate) fn read_value(alloc: Global, kind: Kind, spelled: &str) -> Result<Sai
 {
     let seen = Seen::of(spelled);
     if seen.escapes {
-        return read_escaped(alloc, kind, spelled);
+        return read_escaped(alloc, kind, spelled, seen.hash);
     }
     if let Kind::Str = kind {
         return allowed_text(spelled, seen.hash);
     }
     let value = written_value(alloc, kind, spelled)?;
-    allowed(value)
+    allowed(value, seen.hash)
 }
 
 /// The value of a kind that a VALUE with a backslash says.
-fn read_escaped(alloc: Global, kind: Kind, spelled: &str) -> Result<Said<'_>, LineEnd>
+fn read_escaped(
+    alloc: Global,
+    kind: Kind,
+    spelled: &str,
+    hash: usize,
+) -> Result<Said<'static>, LineEnd>
     ensures allowed { IfOk result (λ value. IsTrue (is_allowed value)) }
     ensures said { Gives (λ value. value) result (value_said kind spelled.now) }
 {
     let text = read_text(alloc, spelled)?;
     let value = value_of_text(alloc, kind, text)?;
-    allowed(value)
+    allowed(value, hash)
 }
 
 fn uint_inside(value: Variant) -> Option<u64>

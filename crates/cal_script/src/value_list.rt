@@ -11,8 +11,8 @@ use cal_value::{OutOfMemory, Seq, Text, Variant};
 use std::alloc::Global;
 use std::marker::Model;
 
-/// Values in the order in which they came, which contracts see as their list. A text that comes
-/// again is kept once, unless too many others came between.
+/// Values in the order in which they came, which contracts see as their list. A text or a number
+/// that comes again is kept once, unless too many others came between.
 #[derive(Debug, Drop)]
 pub struct ValueList {
     kept: Seq<Variant>,
@@ -85,7 +85,7 @@ impl ValueList {
     {
         match value.form {
             SaidForm::Text { text, hash } => self.add_text(alloc, text, hash),
-            SaidForm::Value(value) => self.add_new(value),
+            SaidForm::Value { value, hash } => self.add_value(alloc, value, hash),
         }
     }
 
@@ -110,6 +110,19 @@ impl ValueList {
         self.add_new(Variant::Text(Text::from_str(alloc, text)?))
     }
 
+    /// Adds a value of this hash. A number that is known to be kept isn't kept again.
+    fn add_value(&mut self, alloc: Global, value: Variant, hash: usize) -> Result<(), OutOfMemory>
+        ensures { OnOk result (self.new ≡ self.old ++ value ∷ []) }
+    {
+        let likely = self.hints.likely(hash);
+        if is_number_at(self.kept.as_slice(), likely as usize, &value) {
+            self.places.push(likely)?;
+            return Ok(());
+        }
+        self.hints.keep(alloc, hash, self.kept.len())?;
+        self.add_new(value)
+    }
+
     fn add_new(&mut self, value: Variant) -> Result<(), OutOfMemory>
         ensures { OnOk result (self.new ≡ self.old ++ value ∷ []) }
     {
@@ -130,6 +143,19 @@ fn is_at(kept: &[Variant], place: usize, text: &str) -> bool
 {
     match kept.get(place) {
         Some(Variant::Text(known)) => known.as_str() == text,
+        _ => false,
+    }
+}
+
+/// Whether a number stands at a place of the values kept, and is this value.
+fn is_number_at(kept: &[Variant], place: usize, value: &Variant) -> bool
+    ensures { IsTrue result → slice_get kept.now place ≡ Some value.now }
+{
+    match (kept.get(place), value) {
+        (Some(Variant::Int(known)), Variant::Int(number)) => *known == *number,
+        (Some(Variant::Uint(known)), Variant::Uint(number)) => *known == *number,
+        (Some(Variant::Addr(known)), Variant::Addr(number)) => *known == *number,
+        (Some(Variant::Fixed(known)), Variant::Fixed(number)) => *known == *number,
         _ => false,
     }
 }

@@ -1,5 +1,5 @@
 -- What holds of all that stands between two lines, so that it can be written and read again.
-use Rattle.std.proofs.Common.{◌≡◌, ℕ, ◌+◌, ◌<◌, ◌≤◌, ◌^◌, Bool, true, false, ◌||◌, ◌&&◌, List, []}
+use Rattle.std.proofs.Common.{◌≡◌, ℕ, ◌+◌, ◌≤◌, Bool, true, false, ◌||◌, ◌&&◌, List, []}
 use Rattle.std.proofs.Common.{◌∷◌, ◌++◌, length, All, refl, sym, ap, subst, ◌∙◌, append-nil}
 use Rattle.std.specs.Prelude.{Option, Some, None, Ok, decimal, unwrap_or, slice_get}
 use Rattle.std.specs.Option.{option_to_list}
@@ -18,6 +18,7 @@ use Rattle.cal_script.specs.Parts.{attribute_named, attribute_names, attribute_o
 use Rattle.cal_script.specs.Parts.{channel_names, is_among, new_name, with_name}
 use Rattle.cal_script.specs.Reading.{global_names}
 use Rattle.cal_script.specs.State.{State}
+use Rattle.cal_script.specs.Ticks.{AreHalves}
 use Rattle.cal_valid.proofs.Counting.{slice_get-more}
 use Rattle.cal_spelling.proofs.Chains.{Chain}
 use Rattle.cal_spelling.proofs.Services.{are_probes}
@@ -110,7 +111,7 @@ module _ (attributes : List Attribute) (channels : List Channel) (values : List 
   IsNext next (line.End attr) = IsEnded attr
   IsNext next line.Snapshot = Unit {0}
   IsNext next (line.Flush channel) = IsFlush channel
-  IsNext next (line.Tick n) = n < 2 ^ 64
+  IsNext next (line.Tick n) = AreHalves n
 
 -- the number of the next value behind a line, behind lines, and behind threads
 abbrev pub behind_line : ℕ → lines.Line → ℕ

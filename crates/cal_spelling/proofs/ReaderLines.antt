@@ -1,5 +1,5 @@
 -- Each line keeps that what stands can be written again.
-use Rattle.std.proofs.Common.{◌≡◌, ℕ, ◌+◌, ◌<◌, ◌^◌, Bool, true, false, cond, List, [], ◌∷◌, ◌++◌}
+use Rattle.std.proofs.Common.{◌≡◌, ℕ, ◌+◌, Bool, true, false, cond, List, [], ◌∷◌, ◌++◌}
 use Rattle.std.proofs.Common.{length, refl, sym, ap, subst, ◌∙◌, arith, lit<}
 use Rattle.std.specs.Prelude.{Option, Some, None, Result, Ok, Err, codes, is_some, not, slice_get}
 use Rattle.std.specs.Prelude.{unwrap_or}
@@ -40,6 +40,8 @@ use Rattle.cal_script.specs.declared.script.Script.{Script}
 use Rattle.cal_script.specs.declared.script.Line as lines
 use Rattle.cal_script.specs.declared.script.Line.TheVariants as line
 use Rattle.cal_script.proofs.Cuts.{joined_words}
+use Rattle.cal_script.specs.Ticks.{AreHalves, ticks_of}
+use Rattle.cal_script.proofs.Halves.{halves_of}
 use Rattle.cal_valid.proofs.Binds.{bind_ok, choice_ok, if_ok, ok_or_ok, unless_ok}
 use Rattle.cal_valid.proofs.Values.{named_at}
 use Rattle.cal_spelling.proofs.Utf8.{utf8_behind}
@@ -445,15 +447,15 @@ flushed_legible state next words is legible =
 ticked_legible : (state next : State) (words : List (List ℕ)) → tick_after state words ≡ Ok next
     → IsLegible state → IsLegible next
 ticked_legible state next words is legible =
-    let make : ℕ → State = λ n. with_line (line.Tick n) false 0 state in
+    let make : ℕ → State = λ n. with_line (line.Tick (ticks_of n)) false 0 state in
     let header = thread_ok state.thread _ next is in
     let word = bind_ok (ok_or (one_word words) WrongArity)
     (λ word. number_said word >>= (λ n. Ok (make n))) next header.2 in
     let number = bind_ok (number_said word.0) (λ n. Ok (make n)) next word.2 in
     let small = bounded 18446744073709551615 number.0 (number_of 10 word.0)
     (ok_or_ok (uint_of word.0) BadValue number.0 number.1) in
-    let short : number.0 < 2 ^ 64 = omega (arith, small) in
-    made_legible (make number.0) next number.2 (line_legible state (line.Tick number.0) false 0
+    let short : AreHalves (ticks_of number.0) = halves_of number.0 (omega (arith, small)) in
+    made_legible (make number.0) next number.2 (line_legible state (line.Tick (ticks_of number.0)) false 0
     short refl legible)
 
 -- ---- each line

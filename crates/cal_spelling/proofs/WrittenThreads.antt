@@ -1,5 +1,5 @@
 -- The lines of written threads are read, and then the whole text.
-use Rattle.std.proofs.Common.{◌≡◌, ℕ, ◌+◌, ◌<◌, ◌≤◌, ◌^◌, Bool, true, false, cond, List, [], ◌∷◌}
+use Rattle.std.proofs.Common.{◌≡◌, ℕ, ◌+◌, ◌<◌, ◌≤◌, Bool, true, false, cond, List, [], ◌∷◌}
 use Rattle.std.proofs.Common.{◌++◌, length, map, take, refl, sym, ap, subst, ◌∙◌, append_assoc}
 use Rattle.std.proofs.Common.{append-nil, arith}
 use Rattle.std.specs.Prelude.{Option, Some, None, Result, Ok, Err, codes, decimal, slice_get}
@@ -28,6 +28,9 @@ use Rattle.cal_script.specs.declared.script.Line as lines
 use Rattle.cal_script.specs.declared.script.Line.TheVariants as line
 use Rattle.cal_script.specs.declared.tally.Tally.{Tally}
 use Rattle.cal_script.proofs.Cuts.{word_and_rest_of}
+use Rattle.cal_script.specs.Ticks.{AreHalves, number_of_ticks, ticks_of}
+use Rattle.cal_script.specs.declared.ticks.Ticks.{Ticks}
+use Rattle.cal_script.proofs.Halves.{halves_back, halves_small}
 use Rattle.cal_valid.proofs.GenDigits.{decimal_uint}
 use Rattle.cal_valid.proofs.Values.{named_at}
 use Rattle.cal_spelling.specs.CanonicalText.{Words, attribute_at, channel_at, of_item, spelled}
@@ -155,16 +158,22 @@ module _ (attributes : List Attribute) (channels : List Channel) (valued : Bool)
         ∙ ap (λ (has : Bool). cond has (Ok (with_line (line.Flush place) false 0 before))
         (Err NotAggregate)) aggregates)
 
-    ticked_step : (n : ℕ) → n < 2 ^ 64 → IsStep before (codes "tick" ∷ decimal n ∷ [])
-        (running values earlier (done ++ line.Tick n ∷ []) (counted false 0 tally))
-    ticked_step n small =
+    ticked_step : (ticks : Ticks) → AreHalves ticks
+        → IsStep before (codes "tick" ∷ decimal (number_of_ticks ticks) ∷ [])
+        (running values earlier (done ++ line.Tick ticks ∷ []) (counted false 0 tally))
+    ticked_step ticks are =
+        let n = number_of_ticks ticks in
+        let small = halves_small ticks are in
         let number = decimal_word n small in
-        let make : ℕ → Result State ScriptKind = λ m. Ok (with_line (line.Tick m) false 0 before) in
-        one_step (codes "tick") (decimal n) (line.Tick n) false (literal (codes "tick") refl refl)
+        let make : ℕ → Result State ScriptKind =
+        λ m. Ok (with_line (line.Tick (ticks_of m)) false 0 before) in
+        one_step (codes "tick") (decimal n) (line.Tick ticks) false
+        (literal (codes "tick") refl refl)
         number (λ rest. refl)
         (ap (λ (some : Bool). ok_or (cond some (Some (decimal n)) None) WrongArity
         >>= (λ (word : List ℕ). number_said word >>= make)) number.some
-        ∙ ap (λ (found : Option ℕ). ok_or found BadValue >>= make) (decimal_uint n small))
+        ∙ ap (λ (found : Option ℕ). ok_or found BadValue >>= make) (decimal_uint n small)
+        ∙ ap (λ (t : Ticks). Ok (with_line (line.Tick t) false 0 before)) (halves_back ticks are))
 
     snapshot_step : IsStep before (codes "snapshot" ∷ [])
         (running values earlier (done ++ line.Snapshot ∷ []) (counted false 0 tally))

@@ -15,6 +15,7 @@ use Rattle.cal_script.specs.declared.script.ProbeKind as probes
 use Rattle.cal_script.specs.declared.script.ProbeKind.TheVariants as probe
 use Rattle.cal_script.specs.declared.script.Script.{Script}
 use Rattle.cal_script.specs.Lines.{joined}
+use Rattle.cal_script.specs.Ticks.{number_of_ticks}
 
 -- a line by its words, the last of which may be a value and hold spaces
 abbrev pub Words : Type 0
@@ -90,7 +91,7 @@ module _ (script : Script) where
   thread_line (line.Set attr value) = codes "set" ∷ attribute_at attr ∷ value_at value ∷ []
   thread_line line.Snapshot = codes "snapshot" ∷ []
   thread_line (line.Flush channel) = codes "flush" ∷ channel_at channel ∷ []
-  thread_line (line.Tick n) = codes "tick" ∷ decimal n ∷ []
+  thread_line (line.Tick n) = codes "tick" ∷ decimal (number_of_ticks n) ∷ []
 
   -- `thread`, and its lines
   abbrev pub thread_lines : List lines.Line → List Words

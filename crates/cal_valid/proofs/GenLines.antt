@@ -30,6 +30,7 @@ use Rattle.cal_script.specs.declared.script.Channel.{Channel}
 use Rattle.cal_script.specs.declared.script.Line.{Line}
 use Rattle.cal_script.specs.declared.script.Line.TheVariants as line
 use Rattle.cal_script.specs.declared.tally.Tally.{Tally}
+use Rattle.cal_script.specs.Ticks.{ticks_of}
 use Rattle.cal_valid.proofs.GenDigits.{IsPlain, decimal_int, decimal_plain, decimal_short, decimal_uint, decimal_word, plain_text, plain_word}
 
 -- ---- bytes of a line
@@ -194,16 +195,16 @@ module _ (values : List Variant) (earlier : List (List Line)) (thread : List Lin
       let plain = decimal_plain n (omega arith) in
       record {
         more_values = values;
-        more_thread = thread ++ line.Tick n ∷ [];
+        more_thread = thread ++ line.Tick (ticks_of n) ∷ [];
         words = 0;
         few = lit≤ tt;
         clean = clean_line (codes "tick ") (decimal n) refl plain;
         says = refl;
         said =
             ap (λ (more : List (List ℕ)). words_after before (codes "tick" ∷ more)) (plain_word (decimal n) plain)
-            ∙ ap (λ (some : Bool). ok_or (cond some (Some (decimal n)) None) WrongArity >>= (λ word. number_said word >>= (λ m. Ok (with_line (line.Tick m) false 0 before))))
+            ∙ ap (λ (some : Bool). ok_or (cond some (Some (decimal n)) None) WrongArity >>= (λ word. number_said word >>= (λ m. Ok (with_line (line.Tick (ticks_of m)) false 0 before))))
             (decimal_word n (omega arith))
-            ∙ ap (λ (found : Option ℕ). ok_or found BadValue >>= (λ m. Ok (with_line (line.Tick m) false 0 before))) (decimal_uint n (omega arith));
+            ∙ ap (λ (found : Option ℕ). ok_or found BadValue >>= (λ m. Ok (with_line (line.Tick (ticks_of m)) false 0 before))) (decimal_uint n (omega arith));
       }
 
   goes_look : (flushes : Bool) → Goes (cond flushes (codes "flush profile") (codes "snapshot"))

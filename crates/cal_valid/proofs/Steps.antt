@@ -1,5 +1,5 @@
 -- Each line keeps what holds of what stands.
-use Rattle.std.proofs.Common.{◌≡◌, ℕ, ◌<◌, ◌≤◌, ◌^◌, true, false, cond, List, [], ◌∷◌, ◌++◌, length, refl, ap, subst, ◌∙◌, arith}
+use Rattle.std.proofs.Common.{◌≡◌, ℕ, ◌≤◌, true, false, cond, List, [], ◌∷◌, ◌++◌, length, refl, ap, subst, ◌∙◌, arith}
 use Rattle.std.specs.Prelude.{Option, Some, None, Result, Ok, Err, is_some, slice_get, codes}
 use Rattle.std.specs.Option.{ok_or}
 use Rattle.std.specs.Str.{bytes_eq}
@@ -19,6 +19,8 @@ use Rattle.cal_script.specs.Lines.{no_word, one_word, three_words, two_words, wo
 use Rattle.cal_script.specs.Parts.{attribute_names, attribute_named, attribute_of, channel_named, channel_names, channel_of, number_said, place_of, value_said}
 use Rattle.cal_script.specs.Reading.{attribute_after, channel_after, earlier_channels, end_after, flush_after, global_after, global_of, key_after, keyed, last_channel, opening_after, opening_said, snapshot_after, thread_after, tick_after, value_after, with_values, words_after}
 use Rattle.cal_script.specs.State.{State, made_words, next_thread, opening, with_line, with_opening}
+use Rattle.cal_script.specs.Ticks.{AreHalves, ticks_of}
+use Rattle.cal_script.proofs.Halves.{halves_of}
 use Rattle.cal_valid.specs.Counts.{attribute_at, is_process, value_at, words_made}
 use Rattle.cal_valid.specs.Valid.{IsFlushed, IsOpening}
 use Rattle.cal_valid.proofs.Binds.{bind_ok, choice_ok, if_ok, ok_or_ok}
@@ -168,11 +170,11 @@ bounded most n (Some m) is = grind (arith, nat_tests)
 ticked_sound : (state next : State) (words : List (List ℕ)) → tick_after state words ≡ Ok next → IsSound state → IsSound next
 ticked_sound state next words is sound =
     let header = thread_ok state.thread _ next is in
-    let word = bind_ok (ok_or (one_word words) WrongArity) (λ word. number_said word >>= (λ n. Ok (with_line (line.Tick n) false 0 state))) next header.2 in
-    let number = bind_ok (number_said word.0) (λ n. Ok (with_line (line.Tick n) false 0 state)) next word.2 in
+    let word = bind_ok (ok_or (one_word words) WrongArity) (λ word. number_said word >>= (λ n. Ok (with_line (line.Tick (ticks_of n)) false 0 state))) next header.2 in
+    let number = bind_ok (number_said word.0) (λ n. Ok (with_line (line.Tick (ticks_of n)) false 0 state)) next word.2 in
     let small = bounded 18446744073709551615 number.0 (number_of 10 word.0) (ok_or_ok (uint_of word.0) BadValue number.0 number.1) in
-    let short : number.0 < 2 ^ 64 = omega (arith, small) in
-    same_sound _ next number.2 (line_sound state header.0 (line.Tick number.0) false 0 header.1 short refl refl sound)
+    let short : AreHalves (ticks_of number.0) = halves_of number.0 (omega (arith, small)) in
+    same_sound _ next number.2 (line_sound state header.0 (line.Tick (ticks_of number.0)) false 0 header.1 short refl refl sound)
 
 -- ---- each line
 

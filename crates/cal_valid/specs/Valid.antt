@@ -1,5 +1,5 @@
 -- What holds of each script that some bytes mean, so that it can be run without a test.
-use Rattle.std.specs.Prelude.{◌≡◌, ℕ, ◌<◌, ◌≤◌, ◌^◌, List, length, sum_by, slice_get, All}
+use Rattle.std.specs.Prelude.{◌≡◌, ℕ, ◌<◌, ◌≤◌, List, length, sum_by, slice_get, All}
 use Rattle.std.specs.Prelude.{Some, true}
 use Rattle.cal_value.specs.Values.{kind_of}
 use Rattle.cal_value.specs.declared.attribute.Attribute.{Attribute}
@@ -10,6 +10,7 @@ use Rattle.cal_script.specs.declared.script.Line as lines
 use Rattle.cal_script.specs.declared.script.Line.TheVariants as line
 use Rattle.cal_script.specs.Limits.{arena, tree_words}
 use Rattle.cal_script.specs.Parts.{is_allowed}
+use Rattle.cal_script.specs.Ticks.{AreHalves}
 use Rattle.cal_valid.specs.Counts.{script_tally}
 
 -- The attribute and the value of a line are declared and kept, and the value is one that a script
@@ -36,7 +37,7 @@ IsPlaced attributes channels values (line.Set attr value) = IsOpening attributes
 IsPlaced attributes channels values (line.End attr) = attr < length attributes
 IsPlaced attributes channels values line.Snapshot = Unit {0}
 IsPlaced attributes channels values (line.Flush channel) = IsFlushed channels channel
-IsPlaced attributes channels values (line.Tick n) = n < 2 ^ 64
+IsPlaced attributes channels values (line.Tick n) = AreHalves n
 
 -- A script that can be run: its lines have their places, its numbers are small, and the context tree
 -- of a run has room for the nodes that its lines can make.

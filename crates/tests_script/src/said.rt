@@ -1,5 +1,5 @@
 use crate::drawn::fault_of;
-use cal_script::{Line, ProbeKind, Script, ScriptKind, meaning_law, read_script};
+use cal_script::{Line, ProbeKind, Script, ScriptKind, Ticks, meaning_law, read_script};
 use cal_value::{Kind, OutOfMemory, Props, Variant};
 use std::alloc::Global;
 use std::process::Abort;
@@ -15,7 +15,7 @@ fn has_lines(script: &Script) -> bool {
         Line::End { attr: 0 },
         Line::Snapshot,
         Line::Flush { channel: 1 },
-        Line::Tick { n: 7 },
+        Line::Tick { n: Ticks::new(7) },
     ];
     let [first, second] = script.threads.as_slice() else {
         return false;
