@@ -1,8 +1,8 @@
 -- What a fold over snapshots has taken stays while the context grows.
-use Rattle.std.specs.Prelude.{◌≡◌, ℕ, ◌<◌, false, List, Option, None, Some, length, map, filter}
+use Rattle.std.specs.Prelude.{◌≡◌, ℕ, ◌<◌, false, List, Option, None, Some, length, map}
 use Rattle.std.specs.Prelude.{slice_index_or as get_or}
 use Rattle.std.specs.List.{All, AllZip, filter_map}
-use Rattle.std.proofs.Common.{refl, sym, ap, subst, ◌∙◌}
+use Rattle.std.proofs.Common.{sym, ap, subst, ◌∙◌}
 use Rattle.std.proofs.lemmas.List.Elements.{All-weaker}
 use Rattle.cal_context.specs.Snapshots.{IsBelowRoot, entry_of}
 use Rattle.cal_context.specs.Tree.{Tree, Grows, path_at}
@@ -21,7 +21,8 @@ use Rattle.cal_value.specs.declared.record.Rec.{Rec}
 use Rattle.cal_engine.specs.Choices.{chooses_attribute}
 use Rattle.cal_engine.specs.Counters.{IsCounter}
 use Rattle.cal_engine.specs.Gates.{IsGate}
-use Rattle.cal_engine.specs.Keys.{IsKeyIn, key_in, names_in, room_of}
+use Rattle.cal_engine.specs.Keys.{IsKeyIn, key_in, room_of}
+use Rattle.cal_engine.specs.Looked.{looks_at}
 use Rattle.cal_engine.specs.Numbered.{Numbered, grouped_in}
 use Rattle.cal_engine.specs.Readings.{reading_of}
 use Rattle.cal_engine.specs.Sieves.{AreSieves, Sifts, choice_of, in_paths, part_at}
@@ -110,6 +111,13 @@ gate-Grows {old} {new} grows q g h = record {
     within = within_paths grows n.0 before.within;
     small = subst (All (λ e. IsSmall e.value)) (sym (path_at-Grows grows n before.within))
         before.small;
+  };
+  looked = record {
+    readings = h.looked.readings;
+    attributes = λ a l. let known = h.looked.attributes a l in record {
+      within = within_attributes grows a.0 known.within;
+      is = known.is ∙ ap (looks_at q) (sym (attribute_at-Grows grows a known.within));
+    };
   };
 }
 
