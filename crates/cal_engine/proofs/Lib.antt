@@ -26,6 +26,7 @@ pub mod Choosing
 pub mod KeyLemmas
 pub mod Counting
 pub mod Tallying
+pub mod Looking
 pub mod Gating
 pub mod Staying
 pub mod ResultNumbers

@@ -22,7 +22,7 @@ use Rattle.cal_engine.specs.Choices.{choices_of, chooses, chooses_attribute}
 use Rattle.cal_engine.specs.Sieves.{AreSieves, AreReadySieves, ChoosesAll, IsChosen, IsSifted, Sifts, SiftsAll, SiftsSoMany, beside_paths, choice_of, in_paths, part_at}
 use Rattle.cal_engine.specs.Totals.{IsStep, Leads}
 use Rattle.cal_engine.specs.declared.sieve.Sieve.{Sieve}
-use Rattle.cal_engine.proofs.Reaching.{Leads-Grows, leads-none}
+use Rattle.cal_engine.proofs.Reaching.{Leads-Grows, leads-none, leads-root}
 
 abbrev pub root : NodeNumber
 root = record { 0 = 0 }
@@ -188,6 +188,18 @@ gathered_next t own mid new s nodes i n part now read_part grows short read sift
     ∙ filter-append (chooses true (choice_of s)) (joined (map (path_at t) (take i nodes))) (path_at t n)))
     (joins (in_paths s (joined (map (path_at t) (take i nodes)))) (in_paths s (path_at t n)) before
     (subst (λ m. Leads mid (in_paths s (path_at t n)) m) (sym part_is) here))
+
+-- nothing is taken of the paths of nodes where the root is kept for each
+pub gathered_nothing : (t own : Tree) → IsContext own → (s : Sieve) → SiftsAll t own s → ((n : ℕ) → get_or s.nodes n root ≡ root)
+    → (nodes : List NodeNumber) → All (IsBelowRoot t) nodes → in_paths s (joined (map (path_at t) nodes)) ≡ []
+gathered_nothing t own context s sifts none [] below = refl
+gathered_nothing t own context s sifts none (n ∷ nodes) below =
+    let within = (All-head (IsBelowRoot t) n nodes below).within in
+    let here = (sifts.knows.nodes n (omega (arith, within, sifts.nodes))).leads in
+    let rest = gathered_nothing t own context s sifts none nodes (All-tail (IsBelowRoot t) n nodes below) in
+    filter-append (chooses true (choice_of s)) (path_at t n) (joined (map (path_at t) nodes))
+    ∙ (λ i. leads-root own context (in_paths s (path_at t n)) (part_at s n) (ap (λ (m : NodeNumber). m.0) (none n.0)) here i
+    ++ rest i)
 
 -- one immediate more
 pub imms_next : (t : Tree) (s : Sieve) (imms : List Immediate) (i : ℕ) (x : Immediate) → i < length imms → x ≡ get_or imms i x

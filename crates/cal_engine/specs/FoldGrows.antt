@@ -22,6 +22,7 @@ use Rattle.cal_engine.specs.Choices.{chooses_attribute}
 use Rattle.cal_engine.specs.Counters.{IsCounter}
 use Rattle.cal_engine.specs.Gates.{IsGate}
 use Rattle.cal_engine.specs.Keys.{IsKeyIn, key_in, room_of}
+use Rattle.cal_engine.specs.Looked.{looks_at}
 use Rattle.cal_engine.specs.Numbered.{Numbered, grouped_in}
 use Rattle.cal_engine.specs.Readings.{reading_of}
 use Rattle.cal_engine.specs.Sieves.{AreSieves, Sifts, choice_of, in_paths, part_at}
@@ -110,6 +111,13 @@ gate-Grows {old} {new} grows q g h = record {
     within = within_paths grows n.0 before.within;
     small = subst (All (λ e. IsSmall e.value)) (sym (path_at-Grows grows n before.within))
         before.small;
+  };
+  looked = record {
+    readings = h.looked.readings;
+    attributes = λ a l. let known = h.looked.attributes a l in record {
+      within = within_attributes grows a.0 known.within;
+      is = known.is ∙ ap (looks_at q) (sym (attribute_at-Grows grows a known.within));
+    };
   };
 }
 

@@ -6,6 +6,7 @@ use Rattle.cal_context.specs.declared.numbers.NodeNumber.{NodeNumber}
 use Rattle.cal_filter.specs.Ready.{IsFilter}
 use Rattle.cal_ql.specs.declared.query.Query.{Query}
 use Rattle.cal_value.specs.Reading.{IsSmall}
+use Rattle.cal_engine.specs.Looked.{IsLooked}
 use Rattle.cal_engine.specs.declared.gate.Gate.{Gate}
 
 -- the numbers on a node's path are small
@@ -19,3 +20,4 @@ AreSmallBefore t count = (n : NodeNumber) → n.0 < count → IsSmallAt t n
 pub record IsGate (t : Tree) (q : Query) (g : Gate) : Type 0 where
   pub filter : IsFilter t q g.filter
   pub small : AreSmallBefore t g.small
+  pub looked : IsLooked t q g.looked

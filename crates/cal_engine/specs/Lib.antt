@@ -21,6 +21,7 @@ pub mod Numbered
 pub mod Counters
 pub mod SnapshotRows
 pub mod Tallies
+pub mod Looked
 pub mod Gates
 pub mod Standing
 pub mod FoldGrows

@@ -1,4 +1,5 @@
-ghost use Rattle.std.specs.Prelude.{◌≡◌, ◌+◌, ◌<◌, ◌≤◌, [], ◌∷◌, ◌++◌, IsTrue, length, max, take, IfOk, OnOk};
+ghost use Rattle.std.specs.Prelude.{◌≡◌, ◌+◌, ◌<◌, ◌≤◌, [], ◌∷◌, ◌++◌, IsTrue, length, max, take};
+ghost use Rattle.std.specs.Prelude.{filter, IfOk, OnOk};
 ghost use Rattle.std.specs.List.{All};
 ghost use Rattle.cal_context.specs.Snapshots.{IsIn, meaning};
 ghost use Rattle.cal_context.specs.Tree.{Grows};
@@ -8,7 +9,9 @@ ghost use Rattle.cal_ql.specs.Valid.{IsValidQuery};
 ghost use Rattle.cal_ql.specs.declared.query.Query.{Query as AQuery};
 ghost use Rattle.cal_value.specs.Reading.{IsSmall};
 ghost use Rattle.cal_engine.specs.Gates.{AreSmallBefore, IsGate, IsSmallAt};
+ghost use Rattle.cal_engine.specs.Looked.{is_looked, looked_at};
 
+use crate::looked::Looked;
 use crate::small::is_small;
 use cal_context::{Context, Immediate, NodeNumber, Snapshot};
 use cal_filter::Filter;
@@ -22,6 +25,8 @@ pub(crate) struct Gate {
     filter: Filter,
     // the numbers on the paths of the nodes before this one are small
     small: usize,
+    // which immediates are looked at
+    looked: Looked,
 }
 
 impl Gate {
@@ -35,7 +40,40 @@ impl Gate {
         ensures grows { Grows context.old context.new }
     {
         let filter = Filter::new(alloc, query, context)?;
-        Ok(Gate { filter, small: 0 })
+        let looked = Looked::new(alloc, query)?;
+        Ok(Gate {
+            filter,
+            small: 0,
+            looked,
+        })
+    }
+
+    /// Makes a snapshot the same as another, but for the immediates that the query doesn't look at.
+    /// The memory of its texts serves again. A number above 2^86 in magnitude is answered as want
+    /// of memory is.
+    pub(crate) fn copy_looked(
+        &mut self,
+        alloc: Global,
+        query: &Query,
+        context: &Context,
+        snapshot: &Snapshot,
+        copy: &mut Snapshot,
+    ) -> Result<(), OutOfMemory>
+        requires { IsIn context.now snapshot.now }
+        ensures within { OnOk result (IsIn context.now copy.new) }
+        ensures small { OnOk result (All (λ imm. IsSmall imm.value) copy.new.imms.items) }
+        ensures stays { OnOk result (IsGate context.now query.now self.old
+            → IsGate context.now query.now self.new) }
+        ensures looked { OnOk result (IsGate context.now query.now self.old
+            → meaning context.now copy.new
+            ≡ looked_at query.now (meaning context.now snapshot.now)) }
+    {
+        let _ = &self.filter;
+        let _ = self.small;
+        self.looked.catch_up(query, context)?;
+        put_nodes(&mut copy.nodes, &snapshot.nodes)?;
+        put_looked(alloc, &self.looked, &mut copy.imms, &snapshot.imms)?;
+        Ok(())
     }
 
     /// Answers whether WHERE keeps a snapshot as it is, without LET.
@@ -51,6 +89,7 @@ impl Gate {
             → keeps ≡ where_holds q.conds (meaning context.now snapshot.now)) }
     {
         let _ = self.small;
+        let _ = &self.looked;
         let keeps = self.filter.keeps(context, snapshot)?;
         Ok(keeps)
     }
@@ -71,6 +110,7 @@ impl Gate {
             → IsFiltered q (meaning context.now snapshot.old) (meaning context.now snapshot.new)
             keeps) }
     {
+        let _ = &self.looked;
         self.know_small(context)?;
         let keeps = self.filter.apply(context, snapshot)?;
         Ok(keeps)
@@ -79,6 +119,7 @@ impl Gate {
     /// Looks at the numbers of the nodes that are new in a context.
     fn know_small(&mut self, context: &Context) -> Result<(), OutOfMemory>
         ensures same { self.new.filter ≡ self.old.filter }
+        ensures looked { self.new.looked ≡ self.old.looked }
         ensures small { OnOk result (AreSmallBefore context.now self.old.small
             → AreSmallBefore context.now (length context.now.paths)) }
         ensures next { OnOk result (AreSmallBefore context.now self.old.small
@@ -118,56 +159,83 @@ fn has_small_entry(context: &Context, node: NodeNumber) -> bool
     }
 }
 
-/// Makes a snapshot the same as another. The memory of its texts serves again. A number above 2^86
-/// in magnitude is answered as want of memory is.
-pub(crate) fn copy_into(
-    alloc: Global,
-    snapshot: &Snapshot,
-    copy: &mut Snapshot,
-) -> Result<(), OutOfMemory>
-    ensures nodes { OnOk result (copy.new.nodes.items ≡ snapshot.now.nodes.items) }
-    ensures imms { OnOk result (copy.new.imms.items ≡ snapshot.now.imms.items) }
-    ensures small { OnOk result (All (λ imm. IsSmall imm.value) snapshot.now.imms.items) }
-{
-    put_nodes(&mut copy.nodes, &snapshot.nodes)?;
-    shorten(&mut copy.imms, snapshot.imms.len());
-    put_copies(alloc, &mut copy.imms, &snapshot.imms)
-}
-
-/// Puts nodes, of which a record has few, in the place of those that are there.
+/// Puts nodes, of which a record has few, in the place of those that are there. Where as many were
+/// there, the memory isn't asked for.
 fn put_nodes(nodes: &mut Vec<NodeNumber>, others: &[NodeNumber]) -> Result<(), OutOfMemory>
     ensures { OnOk result (nodes.new.items ≡ others.now) }
 {
-    nodes.clear();
-    for node in others {
-        nodes.push(*node)?;
+    nodes.truncate(others.len());
+    for (place, node) in others.iter().enumerate() {
+        put_node(nodes, place, *node)?;
     }
     Ok(())
 }
 
-/// Takes the immediates behind the first ones away.
+/// Puts a node at a place, or behind the last one.
+fn put_node(nodes: &mut Vec<NodeNumber>, place: usize, node: NodeNumber) -> Result<(), OutOfMemory>
+    requires { place ≤ length nodes.old.items }
+    ensures front { OnOk result
+        (take (place + 1) nodes.new.items ≡ take place nodes.old.items ++ node ∷ []) }
+    ensures long { OnOk result
+        (length nodes.new.items ≡ max (length nodes.old.items) (place + 1)) }
+{
+    if place < nodes.len() {
+        nodes[place] = node;
+    } else {
+        nodes.push(node)?;
+    }
+    Ok(())
+}
+
+/// Puts copies of the immediates that are looked at in the place of those that are there.
+fn put_looked(
+    alloc: Global,
+    looked: &Looked,
+    imms: &mut Vec<Immediate>,
+    others: &[Immediate],
+) -> Result<(), OutOfMemory>
+    ensures same { OnOk result
+        (imms.new.items ≡ filter (λ imm. is_looked looked.now imm.attribute) others.now) }
+    ensures small { OnOk result (All (λ imm. IsSmall imm.value) imms.new.items) }
+{
+    let mut place = 0;
+    for imm in others {
+        place = put_if_looked(alloc, looked, imms, place, imm)?;
+    }
+    shorten(imms, place);
+    Ok(())
+}
+
+/// Takes the immediates behind the first ones away, which are few.
 fn shorten(imms: &mut Vec<Immediate>, count: usize)
-    ensures { length imms.new.items ≤ count }
+    requires { count ≤ length imms.old.items }
+    ensures { imms.new.items ≡ take count imms.old.items }
 {
     while imms.len() > count {
         let _ = imms.pop();
     }
 }
 
-/// Puts copies of immediates in the place of those that are there.
-fn put_copies(
+/// Puts the copy of an immediate at a place if it is looked at, and answers the next place.
+fn put_if_looked(
     alloc: Global,
+    looked: &Looked,
     imms: &mut Vec<Immediate>,
-    others: &[Immediate],
-) -> Result<(), OutOfMemory>
-    requires { length imms.old.items ≤ length others.now }
-    ensures same { OnOk result (imms.new.items ≡ others.now) }
-    ensures small { OnOk result (All (λ imm. IsSmall imm.value) others.now) }
+    place: usize,
+    imm: &Immediate,
+) -> Result<usize, OutOfMemory>
+    requires { place ≤ length imms.old.items }
+    ensures front { IfOk result (λ next. take next imms.new.items ≡ take place imms.old.items
+        ++ filter (λ imm. is_looked looked.now imm.attribute) (imm.now ∷ [])) }
+    ensures within { IfOk result (λ next. next ≤ length imms.new.items) }
+    ensures small { OnOk result (All (λ imm. IsSmall imm.value)
+        (filter (λ imm. is_looked looked.now imm.attribute) (imm.now ∷ []))) }
 {
-    for (place, imm) in others.iter().enumerate() {
-        put_copy(alloc, imms, place, imm)?;
+    if !looked.has(imm.attribute) {
+        return Ok(place);
     }
-    Ok(())
+    put_copy(alloc, imms, place, imm)?;
+    Ok(place + 1)
 }
 
 /// Puts the copy of an immediate at a place, or behind the last one.

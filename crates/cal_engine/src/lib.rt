@@ -20,6 +20,7 @@ mod groups;
 mod immediates;
 mod kernel_results;
 mod key;
+mod looked;
 mod moving;
 mod narrow_part;
 mod numbered;

@@ -149,6 +149,9 @@ impl Sieve {
         ensures grows { OnOk result (Grows own.old own.new) }
     {
         own.has_each_once();
+        if self.nodes.is_none() {
+            return Ok(NodeNumber::ROOT);
+        }
         let mut part = NodeNumber::ROOT;
         for node in nodes {
             part = joined(alloc, own, part, self.part(*node))?;

@@ -17,7 +17,7 @@ ghost use Rattle.cal_engine.specs.Standing.{HasFolded};
 ghost use Rattle.cal_engine.specs.Tallies.{Holds, HoldsIn};
 
 use crate::fold::is_aggregated;
-use crate::gate::{Gate, copy_into};
+use crate::gate::Gate;
 use crate::grouped_rows::GroupedRows;
 use crate::numbered::NumberedGroups;
 use crate::snapshot_columns::snapshot_columns;
@@ -159,7 +159,8 @@ impl SnapshotFold {
             (HasFolded self.new context.now)
             (meaning context.now snapshot.now ∷ [])) }
     {
-        copy_into(self.alloc, snapshot, &mut self.full)?;
+        self.gate
+            .copy_looked(self.alloc, &self.query, context, snapshot, &mut self.full)?;
         let keeps = self.gate.apply(context, &mut self.full)?;
         if !keeps {
             return Ok(());

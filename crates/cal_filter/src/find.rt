@@ -47,6 +47,7 @@ impl Seeker {
     }
 
     /// The same, where something may be found.
+    #[inline]
     fn find_known<'a>(
         &self,
         context: &'a Context,

@@ -28,6 +28,7 @@ pub(crate) fn let_number(operator: Operator, numbers: &[Option<Num>]) -> Option<
     limited(operation(operator.op, i128::from(operator.n), numbers)?)
 }
 
+#[inline(always)]
 fn operation(op: Op, n: i128, numbers: &[Option<Num>]) -> Option<Num>
     requires factor { IsFactor op n }
     requires small { All (λ number. ForSome number IsSmall) numbers.now }

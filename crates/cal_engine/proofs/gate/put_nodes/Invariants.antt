@@ -1,5 +1,9 @@
-use Rattle.std.proofs.Common.{◌≡◌, take}
+use Rattle.std.proofs.Common.{◌≡◌, ◌≤◌, length, take}
 use Rattle.cal_engine.proofs.gate.put_nodes.Given as goal
 
-abbrev pub invariant-loop-node : goal.invariant-loop-node
-invariant-loop-node l = l.nodes.items ≡ take l.node-index l.others
+abbrev pub invariant-loop-place : goal.invariant-loop-place
+invariant-loop-place l = record {
+  front : take l.place l.nodes.items ≡ take l.place l.others;
+  low : l.place ≤ length l.nodes.items;
+  high : length l.nodes.items ≤ length l.others;
+}

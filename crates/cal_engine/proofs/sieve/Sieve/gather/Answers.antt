@@ -1,4 +1,4 @@
-use Rattle.std.proofs.Common.{◌<◌, List, length, map, get_or, subst, arith}
+use Rattle.std.proofs.Common.{◌<◌, List, length, map, get_or, subst, sym, arith}
 use Rattle.std.proofs.lemmas.List.{take_all}
 use Rattle.cal_context.specs.Tree.{path_at}
 use Rattle.cal_context.specs.declared.numbers.NodeNumber.{NodeNumber}
@@ -8,7 +8,7 @@ use Rattle.cal_value.specs.Flat.{joined}
 use Rattle.cal_engine.specs.Sieves.{in_paths}
 use Rattle.cal_engine.specs.Totals.{Leads}
 use Rattle.cal_engine.proofs.Reaching.{leads-none}
-use Rattle.cal_engine.proofs.Sifting.{gathered_next, root}
+use Rattle.cal_engine.proofs.Sifting.{gathered_next, gathered_nothing, root}
 use Rattle.cal_engine.proofs.sieve.Sieve.gather.Goals as goal
 
 pub loop-node-init : goal.loop-node-init
@@ -32,3 +32,13 @@ pub returns-clause-gathered : goal.returns-clause-gathered
 returns-clause-gathered c = λ t sifts below.
     subst (λ (ns : List NodeNumber). Leads c.loop-node.own (in_paths c.args.self.now (joined (map (path_at t) ns))) c.loop-node.part)
     (take_all c.loop-node.node-index c.args.nodes.now c.loop-node-test.false) (c.loop-node.invariant.gathered t sifts below)
+
+pub returns-then-is_none-clause-gathered : goal.returns-then-is_none-clause-gathered
+returns-then-is_none-clause-gathered c = λ t sifts below.
+    let own = c.args.own.now in
+    subst (λ es. Leads own es root)
+    (sym (gathered_nothing t own c.has_each_once.ensures c.args.self.now sifts (c.is_none.ensures c.if-is_none.true) c.args.nodes.now below))
+    (leads-none own c.has_each_once.ensures)
+
+pub returns-then-is_none-clause-grows : goal.returns-then-is_none-clause-grows
+returns-then-is_none-clause-grows c = Grows-refl c.args.own.now
