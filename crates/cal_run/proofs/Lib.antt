@@ -23,3 +23,4 @@ pub mod FirstLemmas
 pub mod WalkingLemmas
 pub mod ScopeLemmas
 pub mod AcceptedLemmas
+pub mod TimerLemmas

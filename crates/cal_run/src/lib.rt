@@ -41,6 +41,7 @@ mod services;
 mod shape;
 mod steps;
 mod thread;
+mod timers;
 mod walking;
 mod watch;
 
