@@ -102,11 +102,50 @@ impl Draft {
         if self.snapshot.imms.len() > self.count {
             self.snapshot.imms.truncate(self.count);
         }
-        self.snapshot.nodes.clear();
-        first.refs(&mut self.snapshot.nodes)?;
-        second.refs(&mut self.snapshot.nodes)?;
+        let count = put_nodes(first, 0, &mut self.snapshot.nodes)?;
+        let count = put_nodes(second, count, &mut self.snapshot.nodes)?;
+        self.snapshot.nodes.truncate(count);
         Ok(&self.snapshot)
     }
+}
+
+/// Puts the last nodes of a board's reference slots in the places from one on, or behind the last
+/// ones. Gives the place behind them.
+#[inline(always)]
+fn put_nodes(
+    board: &Board<NodeNumber>,
+    from: usize,
+    nodes: &mut Vec<NodeNumber>,
+) -> Result<usize, OutOfMemory>
+    requires { from ≤ length nodes.old.items }
+    ensures put { IfOk result (λ end. take end nodes.new.items
+        ≡ take from nodes.old.items ++ last_nodes board.now) }
+    ensures within { IfOk result (λ end. end ≤ length nodes.new.items) }
+{
+    let mut place = from;
+    for slot in board.references() {
+        if let Some(last) = slot.opened.as_slice().last() {
+            put_node(last.value, place, nodes)?;
+            place += 1;
+        }
+    }
+    Ok(place)
+}
+
+/// Puts a node in the place of another, or behind the last one.
+#[inline(always)]
+fn put_node(node: NodeNumber, place: usize, nodes: &mut Vec<NodeNumber>) -> Result<(), OutOfMemory>
+    requires { place ≤ length nodes.old.items }
+    ensures put { OnOk result
+        (take (place + 1) nodes.new.items ≡ take place nodes.old.items ++ node ∷ []) }
+    ensures within { OnOk result (place < length nodes.new.items) }
+{
+    if place < nodes.len() {
+        nodes[place] = node;
+    } else {
+        nodes.push(node)?;
+    }
+    Ok(())
 }
 
 /// Puts a number in the place of an immediate, or behind the last one.

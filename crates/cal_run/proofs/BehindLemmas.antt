@@ -4,6 +4,7 @@ use Rattle.std.proofs.Common.{◌≡◌, ℕ, suc, ◌+◌, ◌-◌, ◌<◌, �
 use Rattle.std.proofs.Common.{if◌then◌else◌, ◌&&◌, length, get_or, drop, ap, subst, sym, refl, ◌∙◌}
 use Rattle.std.proofs.Common.{append_assoc, append-nil, arith}
 use Rattle.std.specs.Prelude.{Option, Some, None, not, flat_map, unwrap_or, zip, sum_by, count_by}
+use Rattle.std.specs.List.{list_any}
 use Rattle.std.proofs.lemmas.List.Sums.{count_by-le-length, sum_by-cons}
 use Rattle.cal_context.proofs.CallerLemmas.{Grows-trans}
 use Rattle.cal_context.specs.Taking.{TakesMore}
@@ -16,14 +17,15 @@ use Rattle.cal_run.specs.Behind.{IsBehind, RunsBehind, taken_behind}
 use Rattle.cal_run.specs.Held.{Holds, IsProcess}
 use Rattle.cal_run.specs.History.{process_board}
 use Rattle.cal_run.specs.Lawful.{process_lines, takes_start_reading}
-use Rattle.cal_run.specs.Lines.{clock_after, is_process_line}
-use Rattle.cal_run.specs.Noting.{before_after, is_taken, noted, seen_with}
+use Rattle.cal_run.specs.Lines.{clock_after, is_process_line, takes}
+use Rattle.cal_run.specs.Noting.{before_after, is_taken, noted, noted_as, seen_with}
 use Rattle.cal_run.specs.Plain.{note_of, notes_from, plain, plain_history, threads_from}
 use Rattle.cal_run.specs.Refused.{is_refused, refused_in, refused_of}
 use Rattle.cal_run.specs.Runs.{snapshots, taken_by_thread, taken_from}
 use Rattle.cal_run.specs.Steps.{ThreadState, at_start, changed, found_reply, is_accepted}
 use Rattle.cal_run.specs.Steps.{previous_after, reply_to_line, seen_before, state_after, taken_in}
 use Rattle.cal_run.specs.Threads.{IsThread, RunsLine}
+use Rattle.cal_run.specs.Timers.{AreTimers}
 use Rattle.cal_run.specs.declared.behind.Behind.{Behind}
 use Rattle.cal_run.specs.declared.process.Process.{Process}
 use Rattle.cal_run.specs.declared.thread.Thread.{Thread}
@@ -105,6 +107,18 @@ module _ (script : Script) (l : Line) (shared : Bool) (kind : shared ≡ is_proc
       by false true is = omega (arith, is)
       by false false is = omega (arith, is, less)
 
+-- the note of a line is made with the reading that the line takes
+pub reading-made : (script : Script) (l : Line) (before seen clock : ℕ)
+    (reply : Option replies.Reply) (accepted : Bool) → accepted ≡ is_accepted reply → (read : Bool)
+    → read ≡ list_any (λ (c : Channel). c.timer && (accepted && takes script c l)) script.channels
+    → (reading : Option ℕ) → reading ≡ (if read then Some clock else None)
+    → noted_as script before seen l reply reading ≡ noted script before seen clock l reply
+reading-made script l before seen clock reply accepted is read found reading made =
+    ap (noted_as script before seen l reply)
+    (made ∙ ap (λ (r : Bool). if r then Some clock else None)
+    (found ∙ ap (λ (a : Bool). list_any (λ (c : Channel). c.timer && (a && takes script c l))
+    script.channels) is))
+
 -- ---- a line
 
 -- what is found of a line by what is kept
@@ -174,8 +188,8 @@ module _ {t0 t1 t2 : Tree} (old : Grows t0 t1) (new : Grows t1 t2) (script : Scr
       (second-count script l shared kind was.before was.seen was.clock reply note made second.count
       count_now)))
 
-  abbrev noted_as : LineNote
-  noted_as = note_of script was.before was.seen state l
+  abbrev noted_here : LineNote
+  noted_here = note_of script was.before was.seen state l
 
   module _ {t3 : Tree} (channel : Channel) (now : Behind) (accepted : Bool)
       (accepts : accepted ≡ is_accepted reply) (had has : List Rec → Type 0)
@@ -184,20 +198,21 @@ module _ {t0 t1 t2 : Tree} (old : Grows t0 t1) (new : Grows t1 t2) (script : Scr
       (process : now.thread.process ≡ second) (seen : now.seen ≡ note.seen)
       (clock : now.clock
       ≡ (if accepted && not shared then clock_after was.clock l else was.clock))
-      (before : now.before ≡ (if shared then was.before + 1 else was.before)) where
-    clock-so : now.clock ≡ (state_after script (plain_history script) l noted_as state).clock
+      (before : now.before ≡ (if shared then was.before + 1 else was.before))
+      (timers : now.timers ≡ was.timers) where
+    clock-so : now.clock ≡ (state_after script (plain_history script) l noted_here state).clock
     clock-so = clock
         ∙ (λ j. if accepts_so j && not (kind j) then clock_after (is.clock j) l else is.clock j)
-        ∙ by (is_accepted (found_reply script (plain_history script) l noted_as state)
+        ∙ by (is_accepted (found_reply script (plain_history script) l noted_here state)
         && not (is_process_line script l))
       where
         accepts_so : accepted
-            ≡ is_accepted (found_reply script (plain_history script) l noted_as state)
+            ≡ is_accepted (found_reply script (plain_history script) l noted_here state)
         accepts_so = accepts ∙ ap is_accepted told
             ∙ ap is_accepted (sym (found-noted script was.before was.seen state l))
 
         by : (q : Bool) → (if q then clock_after state.clock l else state.clock)
-            ≡ (if q then changed script (plain_history script) l noted_as state else state).clock
+            ≡ (if q then changed script (plain_history script) l noted_here state else state).clock
         by true = refl
         by false = refl
 
@@ -223,6 +238,7 @@ module _ {t0 t1 t2 : Tree} (old : Grows t0 t1) (new : Grows t1 t2) (script : Scr
             (let bound = seen-bound script l shared kind was.before was.seen was.clock reply note made
             is.seen in
             omega (arith, bound, seen, before));
+        timers = subst (AreTimers script) (sym timers) is.timers;
       };
     }
 
@@ -388,10 +404,11 @@ module _ (script : Script) where
 pub start-behind : (t : Tree) (script : Script) (behind : Behind) (before : ℕ)
     → IsThread t script (plain_history script) behind.thread at_start 0
     → behind.thread.process.count ≡ 0 → behind.clock ≡ 0 → behind.seen ≡ 0
-    → behind.before ≡ before → IsBehind t script behind at_start 0
-start-behind t script behind before thread count clock seen is = record {
+    → behind.before ≡ before → AreTimers script behind.timers → IsBehind t script behind at_start 0
+start-behind t script behind before thread count clock seen is timers = record {
   thread = thread;
   clock = clock;
   taken_in = omega (arith, count);
   seen = omega (arith, seen);
+  timers = timers;
 }

@@ -24,3 +24,4 @@ pub mod FirstLemmas
 pub mod WalkingLemmas
 pub mod ScopeLemmas
 pub mod AcceptedLemmas
+pub mod TimerLemmas

@@ -8,6 +8,7 @@ use Rattle.cal_run.specs.Refused.{refused_of}
 use Rattle.cal_run.specs.Runs.{taken_from}
 use Rattle.cal_run.specs.Steps.{ThreadState, at_start, previous_after, state_after, taken_in}
 use Rattle.cal_run.specs.Threads.{IsThread}
+use Rattle.cal_run.specs.Timers.{AreTimers}
 use Rattle.cal_run.specs.declared.behind.Behind.{Behind}
 use Rattle.cal_run.specs.declared.plain_run.ThreadEnd.{ThreadEnd}
 use Rattle.cal_script.specs.declared.journal.Reply.{Reply}
@@ -16,14 +17,15 @@ use Rattle.cal_script.specs.declared.script.Line.{Line}
 use Rattle.cal_script.specs.declared.script.Script.{Script}
 use Rattle.cal_value.specs.declared.record.Rec.{Rec}
 
--- a thread is kept: as that of a channel, with its clock, and it has seen no more than stands
--- before it
+-- a thread is kept: as that of a channel, with its clock, it has seen no more than stands before
+-- it, and the timers are the script's
 pub record IsBehind (t : Tree) (script : Script) (b : Behind) (state : ThreadState) (previous : ℕ)
     : Type 0 where
   pub thread : IsThread t script (plain_history script) b.thread state previous
   pub clock : b.clock ≡ state.clock
   pub taken_in : b.thread.process.count ≤ b.seen
   pub seen : b.seen ≤ b.before
+  pub timers : AreTimers script b.timers
 
 -- for some state
 abbrev pub IsSomeBehind : Tree → Script → Behind → Type 0

@@ -9,6 +9,7 @@ pub mod Checking
 pub mod Numbers
 pub mod Held
 pub mod Adding
+pub mod Timers
 pub mod Behind
 pub mod Threads
 pub mod Seeing

@@ -69,13 +69,18 @@ seen_with script before seen l found = if is_process_line script l then before +
 abbrev pub reading_with : Script → (clock : ℕ) → Line → Option replies.Reply → Option ℕ
 reading_with script clock l found = if is_timed script l found then Some clock else None
 
--- the note of a line by that reply
-abbrev pub noted : Script → (before seen clock : ℕ) → Line → Option replies.Reply → LineNote
-noted script before seen clock l found = record {
+-- the note of a line by that reply and a reading, and by the one that it takes
+abbrev pub noted_as : Script → (before seen : ℕ) → Line → Option replies.Reply → Option ℕ
+    → LineNote
+noted_as script before seen l found reading = record {
   reply = unwrap_or found reply.Merged;
   seen = seen_with script before seen l found;
-  reading = reading_with script clock l found;
+  reading = reading;
 }
+
+abbrev pub noted : Script → (before seen clock : ℕ) → Line → Option replies.Reply → LineNote
+noted script before seen clock l found =
+    noted_as script before seen l found (reading_with script clock l found)
 
 -- A line was noted, and the thread is kept as the line leaves it.
 pub record IsNoted (script : Script) (before had : ℕ) (l : Line) (note : LineNote)

@@ -8,6 +8,7 @@ ghost use Rattle.cal_run.specs.Noting.{before_after};
 ghost use Rattle.cal_run.specs.Numbers.{AreNumbered};
 ghost use Rattle.cal_run.specs.Plain.{plain_history};
 ghost use Rattle.cal_run.specs.Steps.{ThreadState};
+ghost use Rattle.cal_run.specs.Timers.{AreTimers};
 ghost use Rattle.cal_valid.specs.Valid.{IsPlaced, IsRunnable};
 
 use crate::Numbers;
@@ -17,24 +18,27 @@ use crate::lines::is_process_line;
 use crate::note::note_behind;
 use crate::steps::{clock_after, is_accepted};
 use crate::thread::Thread;
+use crate::timers::{Timers, reading_if};
 use cal_context::{Context, Taker};
 use cal_script::{Channel, Line, Placed, Reply, Script};
 use cal_value::OutOfMemory;
 use std::alloc::Global;
 
 /// What is kept of a thread between two lines while it runs behind all lines before it: the thread
-/// of a channel, its script clock, how many operations it has seen, and how many stand before it.
+/// of a channel, its script clock, how many operations it has seen, and how many stand before it;
+/// and which lines of the script take readings.
 #[derive(Drop)]
 pub(crate) struct Behind {
     pub thread: Thread,
     pub clock: u64,
     pub seen: u64,
     pub before: usize,
+    pub timers: Timers,
 }
 
 impl Behind {
     /// Before the first line, behind so many operations.
-    pub(crate) fn new(alloc: Global, before: usize, timed: bool) -> Self
+    pub(crate) fn new(alloc: Global, script: &Script, before: usize, timed: bool) -> Self
         ensures board { result.thread.board ≡ nothing_open }
         ensures readings { result.thread.readings ≡ [] }
         ensures process { result.thread.process.board ≡ nothing_open }
@@ -44,12 +48,14 @@ impl Behind {
         ensures clock { result.clock ≡ 0 }
         ensures seen { result.seen ≡ 0 }
         ensures before { result.before ≡ before }
+        ensures timers { AreTimers script.now result.timers }
     {
         Behind {
             thread: Thread::new(alloc, 0, timed),
             clock: 0,
             seen: 0,
             before,
+            timers: Timers::of(script),
         }
     }
 
@@ -147,13 +153,15 @@ impl Behind {
             .process
             .take_in(alloc, script, numbers, history, first, context)?;
         let reply = reply_of(script, line, shared, &self.thread);
+        let accepted = is_accepted(reply);
+        let read = self.timers.is_read(script, line, accepted);
+        let reading = reading_if(read, self.clock);
         let before = self.before as u64;
-        let note = note_behind(script, line, shared, reply, before, self.seen, self.clock);
+        let note = note_behind(script, line, shared, reply, before, self.seen, reading);
         let seen = seen_before(shared, note);
         self.thread
             .process
             .take_in(alloc, script, numbers, history, seen as usize, context)?;
-        let accepted = is_accepted(reply);
         run_known(
             alloc,
             script,

@@ -43,6 +43,7 @@ mod services;
 mod shape;
 mod steps;
 mod thread;
+mod timers;
 mod walking;
 mod watch;
 

@@ -52,7 +52,7 @@ pub fn is_process_line(script: &Script, line: Line) -> bool
 }
 
 #[inline(always)]
-fn is_event(script: &Script, line: Line) -> bool
+pub(crate) fn is_event(script: &Script, line: Line) -> bool
     ensures { result ≡ is_such (is_event script.now) (operation_of line) }
 {
     match operation_of(line) {

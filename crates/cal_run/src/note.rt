@@ -1,6 +1,6 @@
 ghost use Rattle.std.specs.Prelude.{◌≡◌, ◌+◌, ◌<◌, if◌then◌else◌};
 ghost use Rattle.cal_run.specs.Lines.{is_process_line};
-ghost use Rattle.cal_run.specs.Noting.{noted, reading_with, seen_with};
+ghost use Rattle.cal_run.specs.Noting.{noted, noted_as, reading_with, seen_with};
 ghost use Rattle.cal_run.specs.Steps.{reply_to_line};
 
 use crate::lines::is_process_line;
@@ -40,19 +40,12 @@ pub(crate) fn note_of(
 {
     let shared = is_process_line(script, line);
     let before = process.count as u64;
-    note_behind(
-        script,
-        line,
-        shared,
-        reply,
-        before,
-        thread.seen,
-        thread.clock,
-    )
+    let reading = reading_with(script, line, reply, thread.clock);
+    note_behind(script, line, shared, reply, before, thread.seen, reading)
 }
 
-/// The note of a line with this reply, of a thread that has seen so much and stands behind so many
-/// operations.
+/// The note of a line with this reply and reading, of a thread that has seen so much and stands
+/// behind so many operations.
 #[inline(always)]
 pub(crate) fn note_behind(
     script: &Script,
@@ -61,16 +54,16 @@ pub(crate) fn note_behind(
     reply: Option<Reply>,
     before: u64,
     seen: u64,
-    clock: u64,
+    reading: Option<u64>,
 ) -> LineNote
     requires kind { shared ≡ is_process_line script.now line }
     requires few { before < 18446744073709551615 }
-    ensures { result ≡ noted script.now before seen clock line reply }
+    ensures { result ≡ noted_as script.now before seen line reply reading }
 {
     LineNote {
         reply: reply.unwrap_or(Reply::Merged),
         seen: seen_with(script, line, shared, reply, before, seen),
-        reading: reading_with(script, line, reply, clock),
+        reading,
     }
 }
 

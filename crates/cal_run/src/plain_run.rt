@@ -98,7 +98,7 @@ fn run_behind<T: Taker>(
     ensures ended { IfOk result (HasRun script.now before lines.now) }
     ensures grows { Grows context.old context.new }
 {
-    let mut behind = Behind::new(alloc, before, channel.timer);
+    let mut behind = Behind::new(alloc, script, before, channel.timer);
     let mut refused = 0;
     for place in 0..lines.len() {
         let line = line_in(lines, place);

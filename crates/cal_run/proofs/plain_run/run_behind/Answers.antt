@@ -32,7 +32,7 @@ loop-place-init g c =
         start-behind c.args.context.now script c.new-behind.result c.args.before
             (start-thread c.args.context.now script (plain_history script)
             c.new-behind.result.thread 0 start.board start.readings start.process start.count
-            start.previous) start.count start.clock start.seen start.before,
+            start.previous) start.count start.clock start.seen start.before start.timers,
         (λ rs had. subst (g.T.Taker.has_taken c.args.taker.now c.args.context.now)
             (sym (append-nil rs)) had),
         (λ j. taken_behind script c.args.channel.now (start.before j) (start.seen j) at_start 0

@@ -1,6 +1,6 @@
 use Rattle.std.proofs.Common.{◌≡◌, ◌∙◌, List, subst, sym, refl}
 use Rattle.cal_context.proofs.CallerLemmas.{Grows-trans}
-use Rattle.cal_run.proofs.BehindLemmas.{behind-answer, behind-thread, runs-behind}
+use Rattle.cal_run.proofs.BehindLemmas.{behind-answer, behind-thread, reading-made, runs-behind}
 use Rattle.cal_run.proofs.LineLemmas.{runs-earlier}
 use Rattle.cal_run.proofs.NumberLemmas.{AreNumbered-Grows}
 use Rattle.cal_run.specs.Held.{IsProcess}
@@ -51,7 +51,10 @@ run_known-requires-clause-thread g c =
           c.take_in.new.self) c.requires.history c.in_ok-take_in.ensures.process)
           (c.in_ok-take_in.ensures.seen ∙ c.seen_first-first.ensures)
           c.reply_of-reply.result c.reply_of-reply.ensures c.note_behind-note.result
-          c.note_behind-note.ensures
+          (c.note_behind-note.ensures ∙ reading-made c.args.script.now c.args.line
+          c.args.self.now.before c.args.self.now.seen c.args.self.now.clock c.reply_of-reply.result
+          c.is_accepted-accepted.result c.is_accepted-accepted.ensures c.is_read-read.result
+          c.is_read-read.ensures c.reading_if-reading.result c.reading_if-reading.ensures)
           (subst (λ (h : List Placed). IsProcess c.take_in-2.new.context c.args.script.now h
           c.take_in-2.new.self) c.requires.history c.in_ok-take_in-2.ensures.process)
           (c.in_ok-take_in-2.ensures.seen ∙ c.seen_before-seen.ensures)
@@ -68,7 +71,10 @@ run_known-requires-clause-answer g c =
     c.take_in.new.self) c.requires.history c.in_ok-take_in.ensures.process)
     (c.in_ok-take_in.ensures.seen ∙ c.seen_first-first.ensures)
     c.reply_of-reply.result c.reply_of-reply.ensures c.note_behind-note.result
-    c.note_behind-note.ensures
+    (c.note_behind-note.ensures ∙ reading-made c.args.script.now c.args.line
+    c.args.self.now.before c.args.self.now.seen c.args.self.now.clock c.reply_of-reply.result
+    c.is_accepted-accepted.result c.is_accepted-accepted.ensures c.is_read-read.result
+    c.is_read-read.ensures c.reading_if-reading.result c.reading_if-reading.ensures)
     (subst (λ (h : List Placed). IsProcess c.take_in-2.new.context c.args.script.now h
     c.take_in-2.new.self) c.requires.history c.in_ok-take_in-2.ensures.process)
     (c.in_ok-take_in-2.ensures.seen ∙ c.seen_before-seen.ensures)
@@ -99,6 +105,7 @@ returns-clause-runs g c = λ state previous is.
       clock = c.clock_behind-self.result;
       seen = note.seen;
       before = c.count_behind-self.result;
+      timers = c.args.self.now.timers;
     } in
     let met : Thread = record {
       board = c.args.self.now.thread.board;
@@ -114,7 +121,10 @@ returns-clause-runs g c = λ state previous is.
     c.take_in.new.self) c.requires.history c.in_ok-take_in.ensures.process)
     (c.in_ok-take_in.ensures.seen ∙ c.seen_first-first.ensures)
     c.reply_of-reply.result c.reply_of-reply.ensures c.note_behind-note.result
-    c.note_behind-note.ensures
+    (c.note_behind-note.ensures ∙ reading-made c.args.script.now c.args.line
+    c.args.self.now.before c.args.self.now.seen c.args.self.now.clock c.reply_of-reply.result
+    c.is_accepted-accepted.result c.is_accepted-accepted.ensures c.is_read-read.result
+    c.is_read-read.ensures c.reading_if-reading.result c.reading_if-reading.ensures)
     (subst (λ (h : List Placed). IsProcess c.take_in-2.new.context c.args.script.now h
     c.take_in-2.new.self) c.requires.history c.in_ok-take_in-2.ensures.process)
     (c.in_ok-take_in-2.ensures.seen ∙ c.seen_before-seen.ensures)
@@ -129,7 +139,10 @@ returns-clause-runs g c = λ state previous is.
     c.take_in.new.self) c.requires.history c.in_ok-take_in.ensures.process)
     (c.in_ok-take_in.ensures.seen ∙ c.seen_first-first.ensures)
     c.reply_of-reply.result c.reply_of-reply.ensures c.note_behind-note.result
-    c.note_behind-note.ensures
+    (c.note_behind-note.ensures ∙ reading-made c.args.script.now c.args.line
+    c.args.self.now.before c.args.self.now.seen c.args.self.now.clock c.reply_of-reply.result
+    c.is_accepted-accepted.result c.is_accepted-accepted.ensures c.is_read-read.result
+    c.is_read-read.ensures c.reading_if-reading.result c.reading_if-reading.ensures)
     (subst (λ (h : List Placed). IsProcess c.take_in-2.new.context c.args.script.now h
     c.take_in-2.new.self) c.requires.history c.in_ok-take_in-2.ensures.process)
     (c.in_ok-take_in-2.ensures.seen ∙ c.seen_before-seen.ensures)
@@ -142,3 +155,4 @@ returns-clause-runs g c = λ state previous is.
     (λ rs h. g.met.T.Taker.stays _ _ _ _ h
     (Grows-trans _ _ _ c.take_in.ensures.grows c.take_in-2.ensures.grows)) runs))
     c.in_ok-run_known.ensures.process refl c.clock_behind-self.ensures c.count_behind-self.ensures
+    refl
