@@ -4,3 +4,4 @@ pub mod Children
 pub mod Snapshots
 pub mod Taking
 pub mod Links
+pub mod LinkHash

@@ -3,6 +3,7 @@ ghost use Rattle.cal_context.specs.Tree.{attribute_at, path_at, value_at, Grows,
 ghost use Rattle.cal_context.specs.Children.{AddsAttribute, AddsChild, AddsLinked, AddsValue};
 ghost use Rattle.cal_context.specs.Children.{CanLink, IsLinked};
 
+use crate::links::Links;
 use crate::{AttributeNumber, Interner, Link, NodeNumber, ValueNumber};
 use cal_value::{Attribute, OutOfMemory, Variant};
 use std::alloc::Global;
@@ -14,7 +15,7 @@ pub struct Context {
     attributes: Interner<Attribute>,
     values: Interner<Variant>,
     // of each node but the root
-    links: Interner<Link>,
+    links: Links,
 }
 
 impl Model for Context {
@@ -36,7 +37,7 @@ impl Context {
         Context {
             attributes: Interner::new(alloc),
             values: Interner::new(alloc),
-            links: Interner::new(alloc),
+            links: Links::new(alloc),
         }
     }
 

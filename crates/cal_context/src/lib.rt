@@ -11,6 +11,8 @@ mod context;
 mod expansion;
 mod interner;
 mod laws;
+mod link_hasher;
+mod links;
 mod numbers;
 mod snapshot;
 mod taker;
