@@ -22,18 +22,18 @@ mixed word =
 abbrev pub word : ℕ → ℕ → ℕ
 word high low = bit_or ((high * 2 ^ 32) % 2 ^ 64) low
 
--- what the links by an attribute and two values have in common
+-- what the links by an attribute and four values have in common
 abbrev pub start : LinkHasher → ℕ
-start h = mixed (word h.attribute (h.value / 2))
+start h = mixed (word h.attribute (h.value / 4))
 
--- and those below 64 parents
+-- and those of them below 32 parents
 abbrev pub page : LinkHasher → ℕ
-page h = mixed ((start h + h.parent / 64) % 2 ^ 64)
+page h = mixed ((start h + h.parent / 32) % 2 ^ 64)
 
 -- The hash of a link: 24 bits of its place, and above them 8 of its tag.
 unfoldable pub finish : LinkHasher → ℕ
 finish h =
-    let first = (bit_and (page h) 0x3_FFFF * 2 ^ 6) % 2 ^ 64 in
-    let place = bit_or first ((start h + h.parent) % 2 ^ 64 % 64) in
-    let numbers = bit_xor (bit_xor (page h / 2 ^ 40) (h.parent * 4)) (h.value * 2) in
+    let first = (bit_and (page h) 0x7_FFFF * 2 ^ 5) % 2 ^ 64 in
+    let place = bit_or first ((start h + h.parent) % 2 ^ 64 % 32) in
+    let numbers = bit_xor (bit_xor (page h / 2 ^ 40) (h.parent * 8)) (h.value * 2) in
     bit_or place ((bit_and numbers 0xFF * 2 ^ 24) % 2 ^ 64)

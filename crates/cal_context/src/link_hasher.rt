@@ -6,15 +6,15 @@ use std::hash::{BuildHasher, Hasher};
 /// Makes the hasher of each link.
 ///
 /// A look-up costs little but the wait for the link's place in the table, and nodes come in an
-/// order: the parents of new ones are mostly new themselves. So 64 neighbouring parents have their
-/// nodes by one value in 64 places side by side, a page of memory, and two values whose numbers
-/// are neighbours share it. What is added goes to a few pages, and the processor has them at hand.
+/// order: the parents of new ones are mostly new themselves. So 32 neighbouring parents have their
+/// nodes by one value in 32 places side by side, a page, which four values share whose numbers are
+/// neighbours. What is added goes to a few pages, and the processor has them at hand.
 ///
-/// The pages lie all over the table, and where they begin is mixed too. So the nodes below one
-/// parent lie all over, and where every one of the parents has a node by both values, a page has
-/// two to a place. Then a search goes on over a few places, and in any tree over a few pages at
-/// most, however large it is. As under the library's own hasher, whoever picks names and their
-/// order can make links meet on purpose.
+/// The pages lie all over the table, and which place is a page's first is mixed too. So the nodes
+/// below one parent lie all over, and where each of the parents has a node by all four values, a
+/// page has four to a place. Then a search goes on over some ten places, however large the tree
+/// is. As under the library's own hasher, whoever picks names and their order can make links meet
+/// on purpose.
 #[derive(Clone, Copy, Drop)]
 pub(crate) struct LinkHashers;
 
@@ -52,10 +52,10 @@ impl Hasher for LinkHasher {
     fn finish(&self) -> u64 {
         let parent = self.parent as u64;
         let value = self.value as u64;
-        let start = mixed((self.attribute as u64) << 32 | value / 2);
-        let page = mixed(start.wrapping_add(parent / 64));
-        let place = (page & 0x3_FFFF) << 6 | start.wrapping_add(parent) % 64;
-        let tag = (page >> 40 ^ parent * 4 ^ value * 2) & 0xFF;
+        let start = mixed((self.attribute as u64) << 32 | value / 4);
+        let page = mixed(start.wrapping_add(parent / 32));
+        let place = (page & 0x7_FFFF) << 5 | start.wrapping_add(parent) % 32;
+        let tag = (page >> 40 ^ parent * 8 ^ value * 2) & 0xFF;
         place | tag << 24
     }
 
