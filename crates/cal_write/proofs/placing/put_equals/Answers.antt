@@ -4,8 +4,13 @@ use Rattle.cal_write.proofs.placing.put_equals.Goals as goal
 
 pub put_bytes-requires : goal.put_bytes-requires
 put_bytes-requires c =
-    omega (arith, c.requires, ap length c.as_bytes-text.ensures.value, c.format.ensures.fits,
-    length-set c.args.bytes.now c.args.at 61)
+    omega (
+      arith,
+      c.requires,
+      ap length c.as_bytes-text.ensures.value,
+      c.format.ensures.fits,
+      length-set c.args.bytes.now c.args.at 61,
+    )
 
 pub returns-clause-written : goal.returns-clause-written
 returns-clause-written c =
