@@ -9,7 +9,7 @@ use std::alloc::Global;
 use std::marker::Model;
 
 /// The immediates of the next snapshot, put one behind another over those of the snapshot before,
-/// whose memory serves again.
+/// whose memory serves again. After an `Err` nothing is promised of it.
 #[derive(Drop)]
 pub struct Draft {
     snapshot: Snapshot,

@@ -11,6 +11,7 @@ pub struct Ticks {
 }
 
 impl Ticks {
+    /// A number in two halves. Each number has one such form.
     pub fn new(number: u64) -> Ticks
         ensures { result ≡ ticks_of number }
     {
@@ -20,6 +21,7 @@ impl Ticks {
         }
     }
 
+    /// The number that they make.
     pub fn number(self) -> u64
         ensures { result ≡ number_of_ticks self }
     {
