@@ -1,2 +1,3 @@
 mod Turns
 pub mod EachLine
+pub mod BeginLines

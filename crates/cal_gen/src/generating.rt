@@ -1,4 +1,5 @@
-ghost use Rattle.std.specs.Prelude.{◌≡◌, ◌<◌, ◌≤◌, [], ◌∷◌, ◌++◌, codes, decimal, IfOk, OnOk};
+ghost use Rattle.std.specs.Prelude.{◌≡◌, ◌<◌, ◌≤◌, [], ◌∷◌, ◌++◌, codes, decimal, length, map};
+ghost use Rattle.std.specs.Prelude.{slice_index_or, IfOk, OnOk};
 ghost use Rattle.cal_gen.specs.Draws.{drawn, next};
 ghost use Rattle.cal_gen.specs.Generated.{generated, line_from, lines_from, look_line};
 
@@ -96,30 +97,41 @@ fn push_begin(text: &mut Text, draws: &mut Draws) -> Result<(), OutOfMemory>
     text.push_str(begin_line(draws.draw(16)))
 }
 
-/// The line that opens a value, whole: most lines with a number are such, and one piece is
-/// appended faster than three.
+/// The lines that open values, each whole: most lines with a number are such, and one piece is
+/// appended faster than three. They lie in a list, since a choice among sixteen is mostly guessed
+/// wrong by a processor.
+const BEGIN_LINES: [&str; 16] = [
+    "begin function f0\n",
+    "begin function f1\n",
+    "begin function f2\n",
+    "begin function f3\n",
+    "begin function f4\n",
+    "begin function f5\n",
+    "begin function f6\n",
+    "begin function f7\n",
+    "begin function f8\n",
+    "begin function f9\n",
+    "begin function f10\n",
+    "begin function f11\n",
+    "begin function f12\n",
+    "begin function f13\n",
+    "begin function f14\n",
+    "begin function f15\n",
+];
+
+/// The line that opens a value.
 fn begin_line(value: u32) -> &'static str
     requires { value < 16 }
     ensures { result.now ≡ (codes "begin function f" ++ decimal value) ++ 10 ∷ [] }
 {
-    match value {
-        0 => "begin function f0\n",
-        1 => "begin function f1\n",
-        2 => "begin function f2\n",
-        3 => "begin function f3\n",
-        4 => "begin function f4\n",
-        5 => "begin function f5\n",
-        6 => "begin function f6\n",
-        7 => "begin function f7\n",
-        8 => "begin function f8\n",
-        9 => "begin function f9\n",
-        10 => "begin function f10\n",
-        11 => "begin function f11\n",
-        12 => "begin function f12\n",
-        13 => "begin function f13\n",
-        14 => "begin function f14\n",
-        _ => "begin function f15\n",
-    }
+    text_at(&BEGIN_LINES, value as usize)
+}
+
+fn text_at(texts: &[&'static str], place: usize) -> &'static str
+    requires { place < length texts.now }
+    ensures { result.now ≡ slice_index_or (map (λ text. text.now) texts.now) place [] }
+{
+    texts[place]
 }
 
 /// Appends a line of a word and a number that is drawn from so many.
