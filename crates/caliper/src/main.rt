@@ -4,7 +4,7 @@
 //! grown by exactly the text that the command makes of its input, as `serial` the records of the
 //! run that a script and its journal give, and every other status has its cause. What standard
 //! input holds, and where standard output leads, no contract can say: `main` only lends them to
-//! `serve`, with the runtime, by which a run is counted in one thread and measured in another.
+//! `serve`, and the runtime, by which the two calls behind a summary are joined.
 #![tactic(auto)]
 
 mod about;

@@ -24,7 +24,8 @@ pub const INPUT_LIMIT: u64 = 268_435_456;
 /// and its line is put on `errors`. What is asked first is refused first: the words, then the text
 /// of a query, then reading, then the script and the journal or the stream, then writing; memory
 /// may be refused at any point before the first byte is written. It takes time in the bytes of the
-/// input and the text, and for each channel in the lines of a script.
+/// input and the text, and for each channel in the lines of a script. `rt` joins the two calls that
+/// a summary is made of; nothing else of it is used.
 pub fn run<R: Threads + Sync, S: Source, W: Sink, E: Sink>(
     rt: &R,
     alloc: Global,
