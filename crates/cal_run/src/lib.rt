@@ -15,7 +15,6 @@ mod finding;
 mod found;
 mod lawful;
 mod laws;
-mod likely;
 mod line;
 mod lines;
 mod meeting;

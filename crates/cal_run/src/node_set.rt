@@ -46,16 +46,6 @@ impl NodeSet {
         self.nodes.as_slice()
     }
 
-    /// The number behind that of the last node. In a walk that was made before in this context, a
-    /// node that is new to the set mostly has it.
-    #[inline(always)]
-    pub(crate) fn likely(&self) -> NodeNumber {
-        match self.nodes.last() {
-            Some(node) => NodeNumber(node.0.saturating_add(1)),
-            None => NodeNumber(1),
-        }
-    }
-
     /// Adds a node, if it isn't there.
     pub(crate) fn add(&mut self, node: NodeNumber) -> Result<(), OutOfMemory>
         ensures { OnOk result (Adds self.old node self.new) }

@@ -9,7 +9,7 @@ ghost use Rattle.cal_run.specs.Numbers.{AreNumbered};
 ghost use Rattle.cal_run.specs.Paths.{held_behind, own_operation, paths_of};
 ghost use Rattle.cal_value.specs.declared.variant.Variant as variants;
 
-use crate::likely::operate_likely;
+use crate::boards::operate;
 use crate::lines::is_process_line;
 use crate::node_set::NodeSet;
 use crate::{Numbers, Operation, operation_of};
@@ -61,8 +61,7 @@ pub(crate) fn hold_behind(
     match op {
         None => Ok(()),
         Some(op) => {
-            let likely = held.nodes.likely();
-            operate_likely(alloc, script, numbers, op, likely, board, context)?;
+            operate(alloc, script, numbers, op, board, context)?;
             held.add_board(script, numbers, board, context)
         }
     }

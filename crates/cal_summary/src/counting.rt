@@ -1,7 +1,23 @@
 ghost use Rattle.std.specs.Prelude.{◌≡◌, ◌+◌, length, sum_by, IfOk};
+ghost use Rattle.cal_summary.specs.Counted.{IsCounted};
+ghost use Rattle.cal_valid.specs.Valid.{IsRunnable};
 
+use cal_context::Context;
+use cal_run::{Numbers, PlainCounts, count_plain};
 use cal_script::Script;
 use cal_value::OutOfMemory;
+use std::alloc::Global;
+
+/// What boards hold and channels take in the run of the threads one after another, counted in a
+/// context of its own.
+pub(crate) fn count_run(alloc: Global, script: &Script) -> Result<PlainCounts, OutOfMemory>
+    requires { IsRunnable script.now }
+    ensures { IfOk result (IsCounted script.now) }
+{
+    let mut context = Context::new(alloc);
+    let numbers = Numbers::of(alloc, script, &mut context)?;
+    count_plain(alloc, script, &numbers, &mut context)
+}
 
 /// The lines of all threads.
 pub(crate) fn count_lines(script: &Script) -> Result<u64, OutOfMemory>

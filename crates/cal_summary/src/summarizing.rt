@@ -1,15 +1,17 @@
-ghost use Rattle.std.specs.Prelude.{◌≡◌, [], IfOk};
+ghost use Rattle.std.specs.Prelude.{◌≡◌, IfOk};
 ghost use Rattle.cal_run.specs.Plain.{plain};
+ghost use Rattle.cal_summary.specs.Counted.{IsCounted, IsMeasured};
 ghost use Rattle.cal_summary.specs.Summaries.{summary_of};
 ghost use Rattle.cal_valid.specs.Valid.{IsRunnable};
 
-use crate::counting::count_lines;
+use crate::counting::{count_lines, count_run};
 use crate::measuring::measure_run;
-use cal_context::Context;
-use cal_run::{Numbers, count_plain};
+use cal_run::PlainCounts;
 use cal_script::Script;
 use cal_value::OutOfMemory;
+use cal_write::Measure;
 use std::alloc::Global;
+use std::thread::{Threads, join};
 
 /// How large a run is.
 #[derive(Clone, Copy, Debug, PartialEq, Eq)]
@@ -27,29 +29,41 @@ pub struct Summary {
     pub bytes: u64,
 }
 
-/// How large the run of the threads one after another is, of whose journal nothing is kept. It takes
-/// time as the writing of its text, which isn't kept either.
-pub fn summarize(alloc: Global, script: &Script) -> Result<Summary, OutOfMemory>
+/// How large the run of the threads one after another is, of whose journal nothing is kept. What
+/// channels take and boards hold is counted while the text is measured. Each takes time in the
+/// lines, as the writing of the text does, which isn't kept either.
+pub fn summarize<R: Threads + Sync>(
+    rt: &R,
+    alloc: Global,
+    script: &Script,
+) -> Result<Summary, OutOfMemory>
     requires { IsRunnable script.now }
     ensures { IfOk result (λ summary. summary ≡ summary_of script.now (plain script.now)) }
 {
-    let mut context = Context::new(alloc);
-    summarize_in(alloc, script, &mut context)
+    let (counts, measure) = join(
+        rt,
+        || -> Result<PlainCounts, OutOfMemory>
+            requires { IsRunnable script.now }
+            ensures { IfOk result (IsCounted script.entry.now) }
+        { count_run(alloc, script) },
+        || -> Result<Measure, OutOfMemory>
+            requires { IsRunnable script.now }
+            ensures { IfOk result (IsMeasured script.entry.now) }
+        { measure_run(alloc, script) },
+    );
+    summary_by(script, counts?, measure?)
 }
 
-/// The same in a context without attributes.
-fn summarize_in(
-    alloc: Global,
+/// The summary of a run that was counted and measured.
+fn summary_by(
     script: &Script,
-    context: &mut Context,
+    counts: PlainCounts,
+    measure: Measure,
 ) -> Result<Summary, OutOfMemory>
-    requires runnable { IsRunnable script.now }
-    requires none { context.old.attributes ≡ [] }
+    requires counted { IsCounted script.now counts }
+    requires measured { IsMeasured script.now measure }
     ensures { IfOk result (λ summary. summary ≡ summary_of script.now (plain script.now)) }
 {
-    let numbers = Numbers::of(alloc, script, context)?;
-    let measure = measure_run(alloc, script, &numbers, context)?;
-    let counts = count_plain(alloc, script, &numbers, context)?;
     let threads = script.threads.len();
     let lines = count_lines(script)?;
     let groups = measure.rows - counts.traced;

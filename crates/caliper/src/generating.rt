@@ -14,10 +14,12 @@ use cal_base::{Sink, Source};
 use cal_gen::generate;
 use cal_value::{OutOfMemory, Text};
 use std::alloc::Global;
+use std::thread::Threads;
 
 /// Generates the script of a seed and two sizes, and writes it or how large its run is. It leaves
 /// the input as it is.
-pub fn write_generated<S: Source, W: Sink>(
+pub fn write_generated<R: Threads + Sync, S: Source, W: Sink>(
+    rt: &R,
     alloc: Global,
     seed: u32,
     threads: u32,
@@ -33,7 +35,7 @@ pub fn write_generated<S: Source, W: Sink>(
     ensures output { writes (result_err result) ≡ false → output.new ≡ output.old }
 {
     let _ = input;
-    let Ok(text) = printed(alloc, seed, threads, lines, print) else {
+    let Ok(text) = printed(rt, alloc, seed, threads, lines, print) else {
         return Err(Fault::OutOfMemory);
     };
     match output.put(text.as_str().as_bytes()) {
@@ -43,7 +45,8 @@ pub fn write_generated<S: Source, W: Sink>(
 }
 
 /// What is printed of the script of a seed and two sizes.
-fn printed(
+fn printed<R: Threads + Sync>(
+    rt: &R,
     alloc: Global,
     seed: u32,
     threads: u32,
@@ -55,6 +58,6 @@ fn printed(
     let script = generate(alloc, seed, threads, lines)?;
     match print {
         Print::Script => Ok(script),
-        Print::Summary => summary_lines(alloc, script),
+        Print::Summary => summary_lines(rt, alloc, script),
     }
 }

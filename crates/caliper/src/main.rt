@@ -4,7 +4,7 @@
 //! grown by exactly the text that the command makes of its input, as `serial` the records of the
 //! run that a script and its journal give, and every other status has its cause. What standard
 //! input holds, and where standard output leads, no contract can say: `main` only lends them to
-//! `serve`.
+//! `serve`, and the runtime, by which the two calls behind a summary are joined.
 #![tactic(auto)]
 
 mod about;
@@ -41,12 +41,13 @@ use std::rt::Env;
 pub use used::UsedJournal;
 pub use words::{Command, Print, read_words};
 
-/// Lends the standard streams.
+/// Lends the runtime and the standard streams.
 fn main(rt: HostRuntime) -> ExitCode {
     let mut input = StdSource::new(rt.stdin());
     let mut output = StdSink::new(rt.stdout());
     let mut errors = StdSink::new(rt.stderr());
     serve(
+        &rt,
         rt.alloc(),
         words_of(&rt),
         &mut input,

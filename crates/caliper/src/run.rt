@@ -14,6 +14,7 @@ use crate::{Command, Fault, Outcome, read_words};
 use cal_base::{Sink, Source};
 use cal_run::first_broken_law;
 use std::alloc::Global;
+use std::thread::Threads;
 
 /// The most bytes that an input may have.
 pub const INPUT_LIMIT: u64 = 268_435_456;
@@ -23,8 +24,10 @@ pub const INPUT_LIMIT: u64 = 268_435_456;
 /// and its line is put on `errors`. What is asked first is refused first: the words, then the text
 /// of a query, then reading, then the script and the journal or the stream, then writing; memory
 /// may be refused at any point before the first byte is written. It takes time in the bytes of the
-/// input and the text, and for each channel in the lines of a script.
-pub fn run<S: Source, W: Sink, E: Sink>(
+/// input and the text, and for each channel in the lines of a script. `rt` joins the two calls that
+/// a summary is made of; nothing else of it is used.
+pub fn run<R: Threads + Sync, S: Source, W: Sink, E: Sink>(
+    rt: &R,
     alloc: Global,
     words: &[String],
     input: &mut S,
@@ -50,13 +53,14 @@ pub fn run<S: Source, W: Sink, E: Sink>(
     ensures errors { IfNone result.fault (errors.new ≡ errors.old) }
 {
     first_broken_law();
-    let ended = carry_out(alloc, words, input, output);
+    let ended = carry_out(rt, alloc, words, input, output);
     end(errors, ended)
 }
 
 /// Does what the words ask for, and gives the fault where it does less.
 #[tactic(auto, using(crate::proofs::Tasks::leaves_query))]
-fn carry_out<S: Source, W: Sink>(
+fn carry_out<R: Threads + Sync, S: Source, W: Sink>(
+    rt: &R,
     alloc: Global,
     words: &[String],
     input: &mut S,
@@ -78,7 +82,7 @@ fn carry_out<S: Source, W: Sink>(
                 lines,
                 print,
             },
-        ) => write_generated(alloc, seed, threads, lines, print, input, output).err(),
+        ) => write_generated(rt, alloc, seed, threads, lines, print, input, output).err(),
         Err(word) => Some(Fault::Usage { word }),
     };
     Ended::without_journal(alloc, fault)

@@ -11,9 +11,11 @@ use crate::{Fault, Outcome, about, run};
 use cal_base::{Sink, Source};
 use std::alloc::Global;
 use std::process::ExitCode;
+use std::thread::Threads;
 
 /// Serves a command line, or refuses it where it couldn't be read, and gives the status.
-pub fn serve<S: Source, W: Sink, E: Sink>(
+pub fn serve<R: Threads + Sync, S: Source, W: Sink, E: Sink>(
+    rt: &R,
     alloc: Global,
     words: Result<Vec<String>, Fault>,
     input: &mut S,
@@ -39,14 +41,15 @@ pub fn serve<S: Source, W: Sink, E: Sink>(
     ensures errors { exit_status result ≡ 0 → errors.new ≡ errors.old }
 {
     let outcome = match words {
-        Ok(words) => answer(alloc, words.as_slice(), input, output, errors),
+        Ok(words) => answer(rt, alloc, words.as_slice(), input, output, errors),
         Err(fault) => end(errors, Ended::without_journal(alloc, Some(fault))),
     };
     ExitCode::from(outcome.status)
 }
 
 /// Shows the text that the words ask for, or runs their command.
-fn answer<S: Source, W: Sink, E: Sink>(
+fn answer<R: Threads + Sync, S: Source, W: Sink, E: Sink>(
+    rt: &R,
     alloc: Global,
     words: &[String],
     input: &mut S,
@@ -64,7 +67,7 @@ fn answer<S: Source, W: Sink, E: Sink>(
 {
     match about(words) {
         Some(text) => end(errors, Ended::without_journal(alloc, show(text, output))),
-        None => run(alloc, words, input, output, errors),
+        None => run(rt, alloc, words, input, output, errors),
     }
 }
 

@@ -8,15 +8,20 @@ use cal_summary::{summarize, summary_text};
 use cal_valid::valid_script_law;
 use cal_value::{OutOfMemory, Text};
 use std::alloc::Global;
+use std::thread::Threads;
 
 /// The six lines of how large the run is that a script's text and its plain journal give. A text
 /// that is no script, as a generated one never is, is answered as want of memory is.
-pub fn summary_lines(alloc: Global, text: Text) -> Result<Text, OutOfMemory>
+pub fn summary_lines<R: Threads + Sync>(
+    rt: &R,
+    alloc: Global,
+    text: Text,
+) -> Result<Text, OutOfMemory>
     ensures { IfOk result (IsPrinted print.Summary text) }
 {
     valid_script_law();
     let script = read(alloc, text)?;
-    let summary = summarize(alloc, &script)?;
+    let summary = summarize(rt, alloc, &script)?;
     summary_text(alloc, &summary)
 }
 

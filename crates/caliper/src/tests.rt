@@ -13,6 +13,7 @@ use cal_base::{MemSink, MemSource};
 use cal_value::Seq;
 use std::alloc::Global;
 use std::test::Fail;
+use std::thread::Threads;
 
 /// What a call left.
 #[derive(Drop)]
@@ -36,7 +37,8 @@ fn source(alloc: Global, script: &str, failing: Seq<u64>) -> Result<MemSource, F
 }
 
 /// A call over streams in memory, some of whose calls are to fail.
-fn call(
+fn call<R: Threads + Sync>(
+    rt: &R,
     alloc: Global,
     words: &[&str],
     script: &str,
@@ -47,6 +49,7 @@ fn call(
     let words = texts(alloc, words)?;
     let mut input = source(alloc, script, reads)?;
     let outcome = run(
+        rt,
         alloc,
         words.as_slice(),
         &mut input,

@@ -145,7 +145,7 @@ fn a_plain_run_is_counted(rt: HostRuntime) -> Result<(), Fail> {
 #[test]
 fn a_plain_run_is_summed_up(rt: HostRuntime) -> Result<(), Fail> {
     let script = runnable(rt.alloc(), NESTED)?;
-    let summary = summarize(rt.alloc(), &script);
+    let summary = summarize(&rt, rt.alloc(), &script);
     drop(script);
     let summary = summary?;
     assert!(rt; summary.threads == 1 && summary.lines == 7 && summary.nodes == 2);

@@ -5,17 +5,24 @@ use cal_base::MemSink;
 use cal_value::Seq;
 use std::alloc::Global;
 use std::test::Fail;
+use std::thread::Threads;
 
 /// A call over the first script, whose reads of these numbers fail.
-fn call_with_reads(alloc: Global, reads: Seq<u64>, output: MemSink) -> Result<Ran, Fail> {
-    call(alloc, &["serial"], FIRST, reads, output, sink(alloc, 100)?)
+fn call_with_reads<R: Threads + Sync>(
+    rt: &R,
+    alloc: Global,
+    reads: Seq<u64>,
+    output: MemSink,
+) -> Result<Ran, Fail> {
+    let errors = sink(alloc, 100)?;
+    call(rt, alloc, &["serial"], FIRST, reads, output, errors)
 }
 
 #[test]
 fn a_failed_read_is_told(rt: HostRuntime) -> Result<(), Fail> {
     let alloc = rt.alloc();
     for read in 1..4u64 {
-        let ran = call_with_reads(alloc, one(alloc, read)?, sink(alloc, 1000)?)?;
+        let ran = call_with_reads(&rt, alloc, one(alloc, read)?, sink(alloc, 1000)?)?;
         // the script comes with the first read, and its end with the second
         let status = if read < 3 { 5 } else { 0 };
         assert_eq!(rt; ran.outcome.status, status, "read {read}");
@@ -30,7 +37,7 @@ fn a_failed_write_is_told(rt: HostRuntime) -> Result<(), Fail> {
     let text = FIRST_TEXT.as_bytes();
     for put in 1..3u64 {
         let output = MemSink::new(alloc, 1000, one(alloc, put)?)?;
-        let ran = call_with_reads(alloc, Seq::new(alloc), output)?;
+        let ran = call_with_reads(&rt, alloc, Seq::new(alloc), output)?;
         let status = if put == 1 { 6 } else { 0 };
         assert_eq!(rt; ran.outcome.status, status, "put {put}");
         assert!(rt; text.starts_with(ran.output.bytes()), "put {put}");
@@ -44,7 +51,7 @@ fn a_sink_without_room_keeps_a_front(rt: HostRuntime) -> Result<(), Fail> {
     let text = FIRST_TEXT.as_bytes();
     let told = b"caliper: write failed\n".as_slice();
     for room in 0..text.len() {
-        let ran = call_with_reads(alloc, Seq::new(alloc), sink(alloc, room as u64)?)?;
+        let ran = call_with_reads(&rt, alloc, Seq::new(alloc), sink(alloc, room as u64)?)?;
         assert_eq!(rt; ran.outcome.fault, Some(Fault::WriteFault), "room {room}");
         assert_eq!(rt; ran.output.bytes(), &text[..room], "room {room}");
         assert_eq!(rt; ran.errors.bytes(), told, "room {room}");
@@ -57,6 +64,7 @@ fn failing_errors_change_no_status(rt: HostRuntime) -> Result<(), Fail> {
     let alloc = rt.alloc();
     for room in 0..24u64 {
         let ran = call(
+            &rt,
             alloc,
             &["serial"],
             "begin",

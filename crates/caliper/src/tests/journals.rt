@@ -46,6 +46,7 @@ fn the_journal_is_handed_back(rt: HostRuntime) -> Result<(), Fail> {
     let alloc = rt.alloc();
     for (script, ops, threads) in [(EXCHANGED, 2, 2), (REFUSED, 0, 1), (FALLING, 0, 0)] {
         let ran = call(
+            &rt,
             alloc,
             SERIAL,
             script,

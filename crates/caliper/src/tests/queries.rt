@@ -180,6 +180,7 @@ fn a_read_that_fails_behind_a_fault_is_told(rt: HostRuntime) -> Result<(), Fail>
     let alloc = rt.alloc();
     for read in 1..4u64 {
         let ran = call(
+            &rt,
             alloc,
             &["query"],
             "__rec=ctx,ref=12\n",

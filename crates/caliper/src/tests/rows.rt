@@ -3,6 +3,7 @@ use super::{call, sink};
 use cal_value::Seq;
 use std::process::Abort;
 use std::test::Fail;
+use std::thread::Threads;
 
 /// A call with these words over a script, and what it leaves.
 #[derive(Clone, Copy)]
@@ -58,10 +59,14 @@ pub fn refused(
 }
 
 /// Asserts that the calls of these rows leave what the rows say.
-pub fn assert_rows(rt: &(impl Abort + AllocGlobal), rows: &[Row]) -> Result<(), Fail> {
+pub fn assert_rows<R: Abort + AllocGlobal + Threads + Sync>(
+    rt: &R,
+    rows: &[Row],
+) -> Result<(), Fail> {
     let alloc = rt.alloc();
     for (place, row) in rows.iter().enumerate() {
         let ran = call(
+            rt,
             alloc,
             row.words,
             row.script,

@@ -5,10 +5,11 @@ use crate::{Fault, serve};
 use cal_value::Seq;
 use std::process::{Abort, ExitCode};
 use std::test::Fail;
+use std::thread::Threads;
 
 /// Serves these words over the first script, and asserts what that leaves.
-fn assert_served(
-    rt: &(impl Abort + AllocGlobal),
+fn assert_served<R: Abort + AllocGlobal + Threads + Sync>(
+    rt: &R,
     words: Result<Vec<String>, Fault>,
     room: u64,
     status: u8,
@@ -19,7 +20,7 @@ fn assert_served(
     let mut input = source(alloc, FIRST, Seq::new(alloc))?;
     let mut output = sink(alloc, room)?;
     let mut errors = sink(alloc, 100)?;
-    let code = serve(alloc, words, &mut input, &mut output, &mut errors);
+    let code = serve(rt, alloc, words, &mut input, &mut output, &mut errors);
     assert_eq!(rt; code, ExitCode::from(status));
     assert_eq!(rt; output.bytes(), text.as_bytes());
     assert_eq!(rt; errors.bytes(), told.as_bytes());

@@ -11,20 +11,20 @@ use Rattle.cal_run.proofs.paths.hold_behind.Goals as goal
 
 pub add_board-requires-clause-numbered : goal.add_board-requires-clause-numbered
 add_board-requires-clause-numbered c =
-    AreNumbered-Grows c.operate_likely.ensures.grows c.args.script.now c.args.numbers.now
+    AreNumbered-Grows c.operate.ensures.grows c.args.script.now c.args.numbers.now
     c.requires.numbered
 
-pub returns-in_ok-operate_likely-in-Some-clause-held : goal.returns-in_ok-operate_likely-in-Some-clause-held
-returns-in_ok-operate_likely-in-Some-clause-held c =
+pub returns-in_ok-operate-in-Some-clause-held : goal.returns-in_ok-operate-in-Some-clause-held
+returns-in_ok-operate-in-Some-clause-held c =
     let script = c.args.script.now in
     let was = c.args.context.now in
-    let now = c.operate_likely.new.context in
+    let now = c.operate.new.context in
     let old = c.args.held.now.nodes in
     let new = c.add_board.new.self.nodes in
     on_ok_weaker c.add_board.result (λ adds b holds.
     let after = board_with script b c.in-Some.op in
     subst (λ (op : Option Operation). HoldsPaths was now old new (held_behind script b op))
     (sym c.in-Some.is)
-    (holds-grown c.operate_likely.ensures.grows now old new (paths_of script after)
-    (adds after (c.in_ok-operate_likely-in-Some.ensures.changed b holds))))
+    (holds-grown c.operate.ensures.grows now old new (paths_of script after)
+    (adds after (c.in_ok-operate-in-Some.ensures.changed b holds))))
     c.add_board.ensures

@@ -1,14 +1,16 @@
-use Rattle.std.proofs.Common.{ap, ◌∙◌}
+use Rattle.std.proofs.Common.{ap, ◌∙◌, rules}
 use Rattle.std.proofs.lemmas.Result.{IfOk-weaker}
 use Rattle.cal_summary.specs.Summaries.{summary_text}
 use Rattle.caliper.proofs.summarizing.summary_lines.Goals as goal
 
 pub summarize-requires : goal.summarize-requires
-summarize-requires c =
-    c.valid_script_law.ensures c.in_ok-script.script (c.args.text, c.in_ok-script.ensures)
+summarize-requires g c = (
+  search rules,
+  c.valid_script_law.ensures c.in_ok-script.script (c.args.text, c.in_ok-script.ensures),
+)
 
 pub returns : goal.returns
-returns c =
+returns g c =
     let script = c.in_ok-script.script in
     IfOk-weaker c.summary_text.result _ _
     (λ lines is. (
