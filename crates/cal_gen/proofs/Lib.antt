@@ -1,3 +1,2 @@
 mod Turns
-pub mod EachLine
 pub mod BeginLines

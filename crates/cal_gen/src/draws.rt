@@ -3,14 +3,15 @@ ghost use Rattle.cal_gen.specs.Draws.{drawn, next};
 
 /// The draws of the generator: each makes a number of 31 bits of the last one.
 #[derive(Clone, Copy, Debug)]
-pub(crate) struct Draws {
-    pub(crate) x: u32,
+pub struct Draws {
+    /// The last one, or the seed.
+    pub x: u32,
 }
 
 impl Draws {
     /// Draws from so many, of which there is at least one.
     #[tactic(auto, unfolding(crate::specs::Draws::next, crate::specs::Draws::drawn))]
-    pub(crate) fn draw(&mut self, count: u32) -> u32
+    pub fn draw(&mut self, count: u32) -> u32
         requires { 0 < count }
         ensures next { self.new.x ≡ next self.old.x }
         ensures drawn { result ≡ drawn count self.new.x }

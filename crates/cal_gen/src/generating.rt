@@ -1,7 +1,7 @@
 ghost use Rattle.std.specs.Prelude.{◌≡◌, ◌<◌, ◌≤◌, [], ◌∷◌, ◌++◌, codes, decimal, length, map};
 ghost use Rattle.std.specs.Prelude.{slice_index_or, IfOk, OnOk};
 ghost use Rattle.cal_gen.specs.Draws.{drawn, next};
-ghost use Rattle.cal_gen.specs.Generated.{generated, line_from, lines_from, look_line};
+ghost use Rattle.cal_gen.specs.Generated.{generated, header, line_from, lines_from, look_line};
 
 use crate::draws::Draws;
 use crate::moves::Move;
@@ -36,6 +36,13 @@ fn room_for(threads: u32, lines: u32) -> usize {
     of_a_thread
         .saturating_mul(threads as usize)
         .saturating_add(HEADER.len())
+}
+
+/// The lines that declare what a script has, before its threads.
+pub fn header() -> &'static str
+    ensures { result.now ≡ header }
+{
+    HEADER
 }
 
 /// Appends the lines of a thread, each with its newline.

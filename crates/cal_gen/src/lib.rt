@@ -9,4 +9,6 @@ mod draws;
 mod generating;
 mod moves;
 
-pub use generating::generate;
+pub use draws::Draws;
+pub use generating::{generate, header};
+pub use moves::Move;

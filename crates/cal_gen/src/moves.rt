@@ -3,7 +3,7 @@ ghost use Rattle.cal_gen.specs.Generated.{move_of};
 
 /// What the next line of a thread does.
 #[derive(Clone, Copy, Debug, PartialEq, Eq)]
-pub(crate) enum Move {
+pub enum Move {
     Begin,
     End,
     Iterate,
@@ -13,7 +13,7 @@ pub(crate) enum Move {
 
 impl Move {
     /// The move of a choice from eight, where so many values are open.
-    pub(crate) fn of(choice: u32, depth: u32) -> Move
+    pub fn of(choice: u32, depth: u32) -> Move
         ensures meant { result ≡ move_of choice depth }
         ensures opens { result ≡ Move.Begin → depth < 32 }
         ensures closes { result ≡ Move.End → 0 < depth }

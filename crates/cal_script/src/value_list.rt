@@ -47,6 +47,18 @@ impl ValueList {
         }
     }
 
+    /// The values at these places of those to be kept.
+    pub fn from_parts(alloc: Global, kept: Seq<Variant>, places: Seq<u32>) -> Self
+        requires { All (λ place. place < length kept) places }
+        ensures { result ≡ map (value_in kept) places }
+    {
+        ValueList {
+            kept,
+            places,
+            hints: Hints::new(alloc),
+        }
+    }
+
     pub fn len(&self) -> usize
         ensures { result ≡ length self.now }
     {

@@ -1,5 +1,5 @@
 -- What each line of a generated script makes of what stands before it.
-use Rattle.std.proofs.Common.{◌≡◌, ◌≢◌, ℕ, zero, suc, pos, ◌<◌, ◌≤◌, Bool, true, false, cond, eqb, List, [], ◌∷◌, ◌++◌, length, refl, ap, ◌∙◌, arith, lit≤, lit<}
+use Rattle.std.proofs.Common.{◌≡◌, ◌≢◌, ℕ, zero, suc, pos, ◌<◌, ◌≤◌, Bool, true, false, cond, eqb, List, [], ◌∷◌, ◌++◌, length, refl, sym, ap, ◌∙◌, arith, lit≤, lit<}
 use Rattle.std.specs.Prelude.{Option, Some, None, Result, Ok, Err, codes, decimal, nat_lt, ◌&&◌, ◌==◌, not, slice_index}
 use Rattle.std.specs.List.{All, list_all}
 use Rattle.std.specs.Option.{ok_or}
@@ -7,14 +7,16 @@ use Rattle.std.specs.Cmp.{first_so, second_so}
 use Rattle.std.specs.Str.{is_utf8}
 use Rattle.std.proofs.lemmas.Bool.{le-leb}
 use borrow.Author.Tests.{eqb-false, ltb-true}
+use Rattle.std.proofs.lemmas.List.{append-nil}
 use Rattle.std.proofs.lemmas.List.Elements.{All-nil, All-cons, All-head, All-tail, All-append, All-weaker}
 use Rattle.std.proofs.lemmas.Str.{IsUtf8-from_ascii, is_utf8-from_IsUtf8}
+use Rattle.cal_gen.specs.Draws.{drawn, next}
 use Rattle.cal_gen.specs.Generated as gen
-use Rattle.cal_gen.proofs.EachLine.{each_line}
+use Rattle.cal_gen.specs.declared.moves.Move as moves
+use Rattle.cal_gen.specs.declared.moves.Move.TheVariants as move
 use Rattle.cal_input.specs.FirstFault.{◌>>=◌}
 use Rattle.cal_line.specs.Lines.{HasNoNewline}
 use Rattle.cal_value.specs.Reading.{value_of}
-use Rattle.cal_value.specs.declared.attribute.Attribute.{Attribute}
 use Rattle.cal_value.specs.declared.kind.Kind.TheVariants as kind
 use Rattle.cal_value.specs.declared.variant.Variant.{Variant}
 use Rattle.cal_value.specs.declared.variant.Variant.TheVariants as variant
@@ -26,11 +28,11 @@ use Rattle.cal_script.specs.Reading.{limited, line_after, text_after, words_afte
 use Rattle.cal_script.specs.State.{State, counted, node_length, opening, with_line, with_opening}
 use Rattle.cal_script.specs.declared.kind.ScriptKind.{ScriptKind}
 use Rattle.cal_script.specs.declared.kind.ScriptKind.TheVariants.{BadEscape, BadValue, NotText, TooMany, WrongArity}
-use Rattle.cal_script.specs.declared.script.Channel.{Channel}
 use Rattle.cal_script.specs.declared.script.Line.{Line}
 use Rattle.cal_script.specs.declared.script.Line.TheVariants as line
 use Rattle.cal_script.specs.declared.tally.Tally.{Tally}
 use Rattle.cal_script.specs.Ticks.{ticks_of}
+use Rattle.cal_valid.specs.GeneratedScript.{function, iteration, line_of, name_value, number_value, opened, profile}
 use Rattle.cal_valid.proofs.GenDigits.{IsPlain, decimal_int, decimal_plain, decimal_short, decimal_uint, decimal_word, plain_text, plain_word}
 
 -- ---- bytes of a line
@@ -87,23 +89,6 @@ said_line state after text clean says said fine =
 
 -- ---- what stands in a generated script
 
-abbrev function : Attribute
-function = record { name = codes "function"; kind = kind.Str; props = record { 0 = 276 } }
-
-abbrev iteration : Attribute
-iteration = record { name = codes "iteration"; kind = kind.Int; props = record { 0 = 21 } }
-
-abbrev profile : Channel
-profile = record {
-  name = codes "profile";
-  event = true;
-  timer = true;
-  trace = false;
-  aggregate = true;
-  probes = [];
-  query = record { by_default = true; keys = []; values = codes "time.duration.ns" ∷ [] };
-}
-
 -- what its header declares, and what its threads have done
 abbrev pub standing : List Variant → List (List Line) → Option (List Line) → Tally → State
 standing values earlier thread tally = record {
@@ -117,69 +102,71 @@ standing values earlier thread tally = record {
   tally = tally;
 }
 
-name_said : (name : List ℕ) → All IsPlain name → length name ≤ 5 → value_said kind.Str name ≡ Ok (variant.Text name)
-name_said name plain short =
+name_read : (name : List ℕ) → All IsPlain name → length name ≤ 5 → value_said kind.Str name ≡ Ok (variant.Text name)
+name_read name plain short =
     ap (λ (found : Option (List ℕ)). ok_or found BadEscape >>= (λ text. ok_or (value_of kind.Str text) BadValue >>= allowed)) (plain_text name plain)
     ∙ ap (λ (small : Bool). cond small (Ok (variant.Text name)) (Err BadValue)) (le-leb (length name) 4096 (omega arith))
 
-number_value : (n : ℕ) → n < 10000 → value_said kind.Int (decimal n) ≡ Ok (variant.Int (pos n))
-number_value n small =
+number_read : (n : ℕ) → n < 10000 → value_said kind.Int (decimal n) ≡ Ok (variant.Int (pos n))
+number_read n small =
     ap (λ (found : Option (List ℕ)). ok_or found BadEscape >>= (λ text. ok_or (value_of kind.Int text) BadValue >>= allowed)) (plain_text (decimal n) (decimal_plain n (omega arith)))
     ∙ ap (λ (found : Option Variant). ok_or found BadValue >>= allowed) (decimal_int n (omega arith))
     ∙ ap (λ (small : Bool). cond small (Ok (variant.Int (pos n))) (Err BadValue)) (le-leb n 9223372036854775807 (omega arith))
+
+drawn_below : (count x : ℕ) → 0 < count → drawn count x < count
+unfolding drawn
+drawn_below count x some = omega arith
 
 module _ (values : List Variant) (earlier : List (List Line)) (thread : List Line) (tally : Tally) where
   abbrev before : State
   before = standing values earlier (Some thread) tally
 
+  -- the last thread with a line more, and the values with those that it opens
+  abbrev behind : List Variant → Line → ℕ → State
+  behind more l words = standing (values ++ more) earlier (Some (thread ++ l ∷ [])) (counted false words tally)
+
   -- A line is one more of the last thread, and makes a node of at most eight words.
-  pub record Goes (text : List ℕ) : Type 0 where
-    pub more_values : List Variant
-    pub more_thread : List Line
+  pub record Goes (text : List ℕ) (more : List Variant) (l : Line) : Type 0 where
     pub words : ℕ
     pub few : words ≤ 8
     pub clean : All IsClean text
     pub says : is_skipped text ≡ false
-    pub said : words_after before (words_of text) ≡ Ok (standing more_values earlier (Some more_thread) (counted false words tally))
+    pub said : words_after before (words_of text) ≡ Ok (behind more l words)
 
-  goes_begin : (n : ℕ) → n < 16 → Goes (codes "begin function f" ++ decimal n)
+  -- a line that opens no value
+  opens_none : (l : Line) (found : Result State ScriptKind) → found ≡ Ok (with_line l false 0 before) → found ≡ Ok (behind [] l 0)
+  opens_none l found is = is ∙ ap (λ (now : List Variant). Ok (standing now earlier (Some (thread ++ l ∷ [])) (counted false 0 tally))) (sym (append-nil values))
+
+  goes_begin : (n : ℕ) → n < 16 → Goes (codes "begin function f" ++ decimal n) (name_value n ∷ []) (line.Begin 0 (length values))
   goes_begin n small =
       let plain = decimal_plain n (omega arith) in
       let name : List ℕ = 102 ∷ decimal n in
       let name_plain = All-cons IsPlain 102 (decimal n) (lit≤ tt, lit< tt, λ (same : 102 ≡ 92). omega arith) plain in
       let short = decimal_short n (omega arith) in
-      let value = variant.Text name in
       record {
-        more_values = values ++ value ∷ [];
-        more_thread = thread ++ line.Begin 0 (length values) ∷ [];
-        words = node_length value;
+        words = node_length (name_value n);
         few = omega (arith, length-text_words name);
         clean = clean_line (codes "begin function f") (decimal n) refl plain;
         says = refl;
         said =
             ap (λ (more : List (List ℕ)). words_after before (codes "begin" ∷ codes "function" ∷ more)) (plain_word name name_plain)
             ∙ ap (λ (said : Result Variant ScriptKind). (said >>= (λ v. Ok (opening 0 function v))) >>= (λ o. Ok (with_opening line.Begin o before)))
-            (name_said name name_plain (omega arith));
+            (name_read name name_plain (omega arith));
       }
 
-  goes_end : Goes (codes "end function")
+  goes_end : Goes (codes "end function") [] (line.End 0)
   goes_end = record {
-    more_values = values;
-    more_thread = thread ++ line.End 0 ∷ [];
     words = 0;
     few = lit≤ tt;
     clean = clean_line (codes "end function") [] refl (All-nil IsPlain);
     says = refl;
-    said = refl;
+    said = opens_none (line.End 0) _ refl;
   }
 
-  goes_iterate : (n : ℕ) → n < 1000 → Goes (codes "set iteration " ++ decimal n)
+  goes_iterate : (n : ℕ) → n < 1000 → Goes (codes "set iteration " ++ decimal n) (number_value n ∷ []) (line.Set 1 (length values))
   goes_iterate n small =
       let plain = decimal_plain n (omega arith) in
-      let value = variant.Int (pos n) in
       record {
-        more_values = values ++ value ∷ [];
-        more_thread = thread ++ line.Set 1 (length values) ∷ [];
         words = 0;
         few = lit≤ tt;
         clean = clean_line (codes "set iteration ") (decimal n) refl plain;
@@ -187,46 +174,44 @@ module _ (values : List Variant) (earlier : List (List Line)) (thread : List Lin
         said =
             ap (λ (more : List (List ℕ)). words_after before (codes "set" ∷ codes "iteration" ∷ more)) (plain_word (decimal n) plain)
             ∙ ap (λ (said : Result Variant ScriptKind). (said >>= (λ v. Ok (opening 1 iteration v))) >>= (λ o. Ok (with_opening line.Set o before)))
-            (number_value n (omega arith));
+            (number_read n (omega arith));
       }
 
-  goes_tick : (n : ℕ) → n < 10000 → Goes (codes "tick " ++ decimal n)
+  goes_tick : (n : ℕ) → n < 10000 → Goes (codes "tick " ++ decimal n) [] (line.Tick (ticks_of n))
   goes_tick n small =
       let plain = decimal_plain n (omega arith) in
       record {
-        more_values = values;
-        more_thread = thread ++ line.Tick (ticks_of n) ∷ [];
         words = 0;
         few = lit≤ tt;
         clean = clean_line (codes "tick ") (decimal n) refl plain;
         says = refl;
-        said =
-            ap (λ (more : List (List ℕ)). words_after before (codes "tick" ∷ more)) (plain_word (decimal n) plain)
+        said = opens_none (line.Tick (ticks_of n)) _
+            (ap (λ (more : List (List ℕ)). words_after before (codes "tick" ∷ more)) (plain_word (decimal n) plain)
             ∙ ap (λ (some : Bool). ok_or (cond some (Some (decimal n)) None) WrongArity >>= (λ word. number_said word >>= (λ m. Ok (with_line (line.Tick (ticks_of m)) false 0 before))))
             (decimal_word n (omega arith))
-            ∙ ap (λ (found : Option ℕ). ok_or found BadValue >>= (λ m. Ok (with_line (line.Tick (ticks_of m)) false 0 before))) (decimal_uint n (omega arith));
+            ∙ ap (λ (found : Option ℕ). ok_or found BadValue >>= (λ m. Ok (with_line (line.Tick (ticks_of m)) false 0 before))) (decimal_uint n (omega arith)));
       }
 
-  goes_look : (flushes : Bool) → Goes (cond flushes (codes "flush profile") (codes "snapshot"))
+  goes_look : (flushes : Bool) → Goes (cond flushes (codes "flush profile") (codes "snapshot")) [] (cond flushes (line.Flush 0) line.Snapshot)
   goes_look true = record {
-    more_values = values;
-    more_thread = thread ++ line.Flush 0 ∷ [];
     words = 0;
     few = lit≤ tt;
     clean = clean_line (codes "flush profile") [] refl (All-nil IsPlain);
     says = refl;
-    said = refl;
+    said = opens_none (line.Flush 0) _ refl;
   }
   goes_look false = record {
-    more_values = values;
-    more_thread = thread ++ line.Snapshot ∷ [];
     words = 0;
     few = lit≤ tt;
     clean = clean_line (codes "snapshot") [] refl (All-nil IsPlain);
     says = refl;
-    said = refl;
+    said = opens_none line.Snapshot _ refl;
   }
 
-  -- each line of a generated thread goes on
-  pub goes_line : (s : gen.State) → Goes (gen.line_from s).line
-  goes_line s = each_line Goes goes_begin goes_end goes_iterate goes_tick (goes_look true) (goes_look false) s
+  -- the line of each move goes on
+  pub goes_move : (m : moves.Move) (s : gen.State) → Goes (gen.moved m s).line (opened m s) (line_of m (length values) s)
+  goes_move move.Begin s = goes_begin (drawn 16 (next s.x)) (drawn_below 16 (next s.x) (lit< tt))
+  goes_move move.End s = goes_end
+  goes_move move.Iterate s = goes_iterate (drawn 1000 (next s.x)) (drawn_below 1000 (next s.x) (lit< tt))
+  goes_move move.Tick s = goes_tick (drawn 10000 (next s.x)) (drawn_below 10000 (next s.x) (lit< tt))
+  goes_move move.Look s = goes_look (drawn 16 (next s.x) == 0)

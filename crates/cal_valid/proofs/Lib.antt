@@ -4,6 +4,7 @@ pub mod Counting
 pub mod States
 pub mod Steps
 pub mod Runnable
+pub mod Behind
 pub mod GenDigits
 pub mod GenLines
 pub mod GenRuns

@@ -1,3 +1,4 @@
 pub mod Counts
 pub mod Valid
 pub mod Texts
+pub mod GeneratedScript
