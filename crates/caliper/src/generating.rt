@@ -55,9 +55,8 @@ fn printed<R: Threads + Sync>(
 ) -> Result<Text, OutOfMemory>
     ensures { IfOk result (IsPrinted print (generated seed threads lines)) }
 {
-    let script = generate(alloc, seed, threads, lines)?;
     match print {
-        Print::Script => Ok(script),
-        Print::Summary => summary_lines(rt, alloc, script),
+        Print::Script => generate(alloc, seed, threads, lines),
+        Print::Summary => summary_lines(rt, alloc, seed, threads, lines),
     }
 }

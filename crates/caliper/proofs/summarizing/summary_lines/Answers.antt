@@ -1,13 +1,15 @@
 use Rattle.std.proofs.Common.{ap, ◌∙◌, rules}
 use Rattle.std.proofs.lemmas.Result.{IfOk-weaker}
+use Rattle.cal_gen.specs.Generated.{generated}
 use Rattle.cal_summary.specs.Summaries.{summary_text}
 use Rattle.caliper.proofs.summarizing.summary_lines.Goals as goal
 
 pub summarize-requires : goal.summarize-requires
-summarize-requires g c = (
-  search rules,
-  c.valid_script_law.ensures c.in_ok-script.script (c.args.text, c.in_ok-script.ensures),
-)
+summarize-requires g c =
+    let text = generated c.args.seed c.args.threads c.args.lines in (
+      search rules,
+      c.valid_script_law.ensures c.in_ok-script.script (text, c.in_ok-script.ensures),
+    )
 
 pub returns : goal.returns
 returns g c =
