@@ -7,8 +7,8 @@ use Rattle.cal_agg.specs.declared.num.Num.{Num}
 use Rattle.cal_agg.specs.Joins.{IsJoin, sum_joins, least_joins, greatest_joins, merged_assoc, parts_by-append}
 use Rattle.cal_agg.specs.Parts.{Parts, merged_by, no_parts, parts_by}
 use Rattle.cal_agg.specs.Results.{both}
-use Rattle.cal_context.specs.Tree.{Tree}
 use Rattle.cal_filter.proofs.Zips.{zip_length}
+use Rattle.cal_filter.specs.Sought.{Sought}
 use Rattle.cal_ql.specs.declared.names.KernelName as kernels
 use Rattle.cal_ql.specs.declared.names.KernelName.TheVariants as kernel
 use Rattle.cal_value.specs.declared.record.Rec.{Rec}
@@ -16,7 +16,7 @@ use Rattle.cal_engine.specs.declared.part.Held as holds
 use Rattle.cal_engine.specs.declared.part.Held.TheVariants as held
 use Rattle.cal_engine.specs.declared.part.Way as ways
 use Rattle.cal_engine.specs.declared.part.Way.TheVariants as way
-use Rattle.cal_engine.specs.Counters.{IsReadyCounter}
+use Rattle.cal_engine.specs.Counters.{CountsFor}
 use Rattle.cal_engine.specs.Kernels.{contributions_by}
 use Rattle.cal_engine.specs.Parts.{Gathered, held_by, held_over, joined_by, merged_held, merged_part, merged_parts, part_over, way_of}
 use Rattle.cal_engine.specs.Readings.{part_of, parts_of}
@@ -94,36 +94,36 @@ parts_long [] r = refl
 parts_long (x ∷ rs) r = ap suc (parts_long rs r)
 
 -- what is kept of a record for a counter
-pub record PartnerPart (t : Tree) (r : Rec) (rs : List Reading) (cs : List Counter) (n : ℕ) (c : Counter) : Type 0 where
+pub record PartnerPart (all : List Sought) (r : Rec) (rs : List Reading) (cs : List Counter) (n : ℕ) (c : Counter) : Type 0 where
   pub reading : Reading
-  pub ready : IsReadyCounter t reading c
+  pub counts : CountsFor all reading c
   pub read : part_of reading r ≡ get_or (parts_of rs r) n (part_of reading r)
   pub long : length (parts_of rs r) ≡ length cs
 
-pub partner_part : (t : Tree) (r : Rec) (rs : List Reading) (cs : List Counter) (n : ℕ) (c : Counter) → AllZip (IsReadyCounter t) rs cs
-    → n < length cs → c ≡ get_or cs n c → PartnerPart t r rs cs n c
-partner_part t r [] [] n c h short read = absurd (omega arith)
-partner_part t r [] (d ∷ cs) n c h short read = elim h [ ]
-partner_part t r (x ∷ rs) [] n c h short read = elim h [ ]
-partner_part t r (x ∷ rs) (d ∷ cs) zero c h short read = record {
+pub partner_part : (all : List Sought) (r : Rec) (rs : List Reading) (cs : List Counter) (n : ℕ) (c : Counter) → AllZip (CountsFor all) rs cs
+    → n < length cs → c ≡ get_or cs n c → PartnerPart all r rs cs n c
+partner_part all r [] [] n c h short read = absurd (omega arith)
+partner_part all r [] (d ∷ cs) n c h short read = elim h [ ]
+partner_part all r (x ∷ rs) [] n c h short read = elim h [ ]
+partner_part all r (x ∷ rs) (d ∷ cs) zero c h short read = record {
   reading = x;
-  ready = subst (IsReadyCounter t x) (sym read) h.0;
+  counts = subst (CountsFor all x) (sym read) h.0;
   read = refl;
-  long = ap suc (parts_long rs r ∙ zip_length (IsReadyCounter t) rs cs h.1);
+  long = ap suc (parts_long rs r ∙ zip_length (CountsFor all) rs cs h.1);
 }
-partner_part t r (x ∷ rs) (d ∷ cs) (suc n) c h short read =
-    let rest = partner_part t r rs cs n c h.1 (omega arith) read in
-    record { reading = rest.reading; ready = rest.ready; read = rest.read; long = ap suc rest.long }
+partner_part all r (x ∷ rs) (d ∷ cs) (suc n) c h short read =
+    let rest = partner_part all r rs cs n c h.1 (omega arith) read in
+    record { reading = rest.reading; counts = rest.counts; read = rest.read; long = ap suc rest.long }
 
 -- the first record of a group
-pub first_merged : (t : Tree) (r : Rec) (rs : List Reading) (cs : List Counter) → AllZip (IsReadyCounter t) rs cs
+pub first_merged : (all : List Sought) (r : Rec) (rs : List Reading) (cs : List Counter) → AllZip (CountsFor all) rs cs
     → merged_parts (map (λ c. part_over c.kernel []) cs) (parts_of rs r) ≡ parts_of rs r
-first_merged t r [] [] h = refl
-first_merged t r [] (c ∷ cs) h = elim h [ ]
-first_merged t r (x ∷ rs) [] h = elim h [ ]
-first_merged t r (x ∷ rs) (c ∷ cs) h = λ i. first i ∷ first_merged t r rs cs h.1 i
+first_merged all r [] [] h = refl
+first_merged all r [] (c ∷ cs) h = elim h [ ]
+first_merged all r (x ∷ rs) [] h = elim h [ ]
+first_merged all r (x ∷ rs) (c ∷ cs) h = λ i. first i ∷ first_merged all r rs cs h.1 i
   where
     first : merged_part (part_over c.kernel []) (part_of x r) ≡ part_of x r
     first =
-        ap (λ k. merged_part (part_over k []) (part_of x r)) h.0.counts.kernel
+        ap (λ k. merged_part (part_over k []) (part_of x r)) h.0.kernel
         ∙ sym (part_over-append x.kernel [] (contributions_by x.kernel x.names r))

@@ -1,43 +1,46 @@
 -- What is read of records by number, as the same is read of records.
-use Rattle.std.proofs.Common.{◌≡◌, ℕ, ◌+◌, ◌<◌, pos, Bool, true, false, List, [], ◌∷◌, ◌++◌, map, take, length, get_or, refl, sym, ◌∙◌, ap, subst, arith}
+use Rattle.std.proofs.Common.{◌≡◌, ℕ, pos, Bool, true, false, List, [], ◌∷◌, map, length, refl, sym, ◌∙◌, ap}
 use Rattle.std.proofs.Common.{Option, None, Some, option_map, option_and_then, slice_get}
-use Rattle.std.specs.Prelude.{codes, unwrap_or}
-use Rattle.std.specs.List.{All, AllZip, cons_option, filter, filter_map, last_or}
-use Rattle.std.proofs.lemmas.List.{map-append, take_more}
+use Rattle.std.specs.Prelude.{codes, unwrap_or, if◌then◌else◌}
+use Rattle.std.specs.List.{All, cons_option, filter, filter_map, last_or}
 use Rattle.std.proofs.lemmas.List.Elements.{All-weaker}
+use Rattle.cal_agg.specs.Numbers.{is_fixed}
 use Rattle.cal_agg.specs.declared.num.Num.{Num}
-use Rattle.cal_agg.specs.declared.num.Num.TheVariants.{Whole}
+use Rattle.cal_agg.specs.declared.num.Num.TheVariants.{Whole, Fixed}
 use Rattle.cal_context.specs.Tree.{Tree}
-use Rattle.cal_filter.specs.Known.{Covers, Knows, KnowsAll, KnowsSoMany, sought}
+use Rattle.cal_filter.specs.Known.{Covers, Knows, KnowsAll, KnowsSoMany}
 use Rattle.cal_filter.specs.Named.{is_named, last_number}
 use Rattle.cal_filter.specs.Numbers.{number_in, whole_in}
-use Rattle.cal_filter.specs.Replaced.{CatchesUp}
 use Rattle.cal_filter.specs.Sought as seeking
-use Rattle.cal_filter.specs.Sought.{Sought, last_sought, number_of, seeks, value_sought, whole_of}
+use Rattle.cal_filter.specs.Sought.{Sought, last_sought, number_of, seeks, whole_of}
 use Rattle.cal_filter.specs.declared.counts.Counts.{Counts}
-use Rattle.cal_filter.specs.declared.seeker.Seeker.{Seeker}
-use Rattle.cal_filter.proofs.OperandLemmas.{filter_map_sought, number_sought_is}
-use Rattle.cal_filter.proofs.ReadyLemmas.{all_know, all_of_zip, knows_counted, knows_covered, same_sought, zip_and}
-use Rattle.cal_filter.proofs.Zips.{zip_then, zip_weaker}
+use Rattle.cal_filter.proofs.OperandLemmas.{number_sought_is}
+use Rattle.cal_filter.proofs.ReadyLemmas.{knows_counted, knows_covered}
 use Rattle.cal_ql.specs.declared.names.KernelName as kernels
 use Rattle.cal_ql.specs.declared.names.KernelName.TheVariants as kernel
 use Rattle.cal_value.specs.Flat.{flat}
 use Rattle.cal_value.specs.declared.attribute.Entry.{Entry}
 use Rattle.cal_value.specs.declared.record.Rec.{Rec}
-use Rattle.cal_value.specs.declared.variant.Variant.{Variant}
-use Rattle.cal_engine.specs.Counters.{CounterCatchesUp, CountsFor, IsCounter, IsReadyCounter, sought_for}
-use Rattle.cal_engine.specs.Kernels.{contributions_by, last_whole, number_sought, weight}
-use Rattle.cal_engine.specs.Parts.{Gathered, part_over}
+use Rattle.cal_engine.specs.Counters.{AreCounters, AreReadyCounters, CountsFor, number_at, sought_for}
+use Rattle.cal_engine.specs.Kernels.{contributions_by, last_whole, weight}
+use Rattle.cal_engine.specs.Parts.{part_over}
 use Rattle.cal_engine.specs.Readings.{part_of}
 use Rattle.cal_engine.specs.declared.counter.Counter.{Counter}
+use Rattle.cal_engine.specs.declared.counters.Counters.{Counters}
 use Rattle.cal_engine.specs.declared.reading.Reading.{Reading}
 
 -- ---- the last whole number of a name
 
+-- a whole number is a number
+whole_number : (o : Option Num) (n : Num) → option_and_then (λ m. if is_fixed m then None else Some m) o ≡ Some n → o ≡ Some n
+whole_number None n h = h
+whole_number (Some (Whole z)) n h = h
+whole_number (Some (Fixed z)) n h = cc
+
 abbrev IsLastWhole : List ℕ → List Entry → Option Entry → Type 0
 IsLastWhole name es o =
-    option_and_then (λ e. whole_in e.value) (last_or o (filter (seeks (whole_of name)) es))
-    ≡ last_or (option_and_then (λ e. whole_in e.value) o) (filter_map (λ e. whole_in e.value) (filter (is_named name) es))
+    option_and_then (λ e. number_in e.value) (last_or o (filter (seeks (whole_of name)) es))
+    ≡ last_or (option_and_then (λ e. number_in e.value) o) (filter_map (λ e. whole_in e.value) (filter (is_named name) es))
 
 whole_next : (name : List ℕ) (e : Entry) (es : List Entry) → ((o : Option Entry) → IsLastWhole name es o) → (o : Option Entry)
     → (b : Bool) → is_named name e ≡ b → (n : Option Num) → whole_in e.value ≡ n → IsLastWhole name (e ∷ es) o
@@ -45,28 +48,20 @@ whole_next name e es rest o false is n num = rw is (rest o)
 whole_next name e es rest o true is None num = rw (is, num) (rest o)
 whole_next name e es rest o true is (Some n) num =
     rw (is, num) (rest (Some e)
-    ∙ ap (λ m. last_or m (filter_map (λ e. whole_in e.value) (filter (is_named name) es))) num)
+    ∙ ap (λ m. last_or m (filter_map (λ e. whole_in e.value) (filter (is_named name) es))) (whole_number (number_in e.value) n num))
 
 last_whole_is : (name : List ℕ) (es : List Entry) (o : Option Entry) → IsLastWhole name es o
 last_whole_is name [] o = refl
 last_whole_is name (e ∷ es) o = whole_next name e es (last_whole_is name es) o (is_named name e) refl (whole_in e.value) refl
 
-value_whole : (o : Option Entry) → option_and_then whole_in (option_map (λ e. e.value) o) ≡ option_and_then (λ e. whole_in e.value) o
-value_whole None = refl
-value_whole (Some e) = refl
+value_number : (o : Option Entry) → option_and_then number_in (option_map (λ e. e.value) o) ≡ option_and_then (λ e. number_in e.value) o
+value_number None = refl
+value_number (Some e) = refl
 
-pub whole_sought_is : (name : List ℕ) (r : Rec) → option_and_then (number_sought true) (value_sought (whole_of name) (flat r)) ≡ last_whole name r
-whole_sought_is name r = value_whole (last_sought (whole_of name) (flat r)) ∙ last_whole_is name (flat r) None
+whole_sought_is : (name : List ℕ) (r : Rec) → seeking.number_sought (whole_of name) (flat r) ≡ last_whole name r
+whole_sought_is name r = value_number (last_sought (whole_of name) (flat r)) ∙ last_whole_is name (flat r) None
 
 -- ---- and numbers
-
-any_number : (o : Option Num) → option_and_then (λ n. Some n) o ≡ o
-any_number None = refl
-any_number (Some n) = refl
-
-pub seeks_numbers : (o : Option Variant) → option_and_then (number_sought false) o ≡ option_and_then number_in o
-seeks_numbers None = refl
-seeks_numbers (Some v) = any_number (number_in v)
 
 filter_map_numbers : (names : List (List ℕ)) (r : Rec)
     → filter_map (λ s. seeking.number_sought s (flat r)) (map number_of names) ≡ filter_map (λ name. last_number name r) names
@@ -84,91 +79,66 @@ seeks_names kernel.Avg h names r = (refl, refl)
 seeks_names kernel.Inclusive h names r = (refl, refl)
 seeks_names kernel.Percent h names r = (refl, refl)
 
--- the part of a record
-pub part_numbers : (r : Reading) (c : Counter) (rec : Rec) (ns : List Num) (part : Gathered) → CountsFor r c → (c.kernel ≡ kernel.Count → ⊥)
-    → ns ≡ filter_map (λ s. seeking.number_sought (sought s) (flat rec)) c.seekers.items → part ≡ part_over c.kernel ns → part ≡ part_of r rec
-part_numbers r c rec ns part counts other found is =
-    let names = seeks_names r.kernel (λ e. other (counts.kernel ∙ e)) r.names rec in
-    is
-    ∙ (λ i. part_over (counts.kernel i) ((found
-    ∙ filter_map_sought (λ w. seeking.number_sought w (flat rec)) c.seekers.items
-    ∙ ap (filter_map (λ w. seeking.number_sought w (flat rec))) (counts.sought ∙ names.0)
-    ∙ filter_map_numbers r.names rec ∙ sym names.1) i))
+-- what is found at the places of what is sought
+found_at_places : (all : List Sought) (es : List Entry) (places : List ℕ) (seeks : List Sought) → map (slice_get all) places ≡ map Some seeks
+    → filter_map (number_at all es) places ≡ filter_map (λ s. seeking.number_sought s es) seeks
+found_at_places all es [] [] h = refl
+found_at_places all es [] (s ∷ seeks) h = cc
+found_at_places all es (p ∷ places) [] h = cc
+found_at_places all es (p ∷ places) (s ∷ seeks) h =
+    let first : slice_get all p ≡ Some s = cc in
+    let rest : map (slice_get all) places ≡ map Some seeks = cc in
+    λ i. cons_option (option_and_then (λ s. seeking.number_sought s es) (first i)) (found_at_places all es places seeks rest i)
 
-pub part_weight : (r : Reading) (c : Counter) (rec : Rec) (n : Num) (part : Gathered) → CountsFor r c → c.kernel ≡ kernel.Count
-    → (map sought c.seekers.items ≡ whole_of (codes "count") ∷ [] → n ≡ weight rec) → part ≡ part_over c.kernel (n ∷ []) → part ≡ part_of r rec
-part_weight r c rec n part counts count weighs is =
+-- the part of a record
+pub part_numbers : (all : List Sought) (r : Reading) (c : Counter) (rec : Rec) → CountsFor all r c → (c.kernel ≡ kernel.Count → ⊥)
+    → part_over c.kernel (filter_map (number_at all (flat rec)) c.places.items) ≡ part_of r rec
+part_numbers all r c rec counts other =
+    let names = seeks_names r.kernel (λ e. other (counts.kernel ∙ e)) r.names rec in
+    λ i. part_over (counts.kernel i) ((found_at_places all (flat rec) c.places.items (sought_for r.kernel r.names) counts.places
+    ∙ ap (filter_map (λ w. seeking.number_sought w (flat rec))) names.0
+    ∙ filter_map_numbers r.names rec ∙ sym names.1) i)
+
+pub part_weight : (all : List Sought) (r : Reading) (c : Counter) (rec : Rec) (n : Num) → CountsFor all r c → c.kernel ≡ kernel.Count
+    → (map (slice_get all) c.places.items ≡ Some (whole_of (codes "count")) ∷ [] → n ≡ weight rec) → part_over c.kernel (n ∷ []) ≡ part_of r rec
+part_weight all r c rec n counts count weighs =
     let k : r.kernel ≡ kernel.Count = sym counts.kernel ∙ count in
-    let seeks : map sought c.seekers.items ≡ whole_of (codes "count") ∷ [] = counts.sought ∙ ap (λ k. sought_for k r.names) k in
-    is ∙ (λ i. part_over (counts.kernel i) (weighs seeks i ∷ []))
+    let seeks : map (slice_get all) c.places.items ≡ Some (whole_of (codes "count")) ∷ [] = counts.places ∙ ap (λ k. map Some (sought_for k r.names)) k in
+    (λ i. part_over (counts.kernel i) (weighs seeks i ∷ []))
     ∙ sym (ap (λ k. part_over r.kernel (contributions_by k r.names rec)) k)
 
--- ---- counters that catch up, and stay right
-
-pub counter_catches_up : (t : Tree) (old new : Counter) → new.kernel ≡ old.kernel → AllZip (CatchesUp t) old.seekers.items new.seekers.items
-    → CounterCatchesUp t old new
-counter_catches_up t old new same zip = record {
-  ready = λ r h. record {
-    counts = record {
-      kernel = same ∙ h.counts.kernel;
-      sought = same_sought t old.seekers.items new.seekers.items zip ∙ h.counts.sought;
-    };
-    knows = all_know t old.seekers.items new.seekers.items zip h.knows;
-  };
-}
-
-pub counters_catch_up : (t : Tree) (rs : List Reading) (old new : List Counter) → AllZip (IsCounter t) rs old → AllZip (CounterCatchesUp t) old new
-    → AllZip (IsReadyCounter t) rs new
-counters_catch_up t rs old new h zip =
-    zip_then (IsCounter t) (CounterCatchesUp t) (IsReadyCounter t) (λ r c d is up. up.ready r is) rs old new h zip
-
-pub ready_counters : (t : Tree) (rs : List Reading) (cs : List Counter) → AllZip (IsReadyCounter t) rs cs → AllZip (IsCounter t) rs cs
-ready_counters t rs cs h =
-    zip_weaker (IsReadyCounter t) (IsCounter t) (λ r c k. record {
-      counts = k.counts;
-      knows = All-weaker (KnowsAll t) (Knows t) (λ s x. x.knows) c.seekers.items k.knows;
-    }) rs cs h
-
--- counters that know as much as a context has, and the other way
-pub counters_covered : (t : Tree) (n : Counts) → Covers t n → (rs : List Reading) (cs : List Counter)
-    → All (λ (c : Counter). All (KnowsSoMany n) c.seekers.items) cs → AllZip (IsCounter t) rs cs → AllZip (IsReadyCounter t) rs cs
-counters_covered t n covers rs cs many h =
-    zip_and (IsCounter t) (IsReadyCounter t) (λ (c : Counter). All (KnowsSoMany n) c.seekers.items)
-    (λ r c is so. record {
-      counts = is.counts;
-      knows = λ i x short. knows_covered t n covers _ (so i x short) (is.knows i x short);
-    }) rs cs h many
-
-pub counters_counted : (t : Tree) (n : Counts) → n.attributes ≡ length t.attributes → n.nodes ≡ length t.paths → (rs : List Reading)
-    (cs : List Counter) → AllZip (IsReadyCounter t) rs cs → All (λ (c : Counter). All (KnowsSoMany n) c.seekers.items) cs
-counters_counted t n attributes nodes rs cs h =
-    all_of_zip (IsReadyCounter t) (λ (c : Counter). All (KnowsSoMany n) c.seekers.items)
-    (λ r c is i x short. knows_counted t n attributes nodes _ (is.knows i x short)) rs cs h
-
--- one name more has its seeker
-pub seekers_next : (names : List (List ℕ)) (i : ℕ) (name : List ℕ) (seekers now : List Seeker) (s : Seeker) → i < length names → name ≡ get_or names i name
-    → now ≡ seekers ++ s ∷ [] → sought s ≡ number_of name → map sought seekers ≡ map number_of (take i names)
-    → map sought now ≡ map number_of (take (i + 1) names)
-seekers_next names i name seekers now s short read more is before =
-    ap (map sought) more ∙ map-append sought seekers (s ∷ [])
-    ∙ (λ j. before j ++ is j ∷ [])
-    ∙ sym (ap (map number_of) (take_more names i name short ∙ ap (λ n. take i names ++ n ∷ []) (sym read)) ∙ map-append number_of (take i names) (name ∷ []))
-
--- the weight that a first seeker finds
-pub weighed : (t : Tree) (seekers : List Seeker) (first : Seeker) (found : Option Num) (r : Rec) → slice_get seekers 0 ≡ Some first
-    → All (KnowsAll t) seekers → map sought seekers ≡ whole_of (codes "count") ∷ []
-    → (KnowsAll t first → found ≡ option_and_then (number_sought true) (value_sought (sought first) (flat r)))
-    → unwrap_or found (Whole (pos 1)) ≡ weight r
-weighed t [] first found r at knows seeks finds = cc
-weighed t (s ∷ rest) first found r at knows seeks finds =
-    let same : s ≡ first = cc in
-    let is : sought s ≡ whole_of (codes "count") = cc in
-    let known = subst (KnowsAll t) same (knows 0 s (omega arith)) in
+-- the weight that is found at the first place
+pub weighed : (all : List Sought) (places : List ℕ) (first : ℕ) (r : Rec) → slice_get places 0 ≡ Some first
+    → map (slice_get all) places ≡ Some (whole_of (codes "count")) ∷ []
+    → unwrap_or (number_at all (flat r) first) (Whole (pos 1)) ≡ weight r
+weighed all [] first r at seeks = cc
+weighed all (p ∷ rest) first r at seeks =
+    let same : p ≡ first = cc in
+    let is : slice_get all p ≡ Some (whole_of (codes "count")) = cc in
     ap (λ o. unwrap_or o (Whole (pos 1)))
-    (finds known
-    ∙ ap (λ w. option_and_then (number_sought true) (value_sought w (flat r))) (ap sought (sym same) ∙ is)
+    (ap (option_and_then (λ s. seeking.number_sought s (flat r))) (ap (slice_get all) (sym same) ∙ is)
     ∙ whole_sought_is (codes "count") r)
 
-pub unweighed : (t : Tree) (seekers : List Seeker) → slice_get seekers 0 ≡ None → map sought seekers ≡ whole_of (codes "count") ∷ [] → ⊥
-unweighed t [] at seeks = cc
-unweighed t (s ∷ rest) at seeks = cc
+pub unweighed : (all : List Sought) (places : List ℕ) → slice_get places 0 ≡ None → map (slice_get all) places ≡ Some (whole_of (codes "count")) ∷ [] → ⊥
+unweighed all [] at seeks = cc
+unweighed all (p ∷ rest) at seeks = cc
+
+-- ---- counters that stay right
+
+pub ready_counters : (t : Tree) (rs : List Reading) (cs : Counters) → AreReadyCounters t rs cs → AreCounters t rs cs
+ready_counters t rs cs h = record {
+  counts = h.counts;
+  knows = All-weaker (KnowsAll t) (Knows t) (λ s x. x.knows) cs.seekers.items h.knows;
+}
+
+-- counters that know as much as a context has, and the other way
+pub counters_covered : (t : Tree) (n : Counts) → Covers t n → (rs : List Reading) (cs : Counters)
+    → All (KnowsSoMany n) cs.seekers.items → AreCounters t rs cs → AreReadyCounters t rs cs
+counters_covered t n covers rs cs many h = record {
+  counts = h.counts;
+  knows = λ i x short. knows_covered t n covers _ (many i x short) (h.knows i x short);
+}
+
+pub counters_counted : (t : Tree) (n : Counts) → n.attributes ≡ length t.attributes → n.nodes ≡ length t.paths → (rs : List Reading)
+    (cs : Counters) → AreReadyCounters t rs cs → All (KnowsSoMany n) cs.seekers.items
+counters_counted t n attributes nodes rs cs h = λ i x short. knows_counted t n attributes nodes _ (h.knows i x short)

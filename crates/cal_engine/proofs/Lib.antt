@@ -25,6 +25,7 @@ pub mod Sifting
 pub mod Choosing
 pub mod KeyLemmas
 pub mod Counting
+pub mod Seekers
 pub mod Tallying
 pub mod Looking
 pub mod Gating

@@ -34,13 +34,13 @@ use Rattle.cal_engine.proofs.KeyLemmas.{gathered_within, gathers_in, room_contex
 use Rattle.cal_engine.proofs.Sifting.{ready_stays, sieves_counted, sieves_covered}
 
 pub tallied : (t : Tree) (q : Query) (rs : List Rec) (r : Rec) (old new : Tally) (parts : List Gathered) (key : GroupKey)
-    → IsContext t → IsContext new.own → Grows old.own new.own → AreReadyCounters t q.aggs new.counters.items
+    → IsContext t → IsContext new.own → Grows old.own new.own → AreReadyCounters t (map reading_of q.aggs) new.counters
     → AreSieves t new.own (names_in q.group) new.sieves.items → parts ≡ parts_of (map reading_of q.aggs) r
     → IsKeyOf (room_of q.group t new.own) (group_of q.group r) key
-    → GathersKey old.groups key parts new.groups → AllKnowSoMany new.known new.counters.items new.sieves.items
+    → GathersKey old.groups key parts new.groups → AllKnowSoMany new.known new.counters new.sieves.items
     → IsTally t q rs old → IsTally t q (rs ++ r ∷ []) new
 tallied t q rs r old new parts key context own_context grows counters sieves read found gathers known h = record {
-  counters = ready_counters t (map reading_of q.aggs) new.counters.items counters;
+  counters = ready_counters t (map reading_of q.aggs) new.counters counters;
   sieves = sieves;
   keys = gathered_within (room_of q.group t new.own) old.groups new.groups key parts before found.within gathers;
   groups = groups_over-Gathers q rs r (grouped_in (room_of q.group t new.own) old.groups) (grouped_in (room_of q.group t new.own) new.groups) was to_group;
@@ -73,22 +73,22 @@ tallied t q rs r old new parts key context own_context grows counters sieves rea
 pub tally_covered : (t : Tree) (q : Query) (rs : List Rec) (y : Tally) → Covers t y.known → IsTally t q rs y → IsReadyTally t q rs y
 tally_covered t q rs y covers h = record {
   is = h;
-  counters = counters_covered t y.known covers (map reading_of q.aggs) y.counters.items h.known.counters h.counters;
+  counters = counters_covered t y.known covers (map reading_of q.aggs) y.counters h.known.counters h.counters;
   sieves = sieves_covered t y.own y.known covers (names_in q.group) y.sieves.items h.known.sieves h.sieves;
 }
 
 -- and one whose counters and sieves got to know it
 pub tally_caught_up : (t : Tree) (q : Query) (rs : List Rec) (old new : Tally) → Grows old.own new.own → new.groups ≡ old.groups
-    → new.known.attributes ≡ length t.attributes → new.known.nodes ≡ length t.paths → AreReadyCounters t q.aggs new.counters.items
+    → new.known.attributes ≡ length t.attributes → new.known.nodes ≡ length t.paths → AreReadyCounters t (map reading_of q.aggs) new.counters
     → AreReadySieves t new.own (names_in q.group) new.sieves.items → IsTally t q rs old → IsReadyTally t q rs new
 tally_caught_up t q rs old new grows same attributes nodes counters sieves h = record {
   is = record {
-    counters = ready_counters t (map reading_of q.aggs) new.counters.items counters;
+    counters = ready_counters t (map reading_of q.aggs) new.counters counters;
     sieves = ready_stays t (Grows-refl new.own) (names_in q.group) new.sieves.items sieves;
     keys = subst (λ (g : Numbered). All (IsKeyIn (room_of q.group t new.own)) g.keys) (sym same) (keys-Grows rooms old.groups.keys h.keys);
     groups = ap (grouped_in (room_of q.group t new.own)) same ∙ grouped_in-Grows rooms old.groups h.keys ∙ h.groups;
     known = record {
-      counters = counters_counted t new.known attributes nodes (map reading_of q.aggs) new.counters.items counters;
+      counters = counters_counted t new.known attributes nodes (map reading_of q.aggs) new.counters counters;
       sieves = sieves_counted t new.own new.known attributes nodes (names_in q.group) new.sieves.items sieves;
     };
   };

@@ -1,7 +1,7 @@
 -- What a fold over snapshots has taken stays while the context grows.
 use Rattle.std.specs.Prelude.{◌≡◌, ℕ, ◌<◌, false, List, Option, None, Some, length, map}
 use Rattle.std.specs.Prelude.{slice_index_or as get_or}
-use Rattle.std.specs.List.{All, AllZip, filter_map}
+use Rattle.std.specs.List.{All, filter_map}
 use Rattle.std.proofs.Common.{sym, ap, subst, ◌∙◌}
 use Rattle.std.proofs.lemmas.List.Elements.{All-weaker}
 use Rattle.cal_context.specs.Snapshots.{IsBelowRoot, entry_of}
@@ -13,13 +13,12 @@ use Rattle.cal_context.proofs.ListLemmas.{map-alike}
 use Rattle.cal_filter.specs.Kept.{kept}
 use Rattle.cal_filter.specs.Known.{Knows}
 use Rattle.cal_filter.proofs.Growing.{filter-Grows, knows-Grows}
-use Rattle.cal_filter.proofs.Zips.{zip_weaker}
 use Rattle.cal_ql.specs.declared.query.Query.{Query}
 use Rattle.cal_rowset.specs.NumberedRows.{IsWithin, NumberedRow, meant}
 use Rattle.cal_value.specs.Reading.{IsSmall}
 use Rattle.cal_value.specs.declared.record.Rec.{Rec}
 use Rattle.cal_engine.specs.Choices.{chooses_attribute}
-use Rattle.cal_engine.specs.Counters.{IsCounter}
+use Rattle.cal_engine.specs.Counters.{AreCounters}
 use Rattle.cal_engine.specs.Gates.{IsGate}
 use Rattle.cal_engine.specs.Keys.{IsKeyIn, key_in, room_of}
 use Rattle.cal_engine.specs.Looked.{looks_at}
@@ -30,7 +29,7 @@ use Rattle.cal_engine.specs.SnapshotRows.{AreRows}
 use Rattle.cal_engine.specs.Standing.{HasFolded}
 use Rattle.cal_engine.specs.Tallies.{IsTally}
 use Rattle.cal_engine.specs.Totals.{Leads}
-use Rattle.cal_engine.specs.declared.counter.Counter.{Counter}
+use Rattle.cal_engine.specs.declared.counters.Counters.{Counters}
 use Rattle.cal_engine.specs.declared.gate.Gate.{Gate}
 use Rattle.cal_engine.specs.declared.key.GroupKey.{GroupKey}
 use Rattle.cal_engine.specs.declared.reading.Reading.{Reading}
@@ -72,14 +71,13 @@ pub room_grows : (names : Option (List (List ℕ))) {t u own new : Tree} → Gro
 room_grows None h g = h
 room_grows (Some names) h g = g
 
-pub counters-Grows : {old new : Tree} → Grows old new → (rs : List Reading) (cs : List Counter)
-    → AllZip (IsCounter old) rs cs → AllZip (IsCounter new) rs cs
-counters-Grows {old} {new} grows rs cs h =
-    zip_weaker (IsCounter old) (IsCounter new) (λ r c k. record {
-      counts = k.counts;
-      knows = All-weaker (Knows old) (Knows new) (λ s x. knows-Grows grows s x)
-          c.seekers.items k.knows;
-    }) rs cs h
+pub counters-Grows : {old new : Tree} → Grows old new → (rs : List Reading) (cs : Counters)
+    → AreCounters old rs cs → AreCounters new rs cs
+counters-Grows {old} {new} grows rs cs h = record {
+  counts = h.counts;
+  knows = All-weaker (Knows old) (Knows new) (λ s x. knows-Grows grows s x)
+      cs.seekers.items h.knows;
+}
 
 -- sieves
 pub sieves-Grows : {t u : Tree} → Grows t u → (own : Tree) (names : List (List ℕ))
@@ -128,7 +126,7 @@ tally-Grows {t} {u} grows q rs y h =
     let rooms : Grows (room_of q.group t y.own) (room_of q.group u y.own) =
     room_grows q.group grows (Grows-refl y.own) in
     record {
-      counters = counters-Grows grows (map reading_of q.aggs) y.counters.items h.counters;
+      counters = counters-Grows grows (map reading_of q.aggs) y.counters h.counters;
       sieves = sieves-Grows grows y.own _ y.sieves.items h.sieves;
       keys = keys-Grows rooms y.groups.keys h.keys;
       groups = grouped_in-Grows rooms y.groups h.keys ∙ h.groups;

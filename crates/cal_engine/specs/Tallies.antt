@@ -1,5 +1,5 @@
 -- What a fold over snapshots holds of the groups of records.
-use Rattle.std.specs.Prelude.{◌≡◌, true, false, List}
+use Rattle.std.specs.Prelude.{◌≡◌, true, false, List, map}
 use Rattle.std.specs.List.{All}
 use Rattle.cal_context.specs.Tree.{Tree}
 use Rattle.cal_filter.specs.Known.{KnowsSoMany}
@@ -11,30 +11,31 @@ use Rattle.cal_engine.specs.Counters.{AreCounters, AreReadyCounters}
 use Rattle.cal_engine.specs.Folding.{groups_over}
 use Rattle.cal_engine.specs.Keys.{IsKeyIn, names_in, room_of}
 use Rattle.cal_engine.specs.Numbered.{AreGroups, Numbered, grouped_in}
+use Rattle.cal_engine.specs.Readings.{reading_of}
 use Rattle.cal_engine.specs.Rows.{is_aggregated}
 use Rattle.cal_engine.specs.Sieves.{AreReadySieves, AreSieves, SiftsSoMany}
 use Rattle.cal_engine.specs.SnapshotRows.{AreRows}
-use Rattle.cal_engine.specs.declared.counter.Counter.{Counter}
+use Rattle.cal_engine.specs.declared.counters.Counters.{Counters}
 use Rattle.cal_engine.specs.declared.sieve.Sieve.{Sieve}
 use Rattle.cal_engine.specs.declared.tally.Tally.{Tally}
 
--- all counters and sieves know at least so many attributes and nodes
-pub record AllKnowSoMany (n : Counts) (cs : List Counter) (ss : List Sieve) : Type 0 where
-  pub counters : All (λ (c : Counter). All (KnowsSoMany n) c.seekers.items) cs
+-- all that counters seek by, and all sieves, know at least so many attributes and nodes
+pub record AllKnowSoMany (n : Counts) (cs : Counters) (ss : List Sieve) : Type 0 where
+  pub counters : All (KnowsSoMany n) cs.seekers.items
   pub sieves : All (SiftsSoMany n) ss
 
 -- The groups by numbers are those of these records, and what is kept beside numbers is right.
 pub record IsTally (t : Tree) (q : Query) (rs : List Rec) (y : Tally) : Type 0 where
-  pub counters : AreCounters t q.aggs y.counters.items
+  pub counters : AreCounters t (map reading_of q.aggs) y.counters
   pub sieves : AreSieves t y.own (names_in q.group) y.sieves.items
   pub keys : All (IsKeyIn (room_of q.group t y.own)) y.groups.keys
   pub groups : grouped_in (room_of q.group t y.own) y.groups ≡ groups_over q rs
-  pub known : AllKnowSoMany y.known y.counters.items y.sieves.items
+  pub known : AllKnowSoMany y.known y.counters y.sieves.items
 
 -- and its counters and sieves know the whole context
 pub record IsReadyTally (t : Tree) (q : Query) (rs : List Rec) (y : Tally) : Type 0 where
   pub is : IsTally t q rs y
-  pub counters : AreReadyCounters t q.aggs y.counters.items
+  pub counters : AreReadyCounters t (map reading_of q.aggs) y.counters
   pub sieves : AreReadySieves t y.own (names_in q.group) y.sieves.items
 
 -- A query's rows or groups are those of the kept records.

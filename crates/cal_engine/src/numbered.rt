@@ -1,16 +1,15 @@
 ghost use Rattle.std.specs.Prelude.{◌≡◌, ◌+◌, ◌≤◌, [], List, Some, length, map, max, slice_get};
 ghost use Rattle.std.specs.Prelude.{IfOk, IsTrue, OnOk, OnErr};
-ghost use Rattle.std.specs.List.{AllZip};
 ghost use Rattle.cal_context.specs.Lists.{Interns};
 ghost use Rattle.cal_context.specs.Snapshots.{IsIn, meaning};
-ghost use Rattle.cal_engine.specs.Counters.{IsReadyCounter};
+ghost use Rattle.cal_engine.specs.Counters.{AreReadyCounters};
 ghost use Rattle.cal_engine.specs.Folding.{put_parts};
 ghost use Rattle.cal_engine.specs.Parts.{Gathered, merged_parts, part_over};
 ghost use Rattle.cal_engine.specs.Numbered.{GathersKey};
 ghost use Rattle.cal_engine.specs.Readings.{parts_of as parts_by};
 ghost use Rattle.cal_engine.specs.declared.reading.Reading.{Reading as AReading};
 
-use crate::counter::Counter;
+use crate::counters::Counters;
 use crate::key::GroupKey;
 use crate::part_table::PartTable;
 use cal_context::{Context, Interner, NodeNumber, Snapshot};
@@ -67,13 +66,13 @@ impl NumberedGroups {
         &mut self,
         alloc: Global,
         key: &GroupKey,
-        counters: &[Counter],
+        counters: &Counters,
         context: &Context,
         snapshot: &Snapshot,
     ) -> Result<(), OutOfMemory>
         requires { IsIn context.now snapshot.now }
         ensures { OnOk result ((rs : List AReading)
-            → AllZip (IsReadyCounter context.now) rs counters.now → GathersKey self.old key.now
+            → AreReadyCounters context.now rs counters.now → GathersKey self.old key.now
             (parts_by rs (meaning context.now snapshot.now)) self.new) }
     {
         let count = self.keys.as_slice().len();
@@ -171,13 +170,14 @@ fn has_at(keys: &[GroupKey], place: usize, key: &GroupKey) -> bool
 /// Puts the parts of no record at the end, where a number has none yet.
 fn make_room(
     alloc: Global,
-    counters: &[Counter],
+    counters: &Counters,
     parts: &mut PartTable,
     number: usize,
 ) -> Result<(), OutOfMemory>
     requires { number ≤ length parts.old }
     ensures put { OnOk result ((fresh : List Gathered)
-        → merged_parts (map (λ counter. part_over counter.kernel []) counters.now) fresh ≡ fresh
+        → merged_parts (map (λ counter. part_over counter.kernel []) counters.now.counters.items)
+        fresh ≡ fresh
         → put_parts parts.new number fresh ≡ put_parts parts.old number fresh) }
     ensures long { OnOk result (length parts.new ≡ max (length parts.old) (number + 1)) }
     ensures err { OnErr result (parts.new ≡ parts.old) }

@@ -1,14 +1,13 @@
 ghost use Rattle.std.specs.Prelude.{◌≡◌, ◌<◌, ◌++◌, [], ◌∷◌, List, length, map, IfOk, OnOk, OnErr};
 ghost use Rattle.std.specs.Prelude.{slice_get, slice_index_or, take};
-ghost use Rattle.std.specs.List.{AllZip};
 ghost use Rattle.cal_context.specs.Snapshots.{IsIn, meaning};
-ghost use Rattle.cal_engine.specs.Counters.{IsReadyCounter};
+ghost use Rattle.cal_engine.specs.Counters.{AreReadyCounters};
 ghost use Rattle.cal_engine.specs.Folding.{put_parts};
 ghost use Rattle.cal_engine.specs.Parts.{part_over};
 ghost use Rattle.cal_engine.specs.Readings.{parts_of as parts_by};
 ghost use Rattle.cal_engine.specs.declared.reading.Reading.{Reading as AReading};
 
-use crate::counter::{Counter, add_record, put_none};
+use crate::counters::Counters;
 use crate::part::Part;
 use crate::part_list::PartList;
 use crate::reading::push_some;
@@ -112,9 +111,10 @@ impl PartTable {
     }
 
     /// Adds a group of no record at the end.
-    pub fn push_none(&mut self, alloc: Global, counters: &[Counter]) -> Result<(), OutOfMemory>
+    pub fn push_none(&mut self, alloc: Global, counters: &Counters) -> Result<(), OutOfMemory>
         ensures ok { OnOk result (self.new
-            ≡ self.old ++ map (λ counter. part_over counter.kernel []) counters.now ∷ []) }
+            ≡ self.old ++ map (λ counter. part_over counter.kernel []) counters.now.counters.items
+            ∷ []) }
         ensures err { OnErr result (self.new ≡ self.old) }
     {
         let Some(count) = self.count.checked_add(1) else {
@@ -124,7 +124,7 @@ impl PartTable {
         if self.count > 0 && self.width != width {
             return Err(OutOfMemory);
         }
-        put_none(alloc, &mut self.parts, counters)?;
+        counters.put_none(alloc, &mut self.parts)?;
         self.width = width;
         self.count = count;
         Ok(())
@@ -136,23 +136,24 @@ impl PartTable {
         &mut self,
         alloc: Global,
         number: usize,
-        counters: &[Counter],
+        counters: &Counters,
         context: &Context,
         snapshot: &Snapshot,
     ) -> Result<(), OutOfMemory>
         requires within { IsIn context.now snapshot.now }
         requires number { number < length self.old }
         ensures ok { OnOk result ((rs : List AReading)
-            → AllZip (IsReadyCounter context.now) rs counters.now → self.new
+            → AreReadyCounters context.now rs counters.now → self.new
             ≡ put_parts self.old number (parts_by rs (meaning context.now snapshot.now))) }
         ensures long { length self.new ≡ length self.old }
     {
         let _ = self.parts.len();
-        if counters.len() != self.width {
+        let width = counters.len();
+        if width != self.width {
             return Err(OutOfMemory);
         }
         let from = number * self.width;
-        add_record(alloc, counters, context, snapshot, &mut self.parts, from)
+        counters.add_record(alloc, context, snapshot, &mut self.parts, from)
     }
 }
 

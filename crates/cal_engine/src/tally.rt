@@ -9,7 +9,7 @@ ghost use Rattle.cal_engine.specs.Keys.{IsKeyOf, names_in, room_of};
 ghost use Rattle.cal_engine.specs.Sieves.{AreReadySieves};
 ghost use Rattle.cal_engine.specs.Tallies.{IsReadyTally, IsTally};
 
-use crate::counter::{Counter, counters_of, know_all};
+use crate::counters::Counters;
 use crate::key::{GroupKey, key_by_names, key_by_nodes};
 use crate::numbered::NumberedGroups;
 use crate::reading::readings_of;
@@ -25,7 +25,7 @@ use std::mem;
 /// The groups of an aggregated query over records by number, and what is kept beside the numbers.
 #[derive(Drop)]
 pub(crate) struct Tally {
-    counters: Vec<Counter>,
+    counters: Counters,
     sieves: Vec<Sieve>,
     // the tree of groups, in which the paths lie that the names of GROUP BY take
     own: Context,
@@ -42,7 +42,7 @@ impl Tally {
         ensures { IfOk result (λ tally. (t : Tree) → IsTally t query.now [] tally) }
     {
         let readings = readings_of(alloc, query.aggs.as_slice())?;
-        let counters = counters_of(alloc, &readings)?;
+        let counters = Counters::of(alloc, &readings)?;
         let sieves = sieves_for(alloc, &query.group)?;
         Ok(Tally {
             counters,
@@ -94,7 +94,7 @@ impl Tally {
         if self.known.covers(context) {
             return Ok(());
         }
-        know_all(&mut self.counters, context)?;
+        self.counters.catch_up(context)?;
         know_nodes(&mut self.sieves, context, &mut self.own)?;
         self.known = Counts::of(context);
         Ok(())

@@ -3,6 +3,7 @@ mod KindLemmas
 mod Last
 mod Seeking
 mod Finding
+mod Passing
 pub mod Zips
 pub mod OperandLemmas
 mod Holding

@@ -51,6 +51,25 @@ module _ {A : Type 0} (blank : A) where
       ∙ ap (λ rs. items ++ rs) (sym (replicate-append-replicate (count - length items) 1 blank))
       ∙ sym (append_assoc items (replicate (count - length items) blank) (blank ∷ []))
 
+  -- blanks up to more
+  padded-more : (items : List A) (one other : ℕ) → length items ≤ one → one ≤ other
+      → padded (padded items one) other ≡ padded items other
+  padded-more items one other within more =
+      let long = length-padded items one within in
+      let counted : (one - length items) + (other - one) ≡ other - length items = omega (arith, within, more) in
+      ap (λ n. padded items one ++ replicate (other - n) blank) long
+      ∙ append_assoc items (replicate (one - length items) blank) (replicate (other - one) blank)
+      ∙ ap (λ rs. items ++ rs) (replicate-append-replicate (one - length items) (other - one) blank)
+      ∙ ap (λ n. items ++ replicate n blank) counted
+
+  -- and none up to fewer
+  padded-less : (items : List A) (one other : ℕ) → length items ≤ one → other ≤ one
+      → padded (padded items one) other ≡ padded items one
+  padded-less items one other within less =
+      let long = length-padded items one within in
+      let none : other - length (padded items one) ≡ 0 = omega (arith, long, less) in
+      ap (λ n. padded items one ++ replicate n blank) none ∙ append-nil (padded items one)
+
   -- no blank behind a list that is as long
   padded-all : (items : List A) (count : ℕ) → length items ≡ count → padded items count ≡ items
   padded-all items count e =
@@ -68,6 +87,14 @@ read-with_roots nodes count i = read-padded root nodes count i
 pub with_roots-root : (nodes : List NodeNumber) (count : ℕ) → length nodes ≤ count
     → with_roots nodes (count + 1) ≡ with_roots nodes count ++ root ∷ []
 with_roots-root nodes count within = padded-blank root nodes count within
+
+pub with_roots-more : (nodes : List NodeNumber) (one other : ℕ) → length nodes ≤ one → one ≤ other
+    → with_roots (with_roots nodes one) other ≡ with_roots nodes other
+with_roots-more nodes one other within more = padded-more root nodes one other within more
+
+pub with_roots-less : (nodes : List NodeNumber) (one other : ℕ) → length nodes ≤ one → other ≤ one
+    → with_roots (with_roots nodes one) other ≡ with_roots nodes one
+with_roots-less nodes one other within less = padded-less root nodes one other within less
 
 pub with_roots-all : (nodes : List NodeNumber) (count : ℕ) → length nodes ≡ count → with_roots nodes count ≡ nodes
 with_roots-all nodes count e = padded-all root nodes count e

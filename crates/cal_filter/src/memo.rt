@@ -64,6 +64,18 @@ impl NodeMemo {
         node_at(&self.nodes, node)
     }
 
+    /// Keeps the root of each node more, up to so many nodes.
+    #[inline(always)]
+    pub fn put_roots(&mut self, count: usize)
+        ensures { self.new ≡ with_roots self.old count }
+    {
+        let _ = &self.nodes;
+        if count <= self.count {
+            return;
+        }
+        self.count = count;
+    }
+
     /// Keeps something of one node more.
     pub fn push(&mut self, node: NodeNumber) -> Result<(), OutOfMemory>
         ensures { OnOk result (self.new ≡ self.old ++ node ∷ []) }

@@ -1,10 +1,11 @@
-ghost use Rattle.std.specs.Prelude.{◌≡◌, ◌<◌, false, length, IsTrue, OnOk};
-ghost use Rattle.cal_context.specs.Tree.{Tree, attribute_at};
+ghost use Rattle.std.specs.Prelude.{◌≡◌, ◌<◌, ◌^◌, false, length, IsTrue, None, OnOk};
+ghost use Rattle.cal_context.specs.Tree.{Tree, attribute_at, path_at};
 ghost use Rattle.cal_context.specs.declared.numbers.AttributeNumber.{AttributeNumber as AttributeNumberOf};
 ghost use Rattle.cal_context.specs.declared.numbers.NodeNumber.{NodeNumber as NodeNumberOf};
 ghost use Rattle.cal_filter.specs.Known.{IsNearest, Knows, KnowsAll, KnowsAttributes, named_at};
 ghost use Rattle.cal_filter.specs.Known.{nearest_at, sought};
-ghost use Rattle.cal_filter.specs.Sought.{any_of, number_of, seeks as is_sought, whole_of};
+ghost use Rattle.cal_filter.specs.Sought.{any_of, last_sought, number_of};
+ghost use Rattle.cal_filter.specs.Sought.{seeks as is_sought, whole_of};
 
 use crate::wanted::Wanted;
 use crate::{AttributeMemo, NodeMemo};
@@ -62,15 +63,42 @@ impl Seeker {
         }
     }
 
-    /// Gets to know what is new in a context.
+    /// Whether it looks for the last number of this name.
+    pub fn is_of_number(&self, name: &Text) -> bool
+        ensures is { IsTrue result → sought self.now ≡ number_of name.now }
+        ensures only { sought self.now ≡ number_of name.now → IsTrue result }
+    {
+        matches!(self.wanted, Wanted::Number) && self.name == *name
+    }
+
+    /// Gets to know what is new in a context. Where nothing is sought in any path, new nodes take
+    /// no time.
+    #[inline(always)]
     pub fn catch_up(&mut self, context: &Context) -> Result<(), OutOfMemory>
         ensures knows { OnOk result (Knows context.now self.old → KnowsAll context.now self.new) }
         ensures same { OnOk result (sought self.new ≡ sought self.old) }
     {
-        self.know_attributes(context)?;
+        self.know_new_attributes(context)?;
+        if self.sees_nothing() {
+            return self.pass_nodes(context);
+        }
         self.know_nodes(context)
     }
 
+    /// Gets to know the attributes, where there are new ones.
+    #[inline(always)]
+    fn know_new_attributes(&mut self, context: &Context) -> Result<(), OutOfMemory>
+        ensures knows { OnOk result
+            (Knows context.now self.old → KnowsAttributes context.now self.new) }
+        ensures same { OnOk result (sought self.new ≡ sought self.old) }
+    {
+        if context.attribute_count() <= self.named.len() {
+            return Ok(());
+        }
+        self.know_attributes(context)
+    }
+
+    #[inline(never)]
     fn know_attributes(&mut self, context: &Context) -> Result<(), OutOfMemory>
         ensures knows { OnOk result
             (Knows context.now self.old → KnowsAttributes context.now self.new) }
@@ -87,6 +115,7 @@ impl Seeker {
         Ok(())
     }
 
+    #[inline(never)]
     fn know_nodes(&mut self, context: &Context) -> Result<(), OutOfMemory>
         ensures knows { OnOk result
             (KnowsAttributes context.now self.old → KnowsAll context.now self.new) }
@@ -100,6 +129,58 @@ impl Seeker {
             self.nearest.push(nearest)?;
         }
         Ok(())
+    }
+
+    /// The same where nothing is sought in any path that is known, and no attribute has the name.
+    #[inline(always)]
+    fn pass_nodes(&mut self, context: &Context) -> Result<(), OutOfMemory>
+        requires unnamed { (a : AttributeNumberOf) → named_at self.old a ≡ false }
+        requires nowhere { (n : NodeNumberOf) → nearest_at self.old n ≡ record { 0 = 0 } }
+        ensures knows { OnOk result
+            (KnowsAttributes context.now self.old → KnowsAll context.now self.new) }
+        ensures same { OnOk result (sought self.new ≡ sought self.old) }
+    {
+        context.has_each_once();
+        let count = context.node_count();
+        if count > u32::MAX as usize {
+            return Err(OutOfMemory);
+        }
+        self.finds_none(context);
+        self.nearest.put_roots(count);
+        Ok(())
+    }
+
+    /// Nothing is sought in any path, where no attribute has the name. The loop is there for the
+    /// proof alone, and no code is left of it.
+    #[inline(always)]
+    fn finds_none(&self, context: &Context)
+        requires few { length context.now.paths < 2 ^ 32 }
+        requires unnamed { (a : AttributeNumberOf) → named_at self.now a ≡ false }
+        requires nowhere { (n : NodeNumberOf) → nearest_at self.now n ≡ record { 0 = 0 } }
+        ensures { KnowsAttributes context.now self.now → (n : NodeNumberOf)
+            → n.0 < length context.now.paths
+            → last_sought (sought self.now) (path_at context.now n) ≡ None }
+    {
+        context.has_each_once();
+        for place in self.nearest.len()..context.node_count() {
+            self.finds_none_at(context, NodeNumber(place as u32));
+        }
+    }
+
+    /// The same on one path, where nothing is sought on those of the nodes before.
+    #[inline(always)]
+    fn finds_none_at(&self, context: &Context, node: NodeNumber)
+        requires within { node.0 < length context.now.paths }
+        requires unnamed { (a : AttributeNumberOf) → named_at self.now a ≡ false }
+        ensures { KnowsAttributes context.now self.now
+            → ((n : NodeNumberOf) → n.0 < node.0
+            → last_sought (sought self.now) (path_at context.now n) ≡ None)
+            → last_sought (sought self.now) (path_at context.now node) ≡ None }
+    {
+        match context.link(node) {
+            Some(_link) => {}
+            None => {}
+        }
     }
 
     /// The nearest node at or above the first one that isn't known.

@@ -1,6 +1,5 @@
 use Rattle.std.proofs.Common.{map, subst, ap, ◌∙◌, arith}
-use Rattle.std.specs.List.{AllZip}
-use Rattle.cal_engine.specs.Counters.{IsCounter}
+use Rattle.cal_engine.specs.Counters.{AreCounters}
 use Rattle.cal_engine.specs.Keys.{room_of}
 use Rattle.cal_engine.specs.Readings.{reading_of}
 use Rattle.cal_engine.proofs.Tallying.{no_groups_in, no_keys}
@@ -8,13 +7,13 @@ use Rattle.cal_engine.proofs.tally.Tally.new.Goals as goal
 
 pub returns : goal.returns
 returns c = λ t. record {
-  counters = subst (λ rs. AllZip (IsCounter t) rs c.in_ok-counters.counters.items)
+  counters = subst (λ rs. AreCounters t rs c.in_ok-counters.counters)
       (c.deref.ensures.value ∙ c.in_ok-readings.ensures ∙ ap (map reading_of) c.as_slice.ensures) (c.in_ok-counters.ensures t);
   sieves = c.in_ok-sieves.ensures t c.new.result;
   keys = no_keys (room_of c.args.query.now.group t c.new.result) c.new-2.result c.new-2.ensures;
   groups = no_groups_in (room_of c.args.query.now.group t c.new.result) c.args.query.now c.new-2.result c.new-2.ensures;
   known = record {
-    counters = λ i d short j x within. record { attributes = omega arith; nodes = omega arith };
+    counters = λ i x within. record { attributes = omega arith; nodes = omega arith };
     sieves = λ i d short. record { attributes = omega arith; nodes = omega arith };
   };
 }

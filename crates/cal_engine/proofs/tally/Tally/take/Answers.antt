@@ -1,7 +1,5 @@
 use Rattle.std.proofs.Common.{map, refl, subst, sym}
-use Rattle.std.specs.List.{AllZip}
 use Rattle.cal_context.specs.Snapshots.{meaning}
-use Rattle.cal_engine.specs.Counters.{IsReadyCounter}
 use Rattle.cal_engine.specs.Keys.{names_in}
 use Rattle.cal_engine.specs.Readings.{parts_of, reading_of}
 use Rattle.cal_engine.specs.Sieves.{AreReadySieves}
@@ -26,7 +24,7 @@ returns c = λ q rs by_name h.
     let rec = meaning t c.args.snapshot.now in
     let readings = map reading_of q.aggs in
     let names = names_in q.group in
-    let gathers = c.in_ok-gather.ensures readings (subst (AllZip (IsReadyCounter t) readings) (sym c.deref-2.ensures.value) ready.counters) in
+    let gathers = c.in_ok-gather.ensures readings ready.counters in
     let key = c.in_ok-key.ensures.key q by_name (subst (AreReadySieves t mid.own names) (sym c.deref.ensures.value) ready.sieves) in
     tallied t q rs rec mid new (parts_of readings rec) c.in_ok-key.key c.has_each_once.ensures c.has_each_once-2.ensures
     c.in_ok-key.ensures.grows ready.counters (ready_stays t c.in_ok-key.ensures.grows names mid.sieves.items ready.sieves) refl

@@ -1,6 +1,6 @@
 use Rattle.std.proofs.Common.{◌≡◌, ◌++◌, [], map, take}
 use Rattle.cal_engine.specs.Parts.{part_over}
-use Rattle.cal_engine.proofs.counter.put_each_none.Given as goal
+use Rattle.cal_engine.proofs.counters.put_each_none.Given as goal
 
 abbrev pub invariant-loop-counter : goal.invariant-loop-counter
 invariant-loop-counter l =
