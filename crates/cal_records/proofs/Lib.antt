@@ -1,5 +1,6 @@
 pub mod ListOrder
 pub mod ForkLemmas
+pub mod RisingLemmas
 pub mod LikelyLemmas
 pub mod Ranking
 pub mod GlobalLemmas

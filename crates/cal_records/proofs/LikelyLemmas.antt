@@ -5,9 +5,9 @@ use Rattle.std.proofs.Math.ListN.{get_or-map}
 use Rattle.std.specs.Cmp.{on_total, then_total, tied_itself}
 use Rattle.std.specs.Fn.{Called, Mut}
 use Rattle.std.specs.List.Sorted.{IsStableBy, IsStableByKeyClosure, ties}
-use Rattle.std.specs.Ordering.{is_lt, nat_cmp, ordering_reverse, ordering_then}
+use Rattle.std.specs.Ordering.{is_lt, nat_cmp, ordering_then}
 use Rattle.std.specs.declared.cmp.Ordering.{Ordering}
-use Rattle.std.specs.declared.cmp.Ordering.TheVariants.{Less, Equal, Greater}
+use Rattle.std.specs.declared.cmp.Ordering.TheVariants.{Equal}
 use Rattle.std.proofs.lemmas.Bool.{lt-ltb, ltb-false, ltb-true}
 use Rattle.std.proofs.lemmas.Fn.{always_returns_same}
 use Rattle.std.proofs.lemmas.List.{get_or_past}
@@ -16,9 +16,9 @@ use Rattle.cal_context.specs.Tree.{IsContext, Tree, path_at}
 use Rattle.cal_context.specs.declared.numbers.NodeNumber.{NodeNumber}
 use Rattle.cal_engine.specs.Making.{key_at}
 use Rattle.cal_engine.specs.declared.grouped_rows.GroupedRows.{GroupedRows}
+use Rattle.cal_records.proofs.RisingLemmas.{tie-Equal}
 use Rattle.cal_records.specs.Likely.{likely_key, node_place, place_in}
 use Rattle.cal_records.specs.Ranks.{group_at, numbers_cmp}
-use Rattle.cal_records.specs.declared.likely.Spot.{Spot}
 use Rattle.cal_records.specs.declared.group_keys.AllKeys.{AllKeys}
 use Rattle.cal_value.specs.ExactOrder.{IsExactOrder, nat_exact}
 use Rattle.cal_value.specs.Order.{group_cmp}
@@ -54,16 +54,7 @@ stable-behind first lt within xs ys zs one two x =
 -- values that tie are equal, where the order is exact
 tied-equal : {A : Type 0} (R : A → A → Ordering) → IsExactOrder R → (x y : A)
     → ties (λ a b. is_lt (R a b)) x y ≡ true → x ≡ y
-tied-equal R exact x y tie =
-    exact.exact x y (by (R x y) (R y x) (exact.total.antisymm x y) tie)
-  where
-    by : (a b : Ordering) → a ≡ ordering_reverse b → not (is_lt a) && not (is_lt b) ≡ true
-        → a ≡ Equal
-    by Less b turn tied = absurd (true≢false (sym tied))
-    by Equal b turn tied = refl
-    by Greater Less turn tied = absurd (true≢false (sym tied))
-    by Greater Equal turn tied = turn
-    by Greater Greater turn tied = absurd (true≢false (ap is_lt (sym turn)))
+tied-equal R exact x y tie = exact.exact x y (tie-Equal R exact.total x y tie)
 
 -- ---- likely places
 
@@ -78,19 +69,19 @@ key-itself = tied_itself {R = key_cmp} (then_total (on_total (λ (k : ℕ × ℕ
 abbrev root : NodeNumber
 root = record { 0 = 0 }
 
-module _ (t : Tree) (context : IsContext t) (spots : List Spot) where
-  root-place : node_place t spots root ≡ 0
+module _ (t : Tree) (context : IsContext t) (places : List ℕ) where
+  root-place : node_place t places root ≡ 0
   root-place = rw (lt-ltb 0 (length t.paths) (root_within context)) refl
 
-  past-place : (n : NodeNumber) → nat_lt n.0 (length t.paths) ≡ false → node_place t spots n ≡ 0
+  past-place : (n : NodeNumber) → nat_lt n.0 (length t.paths) ≡ false → node_place t places n ≡ 0
   past-place n past = rw past refl
 
   -- a number of no node has the path of the root, and its place
   past-root : (n m : NodeNumber) → nat_lt n.0 (length t.paths) ≡ true
       → nat_lt m.0 (length t.paths) ≡ false → path_at t n ≡ path_at t m
-      → node_place t spots n ≡ node_place t spots m
+      → node_place t places n ≡ node_place t places m
   past-root n m within past same =
-      ap (node_place t spots)
+      ap (node_place t places)
       (one_node context n root (ltb-true n.0 (length t.paths) within) (root_within context)
       (same ∙ get_or_past t.paths m.0 [] (ltb-false m.0 (length t.paths) past)
       ∙ sym (root_path context)))
@@ -98,13 +89,13 @@ module _ (t : Tree) (context : IsContext t) (spots : List Spot) where
 
   -- numbers of one path have one place
   same-place : (n m : NodeNumber) → path_at t n ≡ path_at t m
-      → node_place t spots n ≡ node_place t spots m
+      → node_place t places n ≡ node_place t places m
   same-place n m same =
       by (nat_lt n.0 (length t.paths)) (nat_lt m.0 (length t.paths)) refl refl
     where
       by : (a b : Bool) → nat_lt n.0 (length t.paths) ≡ a → nat_lt m.0 (length t.paths) ≡ b
-          → node_place t spots n ≡ node_place t spots m
-      by true true is other = ap (node_place t spots)
+          → node_place t places n ≡ node_place t places m
+      by true true is other = ap (node_place t places)
           (one_node context n m (ltb-true n.0 (length t.paths) is)
           (ltb-true m.0 (length t.paths) other) same)
       by true false is other = past-root n m is other same
@@ -112,7 +103,7 @@ module _ (t : Tree) (context : IsContext t) (spots : List Spot) where
       by false false is other = past-place n is ∙ sym (past-place m other)
 
   same-place-in : (ns ms : List NodeNumber) → map (path_at t) ns ≡ map (path_at t) ms → (i : ℕ)
-      → place_in t spots ns i ≡ place_in t spots ms i
+      → place_in t places ns i ≡ place_in t places ms i
   same-place-in ns ms same i =
       same-place (get_or ns i root) (get_or ms i root)
       (sym (get_or-map (path_at t) ns i root)
@@ -121,7 +112,7 @@ module _ (t : Tree) (context : IsContext t) (spots : List Spot) where
 
   module _ (g : GroupedRows) (keys : AllKeys) where
     abbrev pub key_of : ℕ → ℕ × ℕ
-    key_of n = likely_key t spots (key_at g n).paths
+    key_of n = likely_key t places (key_at g n).paths
 
     -- rows of one group have one key
     same-key : (x y : ℕ) → group_at t g keys x ≡ group_at t g keys y → key_of x ≡ key_of y

@@ -1,18 +1,22 @@
 -- Numbers sorted by what stands beside them are those of the rows in the order of their groups.
 use Rattle.std.proofs.Common.{◌≡◌, Bool, true, false, ◌||◌, List, [], ◌∷◌, ◌++◌, map, refl, sym, ap, ◌∙◌}
 use Rattle.std.proofs.Common.{Bor, ℕ, ◌<◌, Option, None, Some, append-nil, append_assoc, arith, filter}
-use Rattle.std.proofs.Common.{length, not, reverse, subst}
+use Rattle.std.proofs.Common.{length, not, reverse}
 use Rattle.std.specs.Prelude.{option_map}
 use Rattle.std.specs.Cmp.{IsStrictWeakOrder}
 use Rattle.std.specs.Fn.{Called, Mut}
-use Rattle.std.specs.List.{All, AllByRecursion, cons_option, list_any}
+use Rattle.std.specs.List.{All, AllAdjacentBelow, AllByRecursion, cons_option, list_any}
+use Rattle.std.specs.List.{range_with_len}
 use Rattle.std.specs.List.Sorted.{IsSortedByClosure, IsStableBy, IsStableByClosure}
 use Rattle.std.specs.Ordering.{is_lt}
 use Rattle.std.specs.declared.cmp.Ordering.{Ordering}
 use Rattle.std.proofs.lemmas.Fn.{always_returns_same}
-use Rattle.std.proofs.lemmas.List.{map-append, reverse-append}
+use Rattle.std.proofs.lemmas.Cmp.{on_total}
+use Rattle.std.proofs.lemmas.List.{ext_get_or, map-append, reverse-append}
 use Rattle.std.proofs.lemmas.List.Elements.{filter-append, recursion_from_All}
 use Rattle.std.proofs.lemmas.List.Folds.{list_any-append}
+use Rattle.std.proofs.lemmas.List.FromFn.{get_or-map-range_with_len, get_or-range_with_len}
+use Rattle.std.proofs.lemmas.List.FromFn.{length-map-range_with_len, length-range_with_len}
 use Rattle.std.proofs.lemmas.List.Sorted.{ranks_by}
 use Rattle.cal_agg.specs.declared.num.Num.{Num}
 use Rattle.cal_context.specs.Tree.{Tree, path_at}
@@ -28,7 +32,8 @@ use Rattle.cal_filter.specs.Kept.{result_entry}
 use Rattle.cal_filter.specs.Numbers.{value_of_number}
 use Rattle.cal_ql.specs.declared.query.Agg.{Agg}
 use Rattle.cal_records.specs.Groups.{group_in, is_result, rows_cmp}
-use Rattle.cal_records.specs.Ranks.{entries_at, group_at, key_entries, numbers_cmp}
+use Rattle.cal_records.proofs.RisingLemmas.{rising-sorted}
+use Rattle.cal_records.specs.Ranks.{entries_at, group_at, key_entries, numbers_cmp, order_of}
 use Rattle.cal_records.specs.declared.group_keys.AllKeys.{AllKeys}
 use Rattle.cal_rowset.proofs.Seen.{is_same-refl}
 use Rattle.cal_rowset.specs.Answers.{nth_row}
@@ -167,30 +172,61 @@ module _ (t room : Tree) (aggs : List Agg) (g : GroupedRows) (keys : AllKeys)
         → numbers_cmp room g keys n m ≡ rows_cmp aggs (nth_row rs n) (nth_row rs m)
     agrees n m one other = λ i. group_cmp (group-is n one i) (group-is m other i)
 
-    numbers_weak : IsStrictWeakOrder (λ x y. is_lt (numbers_cmp room g keys x y))
-    numbers_weak = ranks_by group_exact.total (group_at room g keys)
+    -- the numbers below their count are those of the rows
+    all_rows : map (nth_row rs) (range_with_len 0 (group_count g)) ≡ rs
+    all_rows =
+        let counted = made-counted t aggs g rs made in
+        ext_get_or (record { paths = []; imms = [] })
+        (map (nth_row rs) (range_with_len 0 (group_count g))) rs
+        (length-map-range_with_len (nth_row rs) 0 (group_count g) ∙ counted)
+        (λ i l. get_or-map-range_with_len (nth_row rs) 0 (group_count g) i i _
+        (omega (arith, l, length-map-range_with_len (nth_row rs) 0 (group_count g))) (omega arith))
 
-    -- what the sort leaves
-    pub sorted_numbers :
-        {F : Type 0} {h : Mut F (Bor ℕ × (Bor ℕ × Unit {0})) Ordering} {f : F}
-        (before mid after : List ℕ) → All (λ n. n < group_count g) before
-        → map (nth_row rs) before ≡ rs
-        → (IsStableBy (λ x y. is_lt (numbers_cmp room g keys x y)) mid after
-        → IsStableBy (λ x y. is_lt (numbers_cmp room g keys x y)) before after)
-        → IsSortedByClosure h f after → IsStableByClosure h f mid after
-        → ((a : Bor ℕ × (Bor ℕ × Unit {0})) (r : Ordering) (f' : F) → Called h f a r f'
-        → (r ≡ numbers_cmp room g keys a.0.now a.1.0.now) × (f' ≡ f))
-        → map (nth_row rs) after ≡ sorted (rows_cmp aggs) rs
-    sorted_numbers {h = h} {f = f} before mid after below each first up stable answers =
-        let lt = λ (x y : ℕ). is_lt (numbers_cmp room g keys x y) in
-        let compares = always_returns_same h
-        (λ a r. is_lt r ≡ is_lt (numbers_cmp room g keys a.0.now a.1.0.now)) f
-        (λ a r f' k. (ap is_lt (answers a r f' k).0, (answers a r f' k).1)) in
-        let within : All (λ n. n < length rs) before =
-        subst (λ count. All (λ n. n < count) before) (made-counted t aggs g rs made) below in
-        ap (map (nth_row rs))
-        (sorted-unique (numbers_cmp room g keys) numbers_weak before after
-        (up lt numbers_weak compares) (first (stable lt numbers_weak compares)))
-        ∙ sorted-map (nth_row rs) (numbers_cmp room g keys) (rows_cmp aggs) (λ n. n < length rs)
-        agrees before (recursion_from_All (λ n. n < length rs) before within)
-        ∙ ap (sorted (rows_cmp aggs)) each
+    all_below : All (λ n. n < length rs) (range_with_len 0 (group_count g))
+    all_below k d l =
+        let counted = made-counted t aggs g rs made in
+        let within : k < group_count g =
+        omega (arith, l, length-range_with_len 0 (group_count g)) in
+        omega (arith, within, counted, get_or-range_with_len 0 (group_count g) k d within)
+
+    -- sorted by their groups they are those of the rows in the order of groups
+    pub ordered_rows : map (nth_row rs) (order_of room g keys) ≡ sorted (rows_cmp aggs) rs
+    ordered_rows =
+        sorted-map (nth_row rs) (numbers_cmp room g keys) (rows_cmp aggs) (λ n. n < length rs)
+        agrees (range_with_len 0 (group_count g)) (recursion_from_All (λ n. n < length rs) _ all_below)
+        ∙ ap (sorted (rows_cmp aggs)) all_rows
+
+-- ---- the order of numbers
+
+module _ (room : Tree) (g : GroupedRows) (keys : AllKeys) where
+  -- numbers that rise are in that order
+  pub risen_numbers : (numbers : List ℕ) → length numbers ≡ group_count g
+      → All (λ n. n < group_count g) numbers
+      → AllAdjacentBelow (λ n m. is_lt (numbers_cmp room g keys n m) ≡ true) numbers
+      (length numbers)
+      → numbers ≡ order_of room g keys
+  risen_numbers numbers many below rising =
+      rising-sorted (numbers_cmp room g keys) (on_total (group_at room g keys) group_exact.total)
+      (group_count g) numbers many below rising
+
+  numbers_weak : IsStrictWeakOrder (λ x y. is_lt (numbers_cmp room g keys x y))
+  numbers_weak = ranks_by group_exact.total (group_at room g keys)
+
+  -- and so are those that a sort leaves
+  pub sorted_numbers :
+      {F : Type 0} {h : Mut F (Bor ℕ × (Bor ℕ × Unit {0})) Ordering} {f : F}
+      (before mid after : List ℕ) → before ≡ range_with_len 0 (group_count g)
+      → (IsStableBy (λ x y. is_lt (numbers_cmp room g keys x y)) mid after
+      → IsStableBy (λ x y. is_lt (numbers_cmp room g keys x y)) before after)
+      → IsSortedByClosure h f after → IsStableByClosure h f mid after
+      → ((a : Bor ℕ × (Bor ℕ × Unit {0})) (r : Ordering) (f' : F) → Called h f a r f'
+      → (r ≡ numbers_cmp room g keys a.0.now a.1.0.now) × (f' ≡ f))
+      → after ≡ order_of room g keys
+  sorted_numbers {h = h} {f = f} before mid after all first up stable answers =
+      let lt = λ (x y : ℕ). is_lt (numbers_cmp room g keys x y) in
+      let compares = always_returns_same h
+      (λ a r. is_lt r ≡ is_lt (numbers_cmp room g keys a.0.now a.1.0.now)) f
+      (λ a r f' k. (ap is_lt (answers a r f' k).0, (answers a r f' k).1)) in
+      sorted-unique (numbers_cmp room g keys) numbers_weak before after
+      (up lt numbers_weak compares) (first (stable lt numbers_weak compares))
+      ∙ ap (sorted (numbers_cmp room g keys)) all

@@ -1,9 +1,11 @@
 -- The groups of rows by their numbers, and the order of such groups (private).
 use Rattle.std.specs.Prelude.{ℕ, List, filter, map, not, slice_index_or}
+use Rattle.std.specs.List.{range_with_len}
 use Rattle.std.specs.Ordering.{on}
 use Rattle.std.specs.declared.cmp.Ordering.{Ordering}
 use Rattle.cal_context.specs.Tree.{Tree, path_at}
-use Rattle.cal_engine.specs.Making.{key_at}
+use Rattle.cal_engine.specs.Making.{group_count, key_at}
+use Rattle.cal_engine.specs.Sorting.{sorted}
 use Rattle.cal_engine.specs.declared.grouped_rows.GroupedRows.{GroupedRows}
 use Rattle.cal_engine.specs.declared.key.GroupKey.{GroupKey}
 use Rattle.cal_ql.specs.declared.query.Agg.{Agg}
@@ -38,3 +40,7 @@ group_at room rows keys n =
 
 abbrev pub numbers_cmp : Tree → GroupedRows → AllKeys → ℕ → ℕ → Ordering
 numbers_cmp room rows keys = on (group_at room rows keys) group_cmp
+
+-- the numbers of all rows in the order of their groups
+abbrev pub order_of : Tree → GroupedRows → AllKeys → List ℕ
+order_of room rows keys = sorted (numbers_cmp room rows keys) (range_with_len 0 (group_count rows))

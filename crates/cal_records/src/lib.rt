@@ -11,6 +11,7 @@ mod globals;
 mod group_keys;
 mod groups;
 mod likely;
+mod likely_key;
 mod query;
 mod run;
 mod same;

@@ -1,235 +1,229 @@
-ghost use Rattle.std.specs.Prelude.{◌≡◌, ◌<◌, ◌≤◌, length};
-ghost use Rattle.cal_records.specs.Likely.{likely_key as key_of, node_place, place_in};
-
-use crate::sorting::{Key, compare_entries};
-use cal_context::{Context, NodeNumber};
-use cal_value::OutOfMemory;
+use cal_context::{AttributeNumber, Context, NodeNumber};
+use cal_engine::GroupedRows;
+use cal_value::{Attribute, OutOfMemory, Variant};
 use std::alloc::Global;
+use std::cmp::Ordering;
 
-/// A node below the root, beside its parent and its own entry.
+/// Where the lists of a node go on, which end at the root, as it is behind no other node.
 #[derive(Clone, Copy)]
-struct Branch<'a> {
-    parent: NodeNumber,
+pub(crate) struct Step {
+    /// The child that was added last.
+    child: NodeNumber,
+    /// The sibling that was added before; once the parent's children are in order, the node that
+    /// likely comes next in the order of paths.
+    next: NodeNumber,
+}
+
+/// A child of a node, beside its own entry.
+#[derive(Clone, Copy)]
+struct Sibling<'a> {
     node: NodeNumber,
-    entry: Key<'a>,
+    attribute: AttributeNumber,
+    attr: &'a Attribute,
+    value: &'a Variant,
 }
 
-/// Where a node likely stands in the order of paths.
-#[derive(Clone, Copy)]
-pub(crate) struct Spot {
-    /// The number of nodes from this one down.
-    size: u32,
-    /// The place of the child that comes next.
-    next: u32,
-    place: u32,
-}
-
-/// Where each node of a context likely stands in the order of paths: behind its parent, and behind
-/// all that lies below an earlier sibling. Nothing is promised of the places, so a sort by them is
-/// only a good beginning. Where the rows are few beside the nodes, there are no places, since that
-/// would take longer than it saves: time and memory for each node, and n log n comparisons.
-pub(crate) fn likely_spots(
+/// The nodes of a context, one list of them from the root on, in the order in which their paths
+/// likely come: behind each node its children, by their entries. Nothing is promised of that list,
+/// so what is made of it is only a guess. Where the rows are few beside the nodes there is none,
+/// since that would take longer than it saves: time and memory for each node, and comparisons of
+/// siblings.
+pub(crate) fn likely_steps(
     alloc: Global,
     context: &Context,
     rows: usize,
-) -> Result<Vec<Spot>, OutOfMemory> {
+) -> Result<Vec<Step>, OutOfMemory> {
     if rows < context.node_count() / 16 {
         return Ok(Vec::new(alloc));
     }
-    let branches = branches(alloc, context)?;
-    let mut spots = lone_spots(alloc, context.node_count())?;
-    add_sizes(&branches, &mut spots);
-    let mut siblings = by_parents(alloc, &branches, context.node_count())?;
-    sort_siblings(&mut siblings);
-    give_places(&siblings, &mut spots);
-    Ok(spots)
-}
-
-/// The places of the first two nodes of a list.
-pub(crate) fn likely_key(context: &Context, spots: &[Spot], nodes: &[NodeNumber]) -> (u32, u32)
-    ensures { result ≡ key_of context.now spots.now nodes.now }
-{
-    (
-        place_at(context, spots, nodes, 0),
-        place_at(context, spots, nodes, 1),
-    )
-}
-
-/// The nodes below the root, parents first.
-fn branches<'a>(alloc: Global, context: &'a Context) -> Result<Vec<Branch<'a>>, OutOfMemory> {
-    let mut branches = Vec::with_capacity(alloc, context.node_count())?;
+    let mut steps = first_steps(alloc, context)?;
+    let mut siblings = Vec::new(alloc);
     for number in 0..context.node_count() {
-        if let Some(branch) = branch_at(context, number) {
-            branches.push(branch)?;
-        }
+        let Ok(number) = u32::try_from(number) else {
+            return Err(OutOfMemory);
+        };
+        order_children(context, NodeNumber(number), &mut steps, &mut siblings)?;
     }
-    Ok(branches)
+    Ok(steps)
 }
 
-fn branch_at<'a>(context: &'a Context, number: usize) -> Option<Branch<'a>>
-    requires { number < length context.now.paths }
-{
-    let node = NodeNumber(u32::try_from(number).ok()?);
+/// Each node on the list of its parent's children.
+fn first_steps(alloc: Global, context: &Context) -> Result<Vec<Step>, OutOfMemory> {
+    let mut steps = Vec::with_capacity(alloc, context.node_count())?;
+    for number in 0..context.node_count() {
+        let next = match parent_of(context, number) {
+            Some(parent) => put_child(&mut steps, parent, number),
+            None => NodeNumber::ROOT,
+        };
+        steps.push(Step {
+            child: NodeNumber::ROOT,
+            next,
+        })?;
+    }
+    Ok(steps)
+}
+
+fn parent_of(context: &Context, number: usize) -> Option<NodeNumber> {
+    if number >= context.node_count() {
+        return None;
+    }
+    let link = context.link(NodeNumber(u32::try_from(number).ok()?))?;
+    Some(link.parent)
+}
+
+/// Puts a child before the others of a node, of which the first is answered.
+fn put_child(steps: &mut [Step], parent: NodeNumber, number: usize) -> NodeNumber {
+    let Ok(child) = u32::try_from(number) else {
+        return NodeNumber::ROOT;
+    };
+    match steps.get_mut(parent.0 as usize) {
+        Some(step) => {
+            let before = step.child;
+            step.child = NodeNumber(child);
+            before
+        }
+        None => NodeNumber::ROOT,
+    }
+}
+
+/// Puts the children of a node behind it, by their entries.
+fn order_children<'a>(
+    context: &'a Context,
+    node: NodeNumber,
+    steps: &mut [Step],
+    siblings: &mut Vec<Sibling<'a>>,
+) -> Result<(), OutOfMemory> {
+    siblings.clear();
+    find_children(context, node, steps, siblings)?;
+    if siblings.len() > 1 {
+        siblings.sort_unstable_by(|one, other| compare_siblings(other, one));
+    }
+    for sibling in siblings.iter() {
+        put_behind(steps, node, sibling.node);
+    }
+    Ok(())
+}
+
+/// Adds the children of a node to a list. The numbers on a list of children fall.
+fn find_children<'a>(
+    context: &'a Context,
+    node: NodeNumber,
+    steps: &[Step],
+    siblings: &mut Vec<Sibling<'a>>,
+) -> Result<(), OutOfMemory> {
+    let mut child = child_of(steps, node);
+    while child.0 > 0 {
+        if let Some(sibling) = sibling_of(context, child) {
+            siblings.push(sibling)?;
+        }
+        let next = next_of(steps, child);
+        child = if next.0 < child.0 {
+            next
+        } else {
+            NodeNumber::ROOT
+        };
+    }
+    Ok(())
+}
+
+fn sibling_of(context: &Context, node: NodeNumber) -> Option<Sibling<'_>> {
+    if node.0 as usize >= context.node_count() {
+        return None;
+    }
     let link = context.link(node)?;
-    Some(Branch {
-        parent: link.parent,
+    Some(Sibling {
         node,
-        entry: Key {
-            attr: context.attribute_at(link.attribute),
-            value: context.value_at(link.value),
-        },
+        attribute: link.attribute,
+        attr: context.attribute_at(link.attribute),
+        value: context.value_at(link.value),
     })
 }
 
-/// A spot for each node, as if nothing were below it.
-fn lone_spots(alloc: Global, count: usize) -> Result<Vec<Spot>, OutOfMemory> {
-    let mut spots = Vec::with_capacity(alloc, count)?;
-    for _ in 0..count {
-        spots.push(Spot {
-            size: 1,
-            next: 1,
-            place: 0,
-        })?;
-    }
-    Ok(spots)
-}
-
-/// Adds the size of each node to its parent's, the last nodes first.
-fn add_sizes(branches: &[Branch], spots: &mut [Spot]) {
-    for branch in branches.iter().rev() {
-        let own = spot_of(spots, branch.node);
-        let mut above = spot_of(spots, branch.parent);
-        above.size = above.size.wrapping_add(own.size);
-        put_spot(spots, branch.parent, above);
+/// How the entries of two siblings are ordered, which are never the same.
+fn compare_siblings(one: &Sibling, other: &Sibling) -> Ordering {
+    if one.attribute == other.attribute {
+        one.value.cmp(other.value)
+    } else {
+        one.attr.cmp(other.attr)
     }
 }
 
-/// The branches by the numbers of their parents, so that siblings stand side by side. A parent comes
-/// before its children, as its number is smaller.
-fn by_parents<'a>(
+fn child_of(steps: &[Step], node: NodeNumber) -> NodeNumber {
+    match steps.get(node.0 as usize) {
+        Some(step) => step.child,
+        None => NodeNumber::ROOT,
+    }
+}
+
+fn next_of(steps: &[Step], node: NodeNumber) -> NodeNumber {
+    match steps.get(node.0 as usize) {
+        Some(step) => step.next,
+        None => NodeNumber::ROOT,
+    }
+}
+
+/// Puts a node behind another one.
+fn put_behind(steps: &mut [Step], node: NodeNumber, other: NodeNumber) {
+    let next = next_of(steps, node);
+    put_next(steps, other, next);
+    put_next(steps, node, other);
+}
+
+fn put_next(steps: &mut [Step], node: NodeNumber, next: NodeNumber) {
+    if let Some(step) = steps.get_mut(node.0 as usize) {
+        step.next = next;
+    }
+}
+
+/// The numbers of rows in their likely order, if each has at most one node, and else none.
+pub(crate) fn likely_numbers(
     alloc: Global,
-    branches: &[Branch<'a>],
-    count: usize,
-) -> Result<Vec<Branch<'a>>, OutOfMemory> {
-    let mut places = places_of_first(alloc, branches, count)?;
-    let mut siblings = branches.to_vec(alloc)?;
-    for branch in branches {
-        if let Some(place) = places.get_mut(branch.parent.0 as usize) {
-            if let Some(old) = siblings.get_mut(*place as usize) {
-                *old = *branch;
-            }
-            *place = place.wrapping_add(1);
+    steps: &[Step],
+    rows: &GroupedRows,
+) -> Result<Vec<u32>, OutOfMemory> {
+    let numbers = numbers_by_nodes(alloc, steps.len(), rows)?;
+    let mut likely = Vec::with_capacity(alloc, rows.count())?;
+    let mut node = NodeNumber::ROOT;
+    for _ in 0..steps.len() {
+        if let Some(Some(number)) = numbers.get(node.0 as usize) {
+            likely.push(*number)?;
+        }
+        node = next_of(steps, node);
+    }
+    Ok(likely)
+}
+
+/// For each node the number of a row that has it alone.
+fn numbers_by_nodes(
+    alloc: Global,
+    nodes: usize,
+    rows: &GroupedRows,
+) -> Result<Vec<Option<u32>>, OutOfMemory> {
+    let mut numbers = Vec::new(alloc);
+    numbers.resize(nodes, None)?;
+    for number in 0..rows.count() {
+        let node = match rows.nodes(number) {
+            [] => NodeNumber::ROOT,
+            [node] => *node,
+            _ => return Ok(numbers),
+        };
+        if let Some(old) = numbers.get_mut(node.0 as usize) {
+            *old = u32::try_from(number).ok();
         }
     }
-    Ok(siblings)
+    Ok(numbers)
 }
 
-/// For each node, how many branches have a parent of a smaller number.
-fn places_of_first(
-    alloc: Global,
-    branches: &[Branch],
-    count: usize,
-) -> Result<Vec<u32>, OutOfMemory> {
-    let mut places = child_counts(alloc, branches, count)?;
-    let mut before: u32 = 0;
-    for place in places.iter_mut() {
-        let children: u32 = *place;
-        *place = before;
-        before = before.wrapping_add(children);
+/// The place of each node on the list.
+pub(crate) fn likely_places(alloc: Global, steps: &[Step]) -> Result<Vec<u32>, OutOfMemory> {
+    let mut places = Vec::new(alloc);
+    places.resize(steps.len(), 0u32)?;
+    let mut node = NodeNumber::ROOT;
+    for place in 0..steps.len() {
+        if let Some(old) = places.get_mut(node.0 as usize) {
+            *old = u32::try_from(place).unwrap_or(0);
+        }
+        node = next_of(steps, node);
     }
     Ok(places)
-}
-
-/// For each node, of how many branches it is the parent.
-fn child_counts(alloc: Global, branches: &[Branch], count: usize) -> Result<Vec<u32>, OutOfMemory> {
-    let mut counts = Vec::new(alloc);
-    counts.resize(count, 0u32)?;
-    for branch in branches {
-        if let Some(children) = counts.get_mut(branch.parent.0 as usize) {
-            *children = children.wrapping_add(1);
-        }
-    }
-    Ok(counts)
-}
-
-/// Sorts the children of each parent by their entries.
-fn sort_siblings(branches: &mut [Branch]) {
-    let mut start = 0;
-    while start < branches.len() {
-        let end = end_of_siblings(branches, start);
-        if end - start > 1 {
-            branches[start..end].sort_unstable_by(|one, other| compare_entries(
-                &one.entry,
-                &other.entry,
-            ));
-        }
-        start = end;
-    }
-}
-
-/// The place behind the siblings of the branch at a place.
-fn end_of_siblings(branches: &[Branch], start: usize) -> usize
-    requires { start < length branches.now }
-    ensures more { start < result }
-    ensures within { result ≤ length branches.now }
-{
-    let parent = branches[start].parent;
-    for place in start + 1..branches.len() {
-        if branches[place].parent.0 != parent.0 {
-            return place;
-        }
-    }
-    branches.len()
-}
-
-/// Gives each node the next place that its parent has.
-fn give_places(branches: &[Branch], spots: &mut [Spot]) {
-    for branch in branches {
-        let mut above = spot_of(spots, branch.parent);
-        let mut own = spot_of(spots, branch.node);
-        own.place = above.next;
-        own.next = own.place.wrapping_add(1);
-        above.next = above.next.wrapping_add(own.size);
-        put_spot(spots, branch.parent, above);
-        put_spot(spots, branch.node, own);
-    }
-}
-
-fn spot_of(spots: &[Spot], node: NodeNumber) -> Spot {
-    match spots.get(node.0 as usize) {
-        Some(spot) => *spot,
-        None => Spot {
-            size: 1,
-            next: 1,
-            place: 0,
-        },
-    }
-}
-
-fn put_spot(spots: &mut [Spot], node: NodeNumber, spot: Spot) {
-    if let Some(old) = spots.get_mut(node.0 as usize) {
-        *old = spot;
-    }
-}
-
-/// The place of the node at an index, or the root's behind the end.
-fn place_at(context: &Context, spots: &[Spot], nodes: &[NodeNumber], index: usize) -> u32
-    ensures { result ≡ place_in context.now spots.now nodes.now index }
-{
-    match nodes.get(index) {
-        Some(node) => place_of(context, spots, *node),
-        None => 0,
-    }
-}
-
-fn place_of(context: &Context, spots: &[Spot], node: NodeNumber) -> u32
-    ensures { result ≡ node_place context.now spots.now node }
-{
-    if context.node_count() <= node.0 as usize || node.0 == 0 {
-        return 0;
-    }
-    match spots.get(node.0 as usize) {
-        Some(spot) => spot.place,
-        None => 0,
-    }
 }

@@ -1,21 +1,32 @@
-use Rattle.std.proofs.Common.{rules, ◌<◌, ◌∙◌, subst}
-use Rattle.std.specs.List.{All}
-use Rattle.cal_engine.proofs.Making.{made-counted}
-use Rattle.cal_records.proofs.LikelyLemmas.{likely_first}
-use Rattle.cal_records.proofs.Ranking.{sorted_numbers}
+use Rattle.std.proofs.Common.{◌≡◌, List, map, ap, ◌∙◌}
+use Rattle.std.proofs.lemmas.Result.{IfOk-weaker}
+use Rattle.cal_engine.specs.Making.{MakesRows}
+use Rattle.cal_engine.specs.Sorting.{sorted}
+use Rattle.cal_records.proofs.Ranking.{ordered_rows}
 use Rattle.cal_records.proofs.sorting.sorted_by_group.Goals as goal
+use Rattle.cal_records.specs.Groups.{rows_cmp}
+use Rattle.cal_records.specs.Ranks.{order_of}
+use Rattle.cal_rowset.specs.Answers.{nth_row}
+use Rattle.cal_value.specs.declared.record.Rec.{Rec}
+
+pub returns-then-is_order : goal.returns-then-is_order
+returns-then-is_order c = λ rs made.
+    let lent : c.in_ok-likely.likely.items ≡ c.deref-2.result.now = cc in
+    ap (map (nth_row rs)) (lent ∙ c.is_order.ensures c.if-is_order.true)
+    ∙ ordered_rows c.args.context.now c.room-room.result.now c.args.aggs.now c.args.rows.now
+    c.in_ok-keys.keys rs c.room-room.ensures made c.in_ok-keys.ensures
 
 pub returns : goal.returns
-returns c = λ rs made.
+returns c =
     let t = c.args.context.now in
-    let room = c.room-room.result.now in
+    let aggs = c.args.aggs.now in
     let g = c.args.rows.now in
     let keys = c.in_ok-keys.keys in
-    sorted_numbers t room c.args.aggs.now g keys rs c.room-room.ensures made c.in_ok-keys.ensures
-    c.in_ok-numbers.numbers.items _ _
-    (subst (λ count. All (λ n. n < count) c.in_ok-numbers.numbers.items) c.count-count.ensures
-    c.in_ok-numbers.ensures.below)
-    (c.in_ok-numbers.ensures.each rs (c.count-count.ensures ∙ made-counted t c.args.aggs.now g rs made))
-    (likely_first room c.has_each_once.ensures c.in_ok-spots.spots.items g keys _ _ _
-    c.sort_by_cached_key.ensures.stable (λ a k e q. search rules))
-    c.in_ok-sort_by.ensures.sorted c.sort_by.ensures.stable (λ a r q k. search rules)
+    IfOk-weaker c.sorted_numbers.result
+    (λ numbers. numbers.items ≡ order_of c.room-room.result.now g keys)
+    (λ numbers. (rs : List Rec) → MakesRows t aggs g rs
+    → map (nth_row rs) numbers.items ≡ sorted (rows_cmp aggs) rs)
+    (λ numbers is rs made. ap (map (nth_row rs)) is
+    ∙ ordered_rows t c.room-room.result.now aggs g keys rs c.room-room.ensures made
+    c.in_ok-keys.ensures)
+    c.sorted_numbers.ensures
