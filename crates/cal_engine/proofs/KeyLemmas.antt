@@ -75,7 +75,7 @@ paths_next mid new nodes paths es part context grows before leads = by (part.0 =
         above zero e = absurd (true≢false ((sym ((Decides-eqb 0 0).1 refl)) ∙ e))
         above (suc n) e = omega arith
 
-map_next : {A B : Type 0} (f : A → B) (xs : List A) (i : ℕ) (x : A) → i < length xs → x ≡ get_or xs i x
+pub map_next : {A B : Type 0} (f : A → B) (xs : List A) (i : ℕ) (x : A) → i < length xs → x ≡ get_or xs i x
     → map f (take (i + 1) xs) ≡ map f (take i xs) ++ f x ∷ []
 map_next f xs i x short read =
     ap (map f) (take_more xs i x short ∙ ap (λ y. take i xs ++ y ∷ []) (sym read)) ∙ map-append f (take i xs) (x ∷ [])
@@ -174,7 +174,7 @@ module _ {A B : Type 0} (P : A → Type 0) (f : A → B) (alike : (x y : A) → 
       let long = map_long xs in
       (h.0, omega (arith, h.1, long), map_at xs h.0 (f x) x h.1 ∙ ap f h.2)
 
-  back : (xs : List A) (x : A) → All P xs → P x → Contains (map f xs) (f x) → Contains xs x
+  pub back : (xs : List A) (x : A) → All P xs → P x → Contains (map f xs) (f x) → Contains xs x
   back xs x all px h =
       let long = map_long xs in
       let within : h.0 < length xs = omega (arith, h.1, long) in

@@ -35,7 +35,9 @@ pub mod SnapshotRanking
 pub mod MovedNumbers
 pub mod AnswerParts
 pub mod KeyWays
+pub mod SingleKeys
 pub mod OwnNodes
+pub mod NodePlaces
 pub mod Making
 pub mod PartTables
 pub mod PartLists

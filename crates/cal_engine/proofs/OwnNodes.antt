@@ -1,7 +1,9 @@
 -- The own nodes of keys as ways to their groups.
-use Rattle.std.proofs.Common.{◌≡◌, ℕ, ◌+◌, ◌<◌, ◌≤◌, true, not, List, [], ◌∷◌, ◌++◌, ◌⊎◌, inl, inr, length, get_or, map, take, filter, refl, sym, subst, ap, ◌∙◌, arith}
+use Rattle.std.proofs.Common.{◌≡◌, ℕ, ◌+◌, ◌<◌, ◌≤◌, Bool, true, false, not, if◌then◌else◌, List, [], ◌∷◌, ◌++◌, ◌⊎◌, inl, inr, length, get_or, map, take, filter, refl, sym, subst, ap, ◌∙◌, arith}
+use Rattle.std.specs.Prelude.{◌==◌}
 use Rattle.std.specs.List.{All}
 use Rattle.std.proofs.lemmas.Bool.{cases_lt}
+use Rattle.std.proofs.lemmas.Bool.Decides.{Decides-eqb}
 use Rattle.std.proofs.lemmas.List.{map-append, take_more}
 use Rattle.std.proofs.lemmas.List.Elements.{All-head, All-nil, All-push, All-tail}
 use Rattle.cal_context.specs.Children.{IsLinked}
@@ -10,8 +12,8 @@ use Rattle.cal_context.specs.declared.numbers.Link.{Link}
 use Rattle.cal_context.specs.declared.numbers.NodeNumber.{NodeNumber}
 use Rattle.cal_rowset.specs.Hierarchy.{is_of_hierarchy}
 use Rattle.cal_value.specs.declared.attribute.Entry.{Entry}
-use Rattle.cal_engine.specs.Keys.{key_in}
-use Rattle.cal_engine.specs.OwnWays.{AreNestedBefore, IsNestedAt, IsOnly}
+use Rattle.cal_engine.specs.Keys.{key_in, single_key}
+use Rattle.cal_engine.specs.OwnWays.{AreNestedBefore, IsNestedAt}
 use Rattle.cal_engine.specs.Totals.{AreWaysBehind}
 use Rattle.cal_engine.specs.Trails.{mark, no_marks, trail}
 use Rattle.cal_engine.specs.declared.key.GroupKey.{GroupKey}
@@ -56,34 +58,33 @@ none_beside (e ∷ es) h =
     rw first (none_beside es (All-tail is_nested e es h))
 
 -- the way to a group whose key is a node's path alone
-pub own_way : (t : Tree) (k : GroupKey) (n : NodeNumber) → IsContext t → AreNestedBefore t (length t.paths) → IsOnly k n → n.0 < length t.paths
+pub own_way : (t : Tree) (k : GroupKey) (n : NodeNumber) → IsContext t → AreNestedBefore t (length t.paths) → k ≡ single_key n → n.0 < length t.paths
     → trail (key_in t k) ≡ no_marks ++ path_at t n
-own_way t k n context nested only within = by k.paths refl
+own_way t k n context nested single within = ap (λ (x : GroupKey). trail (key_in t x)) single ∙ by (n.0 == 0) refl
   where
     root : NodeNumber
     root = record { 0 = 0 }
 
-    imms : path_at t k.imms ≡ []
-    imms = let same : k.imms ≡ root = λ i. record { 0 = only.imms i } in ap (path_at t) same ∙ (leads-none t context).is
+    imms : path_at t root ≡ []
+    imms = (leads-none t context).is
 
     trail_of : List (List Entry) → List Entry → List Entry
     trail_of paths entries = trail (record { paths = paths; imms = entries })
 
-    one : (m : NodeNumber) → n ≡ m → trail_of (path_at t m ∷ []) [] ≡ no_marks ++ path_at t n
-    one m same =
+    one : trail_of (path_at t n ∷ []) [] ≡ no_marks ++ path_at t n
+    one =
         let all = (nested n within).nested in
-        ap (λ x. trail_of (path_at t x ∷ []) []) (sym same)
-        ∙ (λ i. mark (length (none_beside (path_at t n) all i)) ∷ mark 0 ∷ (none_beside (path_at t n) all i ++ all_nested (path_at t n) all i))
+        λ i. mark (length (none_beside (path_at t n) all i)) ∷ mark 0 ∷ (none_beside (path_at t n) all i ++ all_nested (path_at t n) all i)
 
-    by : (ns : List NodeNumber) → k.paths ≡ ns → trail (key_in t k) ≡ no_marks ++ path_at t n
-    by [] e =
-        let same : n ≡ root = only.node ∙ ap (λ ns. get_or ns 0 root) e in
-        (λ i. trail_of (map (path_at t) (e i)) (imms i))
-        ∙ ap (λ es. no_marks ++ es) (sym (ap (path_at t) same ∙ (leads-none t context).is))
-    by (m ∷ []) e =
-        (λ i. trail_of (map (path_at t) (e i)) (imms i))
-        ∙ one m (only.node ∙ ap (λ ns. get_or ns 0 root) e)
-    by (m ∷ o ∷ ns) e = absurd (omega (arith, only.few, ap length e))
+    by : (b : Bool) → (n.0 == 0) ≡ b → trail (key_in t (single_key n)) ≡ no_marks ++ path_at t n
+    by true e =
+        let zero_is : n.0 ≡ 0 = (Decides-eqb n.0 0).0 e in
+        let same : n ≡ root = λ i. record { 0 = zero_is i } in
+        (λ i. trail_of (map (path_at t) (if e i then [] else n ∷ [])) (imms i))
+        ∙ ap (λ es. no_marks ++ es) (sym (ap (path_at t) same ∙ imms))
+    by false e =
+        (λ i. trail_of (map (path_at t) (if e i then [] else n ∷ [])) (imms i))
+        ∙ one
 
 -- one key more
 pub own_next : (t : Tree) (keys : List GroupKey) (i : ℕ) (key : GroupKey) (nodes : List NodeNumber) (n : NodeNumber) → i < length keys → key ≡ get_or keys i key

@@ -1,6 +1,6 @@
 -- The keys of groups by numbers, and what they mean in a tree.
 use Rattle.std.specs.Prelude.{◌≡◌, ℕ, ◌==◌, ◌<◌, List, [], ◌∷◌, ◌++◌, Option, None, Some}
-use Rattle.std.specs.Prelude.{length, map, if◌then◌else◌}
+use Rattle.std.specs.Prelude.{length, map, if◌then◌else◌, slice_index_or}
 use Rattle.std.specs.List.{All}
 use Rattle.cal_context.specs.Snapshots.{IsBelowRoot}
 use Rattle.cal_context.specs.Tree.{Tree, path_at}
@@ -31,6 +31,14 @@ pub record ArePaths (t : Tree) (nodes : List NodeNumber) (paths : List (List Ent
 -- a node that isn't the root goes last
 abbrev pub with_node : List NodeNumber → NodeNumber → List NodeNumber
 with_node nodes n = if n.0 == 0 then nodes else nodes ++ n ∷ []
+
+-- the key of one node, or of none where that is the root
+abbrev pub single_key : NodeNumber → GroupKey
+single_key n = record { paths = with_node [] n; imms = record { 0 = 0 } }
+
+-- the key of a number
+abbrev pub nth_key : List GroupKey → ℕ → GroupKey
+nth_key keys n = slice_index_or keys n (record { paths = []; imms = record { 0 = 0 } })
 
 -- The tree in which the keys of groups lie: the context's without GROUP BY, and else one of the
 -- fold's own.

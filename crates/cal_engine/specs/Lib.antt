@@ -1,6 +1,7 @@
 pub mod FirstSeen
 pub mod Groups
 pub mod Kernels
+pub mod KeyTables
 pub mod Parts
 pub mod PartLists
 pub mod Readings
@@ -28,5 +29,6 @@ pub mod FoldGrows
 pub mod Results
 pub mod SnapshotRanks
 pub mod Moves
+pub mod NodePlaces
 pub mod OwnWays
 pub mod Making

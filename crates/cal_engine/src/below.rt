@@ -8,7 +8,7 @@ ghost use Rattle.cal_engine.specs.Parts.{merged_parts as merged_by_place};
 ghost use Rattle.cal_engine.specs.Rows.{is_below};
 ghost use Rattle.cal_engine.specs.Totals.{AreTotals, AreWaysBehind};
 
-use crate::key::GroupKey;
+use crate::key_table::KeyTable;
 use crate::own_ways::own_ways;
 use crate::part::Part;
 use crate::part_table::PartTable;
@@ -55,7 +55,7 @@ fn parts_below_in(
 pub(crate) fn parts_below_keys(
     alloc: Global,
     tree: &Context,
-    keys: &[GroupKey],
+    keys: &KeyTable,
     parts: &PartTable,
     none: &Seq<Part>,
 ) -> Result<Vec<Seq<Part>>, OutOfMemory>
@@ -75,7 +75,7 @@ pub(crate) fn parts_below_keys(
 fn parts_below_ways(
     alloc: Global,
     tree: &Context,
-    keys: &[GroupKey],
+    keys: &KeyTable,
     parts: &PartTable,
     none: &Seq<Part>,
 ) -> Result<Vec<Seq<Part>>, OutOfMemory>
@@ -93,7 +93,7 @@ fn parts_below_ways_in(
     alloc: Global,
     context: &mut Context,
     tree: &Context,
-    keys: &[GroupKey],
+    keys: &KeyTable,
     parts: &PartTable,
     none: &Seq<Part>,
 ) -> Result<Vec<Seq<Part>>, OutOfMemory>

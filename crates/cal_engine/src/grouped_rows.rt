@@ -7,7 +7,7 @@ ghost use Rattle.cal_rowset.specs.Answers.{nth_row};
 ghost use Rattle.cal_value.specs.declared.record.Rec.{Rec as ARecord};
 ghost use Rattle.cal_engine.specs.Finishing.{AreKept, Lists, entries_of_results};
 ghost use Rattle.cal_engine.specs.Groups.{groups_of};
-ghost use Rattle.cal_engine.specs.Keys.{key_in};
+ghost use Rattle.cal_engine.specs.Keys.{key_in, nth_key};
 ghost use Rattle.cal_engine.specs.Making.{AreMoved, AreOthers, IsMoved, MakesRows};
 ghost use Rattle.cal_engine.specs.Making.{below_in, below_of};
 ghost use Rattle.cal_engine.specs.Making.{group_count, key_at, room_in};
@@ -17,7 +17,7 @@ ghost use Rattle.cal_engine.specs.Rows.{row_of as row_by};
 
 use crate::immediates::fill_immediates;
 use crate::kernel_results::{ResultAttributes, add_result_immediates, result_attributes};
-use crate::key::GroupKey;
+use crate::key_table::KeyTable;
 use crate::moving::Moved;
 use crate::numbered::NumberedGroups;
 use crate::other_parts::OtherParts;
@@ -111,7 +111,7 @@ impl GroupedRows {
         ensures { result ≡ group_count self.now }
     {
         let _ = &self.results;
-        self.groups.keys().len()
+        self.groups.keys().count()
     }
 
     /// The context in which the keys of groups lie.
@@ -128,20 +128,14 @@ impl GroupedRows {
     pub fn nodes(&self, number: usize) -> &[NodeNumber]
         ensures { result.now ≡ (key_at self.now number).paths }
     {
-        match self.groups.keys().get(number) {
-            Some(key) => key.paths(),
-            None => &[],
-        }
+        self.groups.keys().paths(number)
     }
 
     /// The node of the immediates of a group's key.
     pub fn immediates(&self, number: usize) -> NodeNumber
         ensures { result ≡ (key_at self.now number).imms }
     {
-        match self.groups.keys().get(number) {
-            Some(key) => key.imms(),
-            None => NodeNumber::ROOT,
-        }
+        self.groups.keys().imms(number)
     }
 
     /// About how many immediates a row has, so that room for all is made at once.
@@ -165,10 +159,10 @@ impl GroupedRows {
             → MakesRows context.now aggs self.now rows
             → meaning context.now row.new ≡ nth_row rows number) }
     {
-        let Some(key) = self.key(number) else {
+        if number >= self.count() {
             return Err(OutOfMemory);
-        };
-        self.fill_key(context, key, row)?;
+        }
+        self.fill_key(context, number, row)?;
         self.add_results(number, &mut row.imms)?;
         if !is_in(context, row) {
             return Err(OutOfMemory);
@@ -176,29 +170,20 @@ impl GroupedRows {
         Ok(())
     }
 
-    /// The key of a number.
-    fn key(&self, number: usize) -> Option<&GroupKey>
-        ensures within { IfSome result (λ _. number < group_count self.now) }
-        ensures is { IfSome result (λ key.
-            key.now ≡ slice_index_or self.now.groups.keys number key.now) }
-    {
-        let _ = &self.results;
-        self.groups.keys().get(number)
-    }
-
-    /// The group that a key means as a snapshot, in place of the one that is there.
+    /// The group that a number's key means as a snapshot, in place of the one that is there.
     fn fill_key(
         &self,
         context: &Context,
-        key: &GroupKey,
+        number: usize,
         row: &mut Snapshot,
     ) -> Result<(), OutOfMemory>
-        ensures { OnOk result (AreMoved context.now self.now.moved
-            → meaning context.now row.new ≡ key_in (room_in context.now self.now) key.now) }
+        ensures { OnOk result (AreMoved context.now self.now.moved → meaning context.now row.new
+            ≡ key_in (room_in context.now self.now) (key_at self.now number)) }
     {
+        let keys = self.groups.keys();
         match &self.moved {
-            None => fill_snapshot(self.alloc, context, key, row),
-            Some(moved) => moved.fill(self.alloc, key, row),
+            None => fill_snapshot(self.alloc, context, keys, number, row),
+            Some(moved) => moved.fill(self.alloc, keys, number, row),
         }
     }
 
@@ -239,17 +224,19 @@ fn move_groups(
     Ok(others)
 }
 
-/// The group that a key means as a snapshot of the context in which it lies, in place of the one
-/// that is there.
+/// The group that a number's key means as a snapshot of the context in which it lies, in place of
+/// the one that is there.
 fn fill_snapshot(
     alloc: Global,
     context: &Context,
-    key: &GroupKey,
+    keys: &KeyTable,
+    number: usize,
     row: &mut Snapshot,
 ) -> Result<(), OutOfMemory>
-    ensures { OnOk result (meaning context.now row.new ≡ key_in context.now key.now) }
+    ensures { OnOk result (meaning context.now row.new
+        ≡ key_in context.now (nth_key keys.now number)) }
 {
     row.nodes.clear();
-    row.nodes.extend_from_slice(key.paths())?;
-    fill_immediates(alloc, context, key.imms(), &mut row.imms)
+    row.nodes.extend_from_slice(keys.paths(number))?;
+    fill_immediates(alloc, context, keys.imms(number), &mut row.imms)
 }

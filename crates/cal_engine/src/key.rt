@@ -1,12 +1,11 @@
 ghost use Rattle.std.specs.Prelude.{◌≡◌, ℕ, None, Some, List, map, IfOk, IfSome, OnOk};
-ghost use Rattle.std.specs.Prelude.{slice_index_or};
 ghost use Rattle.cal_context.specs.Snapshots.{IsIn, meaning};
 ghost use Rattle.cal_context.specs.Tree.{Grows, path_at};
 ghost use Rattle.cal_engine.specs.Groups.{group_of as group_by};
-ghost use Rattle.cal_engine.specs.Keys.{IsKeyOf, key_in};
-ghost use Rattle.cal_engine.specs.OwnWays.{IsOnly};
+ghost use Rattle.cal_engine.specs.Keys.{IsKeyOf, key_in, nth_key, single_key};
 ghost use Rattle.cal_engine.specs.Sieves.{AreReadySieves};
 
+use crate::key_table::KeyTable;
 use crate::sieve::Sieve;
 use crate::sieves::{key_imms, key_paths};
 use crate::stepping::path_of;
@@ -38,14 +37,32 @@ impl GroupKey {
         self.imms
     }
 
-    /// The node of its only path, or the root where it has none; nothing beside immediates.
-    pub(crate) fn only_node(&self) -> Option<NodeNumber>
-        ensures { IfSome result (IsOnly self.now) }
+    /// The key of one node, or of none where that is the root.
+    pub(crate) fn single(alloc: Global, node: NodeNumber) -> Result<GroupKey, OutOfMemory>
+        ensures { IfOk result (λ key. key ≡ single_key node) }
     {
-        if self.imms.0 != 0 || self.paths.len() > 1 {
+        let mut paths = Vec::new(alloc);
+        if node.0 != 0 {
+            paths.push(node)?;
+        }
+        Ok(GroupKey {
+            paths: Seq::from_vec(paths),
+            imms: NodeNumber::ROOT,
+        })
+    }
+
+    /// Its node, where it is that of one, or the root where it is that of none.
+    pub(crate) fn single_node(&self) -> Option<NodeNumber>
+        ensures { IfSome result (λ node. self.now ≡ single_key node) }
+    {
+        if self.imms.0 != 0 {
             return None;
         }
-        Some(first_of(self.paths.as_slice()))
+        match self.paths.as_slice() {
+            [] => Some(NodeNumber::ROOT),
+            [node] if node.0 != 0 => Some(*node),
+            _ => None,
+        }
     }
 
     /// The node of its first path, or else that of its immediates.
@@ -77,13 +94,6 @@ impl TryCopy for GroupKey {
             imms: self.imms,
         })
     }
-}
-
-/// The first node, or else the root.
-fn first_of(nodes: &[NodeNumber]) -> NodeNumber
-    ensures { result ≡ slice_index_or nodes.now 0 (record { 0 = 0 }) }
-{
-    nodes.first().copied().unwrap_or(NodeNumber::ROOT)
 }
 
 /// The key of a record without GROUP BY, in the tree of its context. `room` is what its paths may
@@ -132,13 +142,18 @@ pub(crate) fn key_by_names(
     })
 }
 
-/// The group that a key means.
-pub(crate) fn expanded(alloc: Global, context: &Context, key: &GroupKey) -> Result<Rec, OutOfMemory>
-    ensures { IfOk result (λ group. group ≡ key_in context.now key.now) }
+/// The group that a number's key means.
+pub(crate) fn expanded(
+    alloc: Global,
+    context: &Context,
+    keys: &KeyTable,
+    number: usize,
+) -> Result<Rec, OutOfMemory>
+    ensures { IfOk result (λ group. group ≡ key_in context.now (nth_key keys.now number)) }
 {
     Ok(Rec {
-        paths: paths_of(alloc, context, key.paths.as_slice())?,
-        imms: path_of(alloc, context, key.imms)?,
+        paths: paths_of(alloc, context, keys.paths(number))?,
+        imms: path_of(alloc, context, keys.imms(number))?,
     })
 }
 

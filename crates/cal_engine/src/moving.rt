@@ -6,13 +6,13 @@ ghost use Rattle.cal_context.specs.Tree.{Grows, Tree, path_at};
 ghost use Rattle.cal_context.specs.declared.numbers.AttributeNumber as numbers;
 ghost use Rattle.cal_context.specs.declared.numbers.NodeNumber.{NodeNumber as ANode};
 ghost use Rattle.cal_filter.specs.Results.{IsNumbered};
-ghost use Rattle.cal_engine.specs.Keys.{key_in};
+ghost use Rattle.cal_engine.specs.Keys.{key_in, nth_key};
 ghost use Rattle.cal_engine.specs.Making.{IsMoved};
 ghost use Rattle.cal_engine.specs.Moves.{AreMovedAttributes, AreMovedNodes};
 ghost use Rattle.cal_engine.specs.Totals.{Leads};
 
 use crate::immediates::fill_immediates;
-use crate::key::GroupKey;
+use crate::key_table::KeyTable;
 use crate::within::are_below_root;
 use cal_context::{AttributeNumber, Context, Immediate, NodeNumber, Snapshot};
 use cal_value::{Attribute, OutOfMemory};
@@ -44,7 +44,7 @@ impl Moved {
     pub(crate) fn put(
         &mut self,
         alloc: Global,
-        keys: &[GroupKey],
+        keys: &KeyTable,
         to: &mut Context,
     ) -> Result<(), OutOfMemory>
         ensures from { self.new.from ≡ self.old.from }
@@ -64,20 +64,21 @@ impl Moved {
         &self.from
     }
 
-    /// The group that a key means as a snapshot of the other context, in place of the one that is
-    /// there.
+    /// The group that a number's key means as a snapshot of the other context, in place of the one
+    /// that is there.
     pub(crate) fn fill(
         &self,
         alloc: Global,
-        key: &GroupKey,
+        keys: &KeyTable,
+        number: usize,
         row: &mut Snapshot,
     ) -> Result<(), OutOfMemory>
         ensures { OnOk result ((t : Tree) → IsMoved t self.now
-            → meaning t row.new ≡ key_in self.now.from key.now) }
+            → meaning t row.new ≡ key_in self.now.from (nth_key keys.now number)) }
     {
         let mut own = Vec::new(alloc);
-        fill_immediates(alloc, &self.from, key.imms(), &mut own)?;
-        let nodes = renumbered_nodes(alloc, &self.nodes, key.paths())?;
+        fill_immediates(alloc, &self.from, keys.imms(number), &mut own)?;
+        let nodes = renumbered_nodes(alloc, &self.nodes, keys.paths(number))?;
         let imms = renumbered_imms(alloc, &self.attributes, own)?;
         row.nodes = nodes;
         row.imms = imms;
@@ -112,18 +113,19 @@ fn moved_nodes(
     alloc: Global,
     from: &Context,
     to: &mut Context,
-    keys: &[GroupKey],
+    keys: &KeyTable,
 ) -> Result<Vec<Option<NodeNumber>>, OutOfMemory>
     ensures moved { IfOk result (λ moved. AreMovedNodes from.now to.new moved.items) }
     ensures grows { Grows to.old to.new }
 {
     let mut moved = nothing_moved(alloc, from.node_count())?;
     let mut way = Vec::new(alloc);
-    for key in keys {
-        if !are_below_root(from, key.paths()) {
+    for number in 0..keys.count() {
+        let paths = keys.paths(number);
+        if !are_below_root(from, paths) {
             return Err(OutOfMemory);
         }
-        move_nodes(from, to, key.paths(), &mut moved, &mut way)?;
+        move_nodes(from, to, paths, &mut moved, &mut way)?;
     }
     Ok(moved)
 }

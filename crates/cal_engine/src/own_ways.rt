@@ -4,7 +4,7 @@ ghost use Rattle.cal_engine.specs.OwnWays.{AreNestedBefore, IsNestedAt};
 ghost use Rattle.cal_engine.specs.Totals.{AreWaysBehind};
 ghost use Rattle.cal_engine.specs.Trails.{no_marks};
 
-use crate::key::GroupKey;
+use crate::key_table::KeyTable;
 use cal_context::{Context, NodeNumber};
 use cal_rowset::is_of_hierarchy;
 use cal_value::OutOfMemory;
@@ -15,7 +15,7 @@ use std::alloc::Global;
 pub(crate) fn own_ways(
     alloc: Global,
     tree: &Context,
-    keys: &[GroupKey],
+    keys: &KeyTable,
 ) -> Result<Option<Vec<NodeNumber>>, OutOfMemory>
     ensures { IfOk result (λ found. IfSome found (λ nodes.
         AreWaysBehind tree.now no_marks (map (key_in tree.now) keys.now) nodes.items)) }
@@ -29,16 +29,16 @@ pub(crate) fn own_ways(
 fn own_nodes(
     alloc: Global,
     tree: &Context,
-    keys: &[GroupKey],
+    keys: &KeyTable,
 ) -> Result<Option<Vec<NodeNumber>>, OutOfMemory>
     requires { AreNestedBefore tree.now (length tree.now.paths) }
     ensures { IfOk result (λ found. IfSome found (λ nodes.
         AreWaysBehind tree.now no_marks (map (key_in tree.now) keys.now) nodes.items)) }
 {
     tree.has_each_once();
-    let mut nodes = Vec::with_capacity(alloc, keys.len())?;
-    for key in keys {
-        let Some(node) = key.only_node() else {
+    let mut nodes = Vec::with_capacity(alloc, keys.count())?;
+    for number in 0..keys.count() {
+        let Some(node) = keys.single_node(number) else {
             return Ok(None);
         };
         if node.0 as usize >= tree.node_count() {

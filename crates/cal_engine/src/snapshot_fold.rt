@@ -120,7 +120,7 @@ impl SnapshotFold {
             rows,
             full: _,
         } = self;
-        let TalliedGroups { own, groups } = tally.into_groups(alloc);
+        let TalliedGroups { own, groups } = tally.into_groups();
         let room = room(query.group.is_some(), context, own);
         answer_in(alloc, &query, room, groups, rows)
     }
@@ -233,7 +233,7 @@ fn rows_of_tally(
     if !is_aggregated(query) || !query.order.is_empty() {
         return Err(OutOfMemory);
     }
-    let TalliedGroups { own, groups } = tally.into_groups(alloc);
+    let TalliedGroups { own, groups } = tally.into_groups();
     if query.group.is_some() {
         return GroupedRows::moved(alloc, query, own, groups, context);
     }

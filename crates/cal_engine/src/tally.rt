@@ -101,13 +101,13 @@ impl Tally {
     }
 
     /// The groups, and the tree in which their keys lie with GROUP BY. All else is dropped.
-    pub(crate) fn into_groups(self, alloc: Global) -> TalliedGroups
+    pub(crate) fn into_groups(self) -> TalliedGroups
         ensures own { result.own ≡ self.own }
         ensures groups { result.groups ≡ self.groups }
     {
         TalliedGroups {
             own: self.own,
-            groups: self.groups.settled(alloc),
+            groups: self.groups,
         }
     }
 }

@@ -1,12 +1,13 @@
 ghost use Rattle.std.specs.Prelude.{◌≡◌, [], ◌∷◌, ◌++◌, length, filter, map, IfOk, OnOk};
 ghost use Rattle.cal_context.specs.Tree.{Grows};
 ghost use Rattle.cal_value.specs.Flat.{joined};
-ghost use Rattle.cal_engine.specs.Keys.{key_in};
+ghost use Rattle.cal_engine.specs.Keys.{key_in, nth_key};
 ghost use Rattle.cal_engine.specs.Totals.{AreWays, Leads};
 ghost use Rattle.cal_engine.specs.Trails.{is_chosen as is_chosen_so, mark as mark_of};
 ghost use Rattle.cal_engine.specs.Trails.{trail as trail_of};
 
-use crate::key::{GroupKey, expanded};
+use crate::key::expanded;
+use crate::key_table::KeyTable;
 use crate::stepping::reach_from;
 use cal_context::{Context, NodeNumber};
 use cal_rowset::is_of_hierarchy;
@@ -35,30 +36,32 @@ pub(crate) fn ways_to_keys(
     alloc: Global,
     context: &mut Context,
     tree: &Context,
-    keys: &[GroupKey],
+    keys: &KeyTable,
 ) -> Result<Vec<NodeNumber>, OutOfMemory>
     ensures { IfOk result (λ nodes.
         AreWays context.new (map (key_in tree.now) keys.now) nodes.items) }
 {
-    let mut nodes = Vec::with_capacity(alloc, keys.len())?;
-    for key in keys {
-        let node = way_to_key(alloc, context, tree, key)?;
+    let mut nodes = Vec::with_capacity(alloc, keys.count())?;
+    for number in 0..keys.count() {
+        let node = way_to_key(alloc, context, tree, keys, number)?;
         nodes.push(node)?;
     }
     Ok(nodes)
 }
 
-/// The node to which the way to a group leads whose key lies in a tree.
+/// The node to which the way to a number's group leads whose key lies in a tree.
 fn way_to_key(
     alloc: Global,
     context: &mut Context,
     tree: &Context,
-    key: &GroupKey,
+    keys: &KeyTable,
+    number: usize,
 ) -> Result<NodeNumber, OutOfMemory>
-    ensures leads { IfOk result (λ n. Leads context.new (trail_of (key_in tree.now key.now)) n) }
+    ensures leads { IfOk result (λ n.
+        Leads context.new (trail_of (key_in tree.now (nth_key keys.now number))) n) }
     ensures grows { OnOk result (Grows context.old context.new) }
 {
-    let key = expanded(alloc, tree, key)?;
+    let key = expanded(alloc, tree, keys, number)?;
     way_to(alloc, context, &key)
 }
 

@@ -5,5 +5,5 @@ use Rattle.cal_engine.specs.Trails.{no_marks}
 use Rattle.cal_engine.proofs.own_ways.own_nodes.Given as goal
 
 -- the nodes of the groups so far
-abbrev pub invariant-loop-key : goal.invariant-loop-key
-invariant-loop-key l = AreWaysBehind l.tree no_marks (map (key_in l.tree) (take l.key-index l.keys)) l.nodes.items
+abbrev pub invariant-loop-number : goal.invariant-loop-number
+invariant-loop-number l = AreWaysBehind l.tree no_marks (map (key_in l.tree) (take l.number l.keys)) l.nodes.items

@@ -1,14 +1,19 @@
-use Rattle.std.proofs.Common.{List, sym, subst, take, map, refl, ◌+◌}
+use Rattle.std.proofs.Common.{◌<◌, ◌+◌, List, length, sym, subst, take, map, refl, arith}
 use Rattle.cal_context.specs.declared.numbers.NodeNumber.{NodeNumber}
-use Rattle.cal_engine.specs.Keys.{key_in}
+use Rattle.cal_engine.specs.Keys.{key_in, nth_key}
 use Rattle.cal_engine.specs.Totals.{AreWays}
+use Rattle.cal_engine.proofs.Ascents.{read_same}
 use Rattle.cal_engine.proofs.KeyWays.{ways-next}
 use Rattle.cal_engine.proofs.ways.ways_to_keys.Goals as goal
 
-pub loop-key-preserved : goal.loop-key-preserved
-loop-key-preserved c =
-    let done = map (key_in c.args.tree.now) (take (c.loop-key.key-index + 1) c.args.keys.now) in
+pub loop-number-preserved : goal.loop-number-preserved
+loop-number-preserved c =
+    let keys = c.args.keys.now in
+    let number = c.loop-number.number in
+    let key = nth_key keys number in
+    let short : number < length keys = omega arith in
+    let done = map (key_in c.args.tree.now) (take (number + 1) keys) in
     subst (λ (nodes : List NodeNumber). AreWays c.way_to_key.new.context done nodes) (sym c.in_ok-push.ensures.items)
-    (ways-next c.args.tree.now c.loop-key.context c.way_to_key.new.context c.args.keys.now c.loop-key.key-index c.key-item.result c.loop-key.nodes.items c.in_ok-node.node _
-    c.in_ok-node.ensures.grows c.loop-key-test.true c.key-item.is c.loop-key.invariant
+    (ways-next c.args.tree.now c.loop-number.context c.way_to_key.new.context keys number key c.loop-number.nodes.items c.in_ok-node.node _
+    c.in_ok-node.ensures.grows short (read_same keys number _ key short) c.loop-number.invariant
     refl c.in_ok-node.ensures.leads)

@@ -4,6 +4,6 @@ use Rattle.cal_engine.specs.Totals.{AreWays}
 use Rattle.cal_engine.proofs.ways.ways_to_keys.Given as goal
 
 -- the nodes of the groups so far
-abbrev pub invariant-loop-key : goal.invariant-loop-key
-invariant-loop-key l =
-    AreWays l.context (map (key_in l.tree) (take l.key-index l.keys)) l.nodes.items
+abbrev pub invariant-loop-number : goal.invariant-loop-number
+invariant-loop-number l =
+    AreWays l.context (map (key_in l.tree) (take l.number l.keys)) l.nodes.items

@@ -1,7 +1,8 @@
-use Rattle.std.proofs.Common.{◌++◌, map, ap, ◌∙◌}
+use Rattle.std.proofs.Common.{◌<◌, ◌++◌, length, map, ap, ◌∙◌, arith}
 use Rattle.cal_engine.specs.Finishing.{entries_of_results, lists_at}
 use Rattle.cal_engine.specs.Keys.{key_in}
-use Rattle.cal_engine.specs.Making.{below_in, room_in}
+use Rattle.cal_engine.specs.Making.{below_in, key_at, room_in}
+use Rattle.cal_engine.proofs.Ascents.{read_same}
 use Rattle.cal_engine.proofs.GroupRows.{mapped_at}
 use Rattle.cal_engine.proofs.Making.{kept_there, row_there}
 use Rattle.cal_engine.proofs.grouped_rows.GroupedRows.fill.Goals as goal
@@ -13,8 +14,9 @@ returns-clause-row c = λ aggs rows h.
     let n = c.args.number in
     let keys = g.groups.keys in
     let f = key_in (room_in t g) in
-    let key = c.in-Some.key.now in
-    let there = mapped_at f keys n key c.in-Some.ensures.within c.in-Some.ensures.is in
+    let key = key_at g n in
+    let short : n < length keys = omega arith in
+    let there = mapped_at f keys n key short (read_same keys n _ key short) in
     let kept = kept_there aggs h.lists (map f keys) g.groups.parts g.others.all (below_in g) n (f key) h.parts there.0 there.1 in
     let own = c.in_ok-fill_key.ensures h.moved in
     let added = c.in_ok-add_results.ensures t aggs (lists_at h.lists (f key)) h.results kept in

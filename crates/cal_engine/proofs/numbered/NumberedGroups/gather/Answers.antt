@@ -12,12 +12,12 @@ pub returns : goal.returns
 returns c =
     let t = c.args.context.now in
     let r = meaning t c.args.snapshot.now in
-    let new : Numbered = record { keys = c.intern_near.new.keys; parts = c.add_at.new.self } in
+    let new : Numbered = record { keys = c.intern.new.self; parts = c.add_at.new.self } in
     on_ok_weaker c.add_at.result
     (λ added rs ready. subst (λ old. GathersKey old c.args.key.now (parts_of rs r) new) c.self.view_is (record {
       number = c.in_ok-number.number;
       keys = c.in_ok-number.ensures.interned;
-      apart = c.as_slice-count.ensures.apart;
+      apart = c.count-count.ensures.apart;
       parts = added rs ready
           ∙ when_ok _ c.make_room-made.result (sym c.is_err.ensures.value ∙ c.if-is_err.false)
           c.make_room-made.ensures.put (parts_of rs r) (first_merged (map sought c.args.counters.now.seekers.items) r rs c.args.counters.now.counters.items ready.counts);
