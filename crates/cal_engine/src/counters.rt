@@ -66,8 +66,7 @@ impl Counters {
 
     /// Adds what is read of one record to the parts of a group, which stand in a list from a place
     /// on, as many as there are counters.
-    // apart from its caller, so that the loop's values stay in registers
-    #[inline(never)]
+    #[inline(always)]
     pub(crate) fn add_record(
         &self,
         alloc: Global,
