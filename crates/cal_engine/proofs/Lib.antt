@@ -38,3 +38,4 @@ pub mod OwnNodes
 pub mod Making
 pub mod PartTables
 pub mod PartLists
+pub mod Shown
