@@ -41,3 +41,4 @@ pub mod NodePlaces
 pub mod Making
 pub mod PartTables
 pub mod PartLists
+pub mod Shown

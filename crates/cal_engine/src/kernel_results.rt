@@ -12,7 +12,7 @@ ghost use Rattle.cal_engine.specs.Finishing.{entry_of_result};
 ghost use Rattle.cal_engine.specs.Kernels.{contributed};
 ghost use Rattle.cal_engine.specs.Making.{below_of};
 ghost use Rattle.cal_engine.specs.Parts.{part_over};
-ghost use Rattle.cal_engine.specs.Results.{AddsResults, IsResultOf};
+ghost use Rattle.cal_engine.specs.Results.{AddsResults, AreKeptAt, IsResultOf};
 
 use crate::finishing::value_at;
 use crate::numbered::NumberedGroups;
@@ -85,13 +85,50 @@ pub(crate) fn add_result_immediates(
         → AddsResults t (entries_of_results aggs lists) imms.old.items imms.new.items) }
 {
     for (place, attributes) in results.iter().enumerate() {
-        let own_part = groups.parts().get(number, place);
-        let all_part = part_at(others.all(), place);
-        let below_part = others.below_at(number, place, own_part.as_ref());
-        let found = result_at(attributes, own_part.as_ref(), all_part, below_part.as_ref());
+        let found = found_at(attributes, groups, number, place, others);
         push_some(imms, found)?;
     }
     Ok(())
+}
+
+/// The result of the kernel at a place, if that is there. Nearly all are held as they are shown.
+#[inline(always)]
+fn found_at(
+    attributes: &ResultAttributes,
+    groups: &NumberedGroups,
+    number: usize,
+    place: usize,
+    others: &OtherParts,
+) -> Option<Immediate>
+    ensures { (t : Tree) (agg : AnAgg) (lists : Lists) → IsResultOf t agg attributes.now
+        → AreKeptAt agg lists place (slice_index_or groups.now.parts number []) others.now.all
+        (slice_index_or (below_of others.now groups.now.parts) number [])
+        → option_map (entry_of t) result ≡ entry_of_result lists agg }
+{
+    match groups.parts().shown(number, place, attributes.kernel) {
+        Some(whole) => Some(immediate(attributes, Num::Whole(i128::from(whole)))),
+        None => worked_out_at(attributes, groups, number, place, others),
+    }
+}
+
+/// The same of the parts at that place.
+#[inline(never)]
+fn worked_out_at(
+    attributes: &ResultAttributes,
+    groups: &NumberedGroups,
+    number: usize,
+    place: usize,
+    others: &OtherParts,
+) -> Option<Immediate>
+    ensures { (t : Tree) (agg : AnAgg) (lists : Lists) → IsResultOf t agg attributes.now
+        → AreKeptAt agg lists place (slice_index_or groups.now.parts number []) others.now.all
+        (slice_index_or (below_of others.now groups.now.parts) number [])
+        → option_map (entry_of t) result ≡ entry_of_result lists agg }
+{
+    let own_part = groups.parts().get(number, place);
+    let all_part = part_at(others.all(), place);
+    let below_part = others.below_at(number, place, own_part.as_ref());
+    result_at(attributes, own_part.as_ref(), all_part, below_part.as_ref())
 }
 
 /// The part of the kernel at a place.

@@ -1,5 +1,6 @@
 ghost use Rattle.std.specs.Prelude.{◌≡◌, [], ◌∷◌, Some, IfSome};
 ghost use Rattle.cal_engine.specs.Parts.{joined_by, merged_part, part_over};
+ghost use Rattle.cal_engine.specs.Results.{ComesTo, shows_held as shows_held_of};
 
 use crate::part::{Part, Way, is_same, way_of};
 use cal_agg::Num;
@@ -66,6 +67,19 @@ impl NarrowPart {
         Part::made(self.many, self.way, whole, None)
     }
 
+    /// What a kernel comes to, where that is the number that is held.
+    #[inline(always)]
+    pub fn shown(&self, kernel: KernelName) -> Option<i64>
+        ensures { IfSome result (ComesTo kernel (Some self.now)) }
+    {
+        let _ = self.many;
+        let _ = self.way;
+        if !shows_held(kernel) || !self.has_whole {
+            return None;
+        }
+        Some(self.whole)
+    }
+
     /// The part with a number more, where that is narrow enough.
     #[inline(always)]
     pub fn with(&self, kernel: KernelName, number: &Num) -> Option<NarrowPart>
@@ -93,6 +107,16 @@ impl NarrowPart {
             has_whole: true,
         })
     }
+}
+
+#[inline(always)]
+fn shows_held(kernel: KernelName) -> bool
+    ensures { result ≡ shows_held_of kernel }
+{
+    matches!(
+        kernel,
+        KernelName::Count | KernelName::Sum | KernelName::Min | KernelName::Max
+    )
 }
 
 #[inline(always)]

@@ -1,7 +1,8 @@
 ghost use Rattle.std.specs.Prelude.{◌≡◌, ◌<◌, ◌++◌, ◌∷◌, [], length, slice_get, take};
-ghost use Rattle.std.specs.Prelude.{IfOk, OnOk, OnErr};
+ghost use Rattle.std.specs.Prelude.{IfOk, IfSome, OnOk, OnErr};
 ghost use Rattle.cal_engine.specs.PartLists.{merged_at};
 ghost use Rattle.cal_engine.specs.Parts.{part_over};
+ghost use Rattle.cal_engine.specs.Results.{ComesTo};
 
 use crate::narrow_part::NarrowPart;
 use crate::part::Part;
@@ -62,6 +63,17 @@ impl PartList {
         match &self.form {
             Form::Narrow(parts) => Some(parts.get(place)?.wide()),
             Form::Wide(parts) => Some(parts.get(place)?.twin()),
+        }
+    }
+
+    /// What a kernel comes to of the part at a place, where that is a number which stands there.
+    #[inline(always)]
+    pub fn shown(&self, place: usize, kernel: KernelName) -> Option<i64>
+        ensures { IfSome result (ComesTo kernel (slice_get self.now place)) }
+    {
+        match &self.form {
+            Form::Narrow(parts) => parts.get(place)?.shown(kernel),
+            Form::Wide(_) => None,
         }
     }
 

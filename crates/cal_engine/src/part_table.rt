@@ -1,10 +1,12 @@
-ghost use Rattle.std.specs.Prelude.{◌≡◌, ◌<◌, ◌++◌, [], ◌∷◌, List, length, map, IfOk, OnOk, OnErr};
+ghost use Rattle.std.specs.Prelude.{◌≡◌, ◌<◌, ◌++◌, [], ◌∷◌, List, length, map, IfOk, IfSome};
+ghost use Rattle.std.specs.Prelude.{OnOk, OnErr};
 ghost use Rattle.std.specs.Prelude.{slice_get, slice_index_or, take};
 ghost use Rattle.cal_context.specs.Snapshots.{IsIn, meaning};
 ghost use Rattle.cal_engine.specs.Counters.{AreReadyCounters};
 ghost use Rattle.cal_engine.specs.Folding.{put_parts};
 ghost use Rattle.cal_engine.specs.Parts.{part_over};
 ghost use Rattle.cal_engine.specs.Readings.{parts_of as parts_by};
+ghost use Rattle.cal_engine.specs.Results.{ComesTo};
 ghost use Rattle.cal_engine.specs.declared.reading.Reading.{Reading as AReading};
 
 use crate::counters::Counters;
@@ -12,6 +14,7 @@ use crate::part::Part;
 use crate::part_list::PartList;
 use crate::reading::push_some;
 use cal_context::{Context, Snapshot};
+use cal_ql::KernelName;
 use cal_value::{OutOfMemory, Seq};
 use std::alloc::Global;
 use std::marker::Model;
@@ -90,6 +93,20 @@ impl PartTable {
             return None;
         }
         self.parts.get(number * self.width + place)
+    }
+
+    /// What a kernel comes to at a place of the group of a number, where that is a number which
+    /// stands there.
+    #[inline(always)]
+    pub fn shown(&self, number: usize, place: usize, kernel: KernelName) -> Option<i64>
+        ensures { IfSome result
+            (ComesTo kernel (slice_get (slice_index_or self.now number []) place)) }
+    {
+        let _ = self.parts.len();
+        if number >= self.count || place >= self.width {
+            return None;
+        }
+        self.parts.shown(number * self.width + place, kernel)
     }
 
     /// Adds a group at the end. One of another number of parts is answered as want of memory is.

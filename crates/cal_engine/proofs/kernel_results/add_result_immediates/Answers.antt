@@ -1,4 +1,4 @@
-use Rattle.std.proofs.Common.{◌≡◌, [], length, take, subst, ap, ◌∙◌, arith}
+use Rattle.std.proofs.Common.{◌≡◌, [], length, refl, take, subst, arith}
 use Rattle.std.specs.Prelude.{slice_get, slice_index_or}
 use Rattle.std.proofs.lemmas.List.{take_all}
 use Rattle.cal_filter.proofs.Zips.{zip_length}
@@ -11,17 +11,20 @@ use Rattle.cal_engine.proofs.kernel_results.add_result_immediates.Goals as goal
 
 pub loop-place-preserved : goal.loop-place-preserved
 loop-place-preserved c = λ t aggs lists zip kept.
+    let n = c.args.number in
+    let place = c.loop-place.place in
     let parts = c.args.groups.now.parts in
     let others = c.args.others.now in
-    let n = c.args.number in
-    let read = c.get-own_part.ensures ∙ ap (λ ps. slice_get (slice_index_or ps n []) c.loop-place.place) c.parts.ensures.parts in
-    let own = c.as_ref-in-loop-place.ensures.value ∙ read in
-    let below = c.as_ref-in-loop-place-2.ensures.value ∙ c.below_at-below_part.ensures parts (c.as_ref.ensures.value ∙ read) in
-    results_next t aggs c.args.results.now lists c.loop-place.place _ (slice_index_or parts n []) others.all (slice_index_or (below_of others parts) n []) _ _ _
-    c.args.imms.now.items c.loop-place.imms.items c.push_some.new.items.items c.result_at-found.result
-    zip kept (omega arith) (read_same c.args.results.now c.loop-place.place _ _ (omega arith))
-    own (c.part_at-all_part.ensures ∙ ap (λ ps. slice_get ps c.loop-place.place) c.all.ensures) below
-    (c.loop-place.invariant t aggs lists zip kept) c.in_ok-push_some.ensures (λ agg. c.result_at-found.ensures t agg lists)
+    let one = slice_index_or parts n [] in
+    let third = slice_index_or (below_of others parts) n [] in
+    results_next t aggs c.args.results.now lists place _ one others.all third
+    (slice_get one place) (slice_get others.all place) (slice_get third place)
+    c.args.imms.now.items c.loop-place.imms.items c.push_some.new.items.items
+    c.found_at-found.result zip kept (omega arith)
+    (read_same c.args.results.now place _ _ (omega arith)) refl refl refl
+    (c.loop-place.invariant t aggs lists zip kept) c.in_ok-push_some.ensures
+    (λ agg is own all below. c.found_at-found.ensures t agg lists is
+    (record { own = own; all = all; below = below }))
 
 pub returns : goal.returns
 returns c = λ t aggs lists zip kept.
