@@ -52,9 +52,8 @@ fn printed(
 ) -> Result<Text, OutOfMemory>
     ensures { IfOk result (IsPrinted print (generated seed threads lines)) }
 {
-    let script = generate(alloc, seed, threads, lines)?;
     match print {
-        Print::Script => Ok(script),
-        Print::Summary => summary_lines(alloc, script),
+        Print::Script => generate(alloc, seed, threads, lines),
+        Print::Summary => summary_lines(alloc, seed, threads, lines),
     }
 }

@@ -1,11 +1,13 @@
 use Rattle.std.proofs.Common.{ap, ◌∙◌}
 use Rattle.std.proofs.lemmas.Result.{IfOk-weaker}
+use Rattle.cal_gen.specs.Generated.{generated}
 use Rattle.cal_summary.specs.Summaries.{summary_text}
 use Rattle.caliper.proofs.summarizing.summary_lines.Goals as goal
 
 pub summarize-requires : goal.summarize-requires
 summarize-requires c =
-    c.valid_script_law.ensures c.in_ok-script.script (c.args.text, c.in_ok-script.ensures)
+    let text = generated c.args.seed c.args.threads c.args.lines in
+    c.valid_script_law.ensures c.in_ok-script.script (text, c.in_ok-script.ensures)
 
 pub returns : goal.returns
 returns c =
