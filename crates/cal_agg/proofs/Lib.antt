@@ -1,4 +1,4 @@
 mod Cells
-mod Ends
+pub mod Ends
 mod Lists
 mod Sums

@@ -5,4 +5,6 @@ pub mod Joins
 pub mod Shown
 pub mod Limits
 pub mod Rows
+pub mod RowLaws
+pub mod RowLimits
 pub mod Ends

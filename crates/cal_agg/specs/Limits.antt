@@ -33,11 +33,11 @@ count_of-within ns small short =
     omega arith
 
 -- a sum that may be missing, as a magnitude
-abbrev magnitude : Option ℤ → ℕ
+abbrev pub magnitude : Option ℤ → ℕ
 magnitude None = 0
 magnitude (Some z) = unsigned_abs z
 
-magnitude-both : (x y : Option ℤ) → magnitude (both ◌+ℤ◌ x y) ≤ magnitude x + magnitude y
+pub magnitude-both : (x y : Option ℤ) → magnitude (both ◌+ℤ◌ x y) ≤ magnitude x + magnitude y
 magnitude-both None y = omega arith
 magnitude-both (Some x) None = omega arith
 magnitude-both (Some x) (Some y) = unsigned_abs-add x y
@@ -60,7 +60,7 @@ sum_bound (Fixed n ∷ ns) h =
     let small = h.0 in
     record { whole = omega arith; fixed = omega arith }
 
-magnitude_within : (bits : ℕ) (z : Option ℤ) → magnitude z ≤ 2 ^ bits
+pub magnitude_within : (bits : ℕ) (z : Option ℤ) → magnitude z ≤ 2 ^ bits
     → (x : ℤ) → z ≡ Some x → IsWithin bits x
 magnitude_within bits z h x e = rw e at h
 

@@ -24,7 +24,10 @@ pub use count::Count;
 pub use formulas::{average, percent_total};
 pub use greatest::Greatest;
 pub use kernel::Kernel;
-pub use laws::{absent_where_nothing_contributes, ends_are_ends};
+pub use laws::{
+    absent_where_nothing_contributes, ends_are_ends, merged_rows_stay_within,
+    rows_merge_in_any_order,
+};
 pub use least::Least;
 pub use made::kernel_of;
 pub use num::Num;

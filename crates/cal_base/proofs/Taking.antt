@@ -1,10 +1,11 @@
-use Rattle.std.proofs.Common.{◌≡◌, ℕ, ◌+◌, ◌<◌, ◌≤◌, List, ◌++◌, length, Option, None, Some, IfSome, Result, Ok, Err, IfOk, IsErr, Vec, Global, refl, sym, ap, ◌∙◌, append_assoc, append-nil, length-append, arith}
+use Rattle.std.proofs.Common.{◌≡◌, ℕ, ◌+◌, ◌-◌, ◌<◌, ◌≤◌, List, ◌++◌, length, Option, None, Some, IfSome, Result, Ok, Err, IfOk, IsErr, Vec, Global, refl, sym, ap, ◌∙◌, append_assoc, append-nil, length-append, arith}
 use Rattle.std.proofs.lemmas.Option.{IfSome_then}
 use Rattle.std.specs.Io.KnownBytes.{IsAtEnd}
 use Rattle.cal_base.specs.declared.reading.ReadEnd.{ReadEnd}
+use Rattle.cal_base.specs.declared.reading.ReadEnd.TheVariants as read
 use Rattle.cal_base.specs.Change.{Change}
-use Rattle.cal_base.specs.ReadEnds.{ReadsAll}
-use Rattle.cal_base.specs.Told.{Takes, TakesUpTo, TakesOver}
+use Rattle.cal_base.specs.ReadEnds.{ReadsAll, StopsAt}
+use Rattle.cal_base.specs.Told.{Takes, TakesUpTo}
 
 -- what was taken first, and then more
 pub Takes-append : (a b c : Option (List ℕ)) (xs ys : List ℕ) → Takes a b xs → Takes b c ys
@@ -23,10 +24,23 @@ pub TakesUpTo-read : (limit : ℕ) (a b c : Option (List ℕ)) (xs ys : List ℕ
 TakesUpTo-read limit a b c xs ys first then within =
     (xs ++ ys, omega (arith, length-append xs ys), Takes-append a b c xs ys first then)
 
-pub TakesOver-read : (limit : ℕ) (a b c : Option (List ℕ)) (xs ys : List ℕ) → Takes a b xs
-    → Takes b c ys → limit < length xs + length ys → TakesOver limit a c
-TakesOver-read limit a b c xs ys first then over =
-    (xs ++ ys, omega (arith, length-append xs ys), Takes-append a b c xs ys first then)
+-- what was taken first, and then why no more came
+pub StopsAt-then : (end : ReadEnd) (limit : ℕ) (a b c : Option (List ℕ)) (f g h : ℕ)
+    (xs : List ℕ) → Takes a b xs → length xs ≤ limit → f ≤ g
+    → StopsAt end (limit - length xs)
+    (record { old = b; new = c; faults_before = g; faults_now = h })
+    → StopsAt end limit (record { old = a; new = c; faults_before = f; faults_now = h })
+StopsAt-then read.ReadFault limit a b c f g h xs first within later stops = (
+  omega arith,
+  TakesUpTo-read limit a b c xs stops.1.0 first stops.1.2 (omega (arith, stops.1.1)),
+)
+StopsAt-then read.TooLong limit a b c f g h xs first within later stops = (
+  xs ++ stops.0,
+  omega (arith, length-append xs stops.0, stops.1),
+  Takes-append a b c xs stops.0 first stops.2,
+)
+StopsAt-then read.OutOfMemory limit a b c f g h xs first within later stops =
+    TakesUpTo-read limit a b c xs stops.0 first stops.2 (omega (arith, stops.1))
 
 -- what was taken to the end was all that was left
 Takes-left : (old new : Option (List ℕ)) (bytes : List ℕ) → Takes old new bytes → IsAtEnd new

@@ -1,4 +1,4 @@
-use Rattle.std.specs.Prelude.{ℕ, Bool, ◌+◌, ◌-◌, ◌<◌, List, length, take, Contains, if◌then◌else◌}
+use Rattle.std.specs.Prelude.{ℕ, ◌+◌, ◌-◌, ◌<◌, List, length, take, Contains}
 use Rattle.cal_base.specs.Faults.{counted_on}
 
 -- A source in memory: the bytes left, the numbers of the calls that are to fail, counted from 1,
@@ -29,7 +29,3 @@ fitting sink bytes = take (sink.room - length sink.written) bytes
 -- A piece is larger than what is left of the room.
 abbrev pub Overflows : Storing → List ℕ → Type 0
 Overflows sink bytes = sink.room < length sink.written + length bytes
-
--- a count of faults after a call that did well or failed
-abbrev pub faults_after : Bool → ℕ → ℕ
-faults_after well faults = if well then faults else counted_on faults

@@ -12,8 +12,8 @@ pub record ReadsAll (limit : ℕ) (input : Change) (bytes : List ℕ) : Type 0 w
   pub ended : IsAtEnd input.new
   pub within : length bytes ≤ limit
 
--- Why the source wasn't read to its end, and how much was taken then: more than the limit where it
--- is too long, and else at most the limit (ours).
+-- Why the source wasn't read to its end, and how much was taken then: the limit's bytes and one more
+-- where it is too long, and else at most the limit (ours).
 abbrev pub StopsAt : ReadEnd → ℕ → Change → Type 0
 StopsAt ReadFault limit input = HasFailed input × TakesUpTo limit input.old input.new
 StopsAt TooLong limit input = TakesOver limit input.old input.new

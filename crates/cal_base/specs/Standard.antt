@@ -1,6 +1,7 @@
 use Rattle.std.specs.Prelude.{ℕ, List, take, Option}
 use Rattle.std.specs.Io.KnownBytes.{Appends}
 use Rattle.cal_base.specs.declared.std_source.StdSource.{StdSource}
+use Rattle.cal_base.specs.declared.std_clock.StdClock.{StdClock}
 use Rattle.cal_base.specs.declared.std_sink.StdSink.{StdSink}
 
 -- the reader of std that a source reads
@@ -22,3 +23,7 @@ faults_written sink = sink.faults
 -- what a writer of std tells of its bytes grew by some front of these
 abbrev pub GrowsByFront : Option (List ℕ) → Option (List ℕ) → List ℕ → Type 0
 GrowsByFront old new bytes = (count : ℕ) × Appends old new (take count bytes)
+
+-- the clock of std that a clock asks
+abbrev pub clock_of : {C : Type 0} → StdClock C → C
+clock_of clock = clock.clock

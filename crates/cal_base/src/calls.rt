@@ -1,6 +1,6 @@
 ghost use Rattle.std.specs.Prelude.{◌≡◌, ◌<◌, ◌^◌, ◌↔◌, IsErr, is_ok};
-ghost use Rattle.cal_base.specs.Faults.{HasCause, counted_on};
-ghost use Rattle.cal_base.specs.InMemory.{NextFails, faults_after};
+ghost use Rattle.cal_base.specs.Faults.{HasCause, counted_on, faults_after};
+ghost use Rattle.cal_base.specs.InMemory.{NextFails};
 
 use crate::Failed;
 use cal_value::Seq;

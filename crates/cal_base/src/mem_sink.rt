@@ -1,6 +1,6 @@
 ghost use Rattle.std.specs.Prelude.{◌≡◌, ◌⊎◌, ◌↔◌, [], ◌++◌, Some, IsTrue, IfOk, OnOk, OnErr, IsErr, is_ok};
-ghost use Rattle.cal_base.specs.Faults.{HasCause, counted_on};
-ghost use Rattle.cal_base.specs.InMemory.{NextFails, Overflows, faults_after, fitting};
+ghost use Rattle.cal_base.specs.Faults.{HasCause, counted_on, faults_after};
+ghost use Rattle.cal_base.specs.InMemory.{NextFails, Overflows, fitting};
 ghost use Rattle.cal_base.specs.Told.{Appends, AppendsFront};
 
 use crate::calls::Calls;

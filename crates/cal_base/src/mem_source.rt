@@ -1,7 +1,7 @@
 ghost use Rattle.std.specs.Prelude.{◌≡◌, ◌<◌, ◌↔◌, [], Some, length, take, drop, min, IfOk, OnErr, IsErr, is_ok};
 ghost use Rattle.std.specs.Io.{ReadsAtMost};
-ghost use Rattle.cal_base.specs.Faults.{HasCause, counted_on};
-ghost use Rattle.cal_base.specs.InMemory.{NextFails, faults_after};
+ghost use Rattle.cal_base.specs.Faults.{HasCause, counted_on, faults_after};
+ghost use Rattle.cal_base.specs.InMemory.{NextFails};
 ghost use Rattle.cal_base.specs.Told.{Takes};
 
 use crate::calls::Calls;

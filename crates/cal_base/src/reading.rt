@@ -2,7 +2,7 @@ ghost use Rattle.std.specs.Prelude.{◌<◌, ◌≤◌, IfOk, IfErr, IfSome, IsE
 ghost use Rattle.cal_base.specs.Change.{change_of};
 ghost use Rattle.cal_base.specs.ReadEnds.{ReadsAll, StopsAt};
 
-use crate::{Failed, Source};
+use crate::{Failed, Source, read_within};
 use std::alloc::{AllocError, Global};
 use thiserror::Error;
 
@@ -77,12 +77,9 @@ fn take_all<S: Source>(
 {
     let mut taken = Vec::new(alloc);
     loop {
-        let count = input.read(buffer)?;
+        let count = read_within(input, limit - taken.len() as u64, buffer)?;
         if count == 0 {
             return Ok(taken);
-        }
-        if count as u64 > limit - taken.len() as u64 {
-            return Err(ReadEnd::TooLong);
         }
         taken.extend_from_slice(&buffer[..count])?;
     }

@@ -27,9 +27,9 @@ impl<W: Write + Drop> StdSink<W> {
 }
 
 impl<W: Write + Drop> Sink for StdSink<W> {
-    ghost use Rattle.std.specs.Prelude.{None, OnOk, OnErr};
+    ghost use Rattle.std.specs.Prelude.{◌≡◌, None, OnOk, OnErr, is_ok};
     ghost use Rattle.std.specs.Io.KnownBytes.{Appends};
-    ghost use Rattle.cal_base.specs.Faults.{HasCause};
+    ghost use Rattle.cal_base.specs.Faults.{HasCause, faults_after};
     ghost use Rattle.cal_base.specs.Standard.{writer_of, faults_written, GrowsByFront};
 
     ghost written = { λ _. None };
@@ -38,6 +38,10 @@ impl<W: Write + Drop> Sink for StdSink<W> {
 
     fn put(&mut self, bytes: &[u8]) -> Result<(), Failed>
         ensures cause { HasCause (faults_written self.old) (faults_written self.new) result }
+
+        // It counts a fault exactly where it fails.
+        ensures counted { faults_written self.new
+            ≡ faults_after (is_ok result) (faults_written self.old) }
 
         // What the writer tells of its bytes holds here too: all of them, or some front.
         ensures told { OnOk result (Appends (W.contents (writer_of self.old))

@@ -26,10 +26,10 @@ impl<R: Read + Drop> StdSource<R> {
 }
 
 impl<R: Read + Drop> Source for StdSource<R> {
-    ghost use Rattle.std.specs.Prelude.{◌<◌, None, length};
+    ghost use Rattle.std.specs.Prelude.{◌<◌, None, is_ok, length};
     ghost use Rattle.std.specs.Io.{ReadsAtMost};
     ghost use Rattle.std.specs.Io.KnownBytes.{ReadConsumes};
-    ghost use Rattle.cal_base.specs.Faults.{HasCause};
+    ghost use Rattle.cal_base.specs.Faults.{HasCause, faults_after};
     ghost use Rattle.cal_base.specs.Standard.{reader_of, faults_read};
 
     ghost left = { λ _. None };
@@ -40,6 +40,10 @@ impl<R: Read + Drop> Source for StdSource<R> {
         requires { 0 < length buf.old }
         ensures bound { ReadsAtMost result buf.new }
         ensures cause { HasCause (faults_read self.old) (faults_read self.new) result }
+
+        // It counts a fault exactly where it fails.
+        ensures counted { faults_read self.new
+            ≡ faults_after (is_ok result) (faults_read self.old) }
 
         // What the reader tells of its bytes holds here too.
         ensures told { ReadConsumes (R.remaining (reader_of self.old))

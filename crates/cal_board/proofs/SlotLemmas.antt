@@ -1,5 +1,5 @@
 -- What `with_slot` and `opened_in` are where the place of a slot is known.
-use Rattle.std.proofs.Common.{◌≡◌, ℕ, ◌+◌, ◌<◌, ◌≤◌, ◌≢◌, List, [], ◌∷◌, ◌++◌, length, get_or, take, drop, filter, nat_lt, if◌then◌else◌, ◌==◌, ap, ◌∙◌, arith, suc, zero, refl, sym, true, false, inl, inr, append-nil, append_assoc, ◌⊎◌, take-append-drop, drop-cons, set, ◌-◌, insert, remove, IfOk, OnOk, Ok, Err, Result}
+use Rattle.std.proofs.Common.{◌≡◌, ℕ, ◌+◌, ◌<◌, ◌≤◌, ◌≢◌, List, [], ◌∷◌, ◌++◌, length, get_or, take, drop, filter, nat_lt, if◌then◌else◌, ◌==◌, ap, ◌∙◌, arith, suc, zero, refl, sym, true, false, inl, inr, append-nil, append_assoc, ◌⊎◌, take-append-drop, drop-cons, set, ◌-◌, insert, remove, IfOk, OnOk, OnErr, Ok, Err, Result}
 use Rattle.std.specs.List.{AllPairs, All}
 use Rattle.std.proofs.lemmas.Bool.{lt-ltb, le-ltb, ltb-true, cases_lt, eq-eqb, ne_eqb}
 use Rattle.std.proofs.lemmas.List.Elements.{All-append, All-filter, filter_passes}
@@ -190,3 +190,7 @@ IfOk-then (Err e) f p = tt
 pub OnOk-then : {A E : Type 0} {P Q : Type 0} (r : Result A E) → (P → Q) → OnOk r P → OnOk r Q
 OnOk-then (Ok a) f p = f p
 OnOk-then (Err e) f p = tt
+
+pub OnErr-then : {A E : Type 0} {P Q : Type 0} (r : Result A E) → (P → Q) → OnErr r P → OnErr r Q
+OnErr-then (Ok a) f p = tt
+OnErr-then (Err e) f p = f p

@@ -15,7 +15,7 @@ use Rattle.cal_board.specs.declared.attr.AttrRef.{AttrRef}
 use Rattle.cal_board.specs.declared.opened.Opened.{Opened}
 use Rattle.cal_board.specs.declared.opened.Slot.{Slot}
 use Rattle.cal_board.specs.declared.reply.BoardReply as replies
-use Rattle.cal_board.specs.declared.reply.BoardReply.TheVariants.{Done, Mismatch, NotOpen, TooDeep, SlotsFull}
+use Rattle.cal_board.specs.declared.reply.BoardReply.TheVariants.{Done, Mismatch, NotOpen, TooDeep, SlotsFull, TreeFull}
 use Rattle.cal_value.specs.declared.variant.Variant.{Variant}
 use Rattle.cal_words.specs.declared.op.OpCode as codes
 use Rattle.cal_words.specs.declared.op.OpCode.TheVariants.{Begin, End, Set}
@@ -227,6 +227,7 @@ module _ {N : Type 0} (P : N → List (Opened Variant) → Type 0) where
         by Done e = absurd (e refl)
         by (Mismatch t) e = s
         by NotOpen e = s
+        by (TreeFull full) e = s
         by TooDeep e = s
         by SlotsFull e = s
 
@@ -242,6 +243,7 @@ ended-Stands {N} P held b a v is =
         (OpenedStand-front P _ _ (opened_in-Stands P (slot_number a) held.references b.references is.references))
     by (Mismatch t) = is
     by NotOpen = is
+    by (TreeFull full) = is
     by TooDeep = is
     by SlotsFull = is
 

@@ -7,7 +7,6 @@ use Rattle.cal_board.specs.Slots.{front, last_attribute, opened_in, with_slot}
 use Rattle.cal_board.specs.declared.attr.AttrRef.{AttrRef}
 use Rattle.cal_board.specs.declared.opened.Opened.{Opened}
 use Rattle.cal_board.specs.declared.opened.Slot.{Slot}
-use Rattle.cal_board.specs.declared.opened.Slot.{Slot}
 use Rattle.cal_board.specs.declared.reply.BoardReply as replies
 use Rattle.cal_board.specs.declared.reply.BoardReply.TheVariants as reply
 use Rattle.cal_value.specs.declared.variant.Variant.{Variant}
@@ -38,6 +37,11 @@ end_reply (Some top) n = if top == n then reply.Done else reply.Mismatch top
 abbrev pub is_top : Option ℕ → ℕ → Bool
 is_top None n = false
 is_top (Some top) n = top == n
+
+-- a reply by the table of boards, which doesn't know of trees
+abbrev pub IsTableReply : replies.BoardReply → Type 0
+IsTableReply (reply.TreeFull full) = ⊥
+IsTableReply _ = Unit {0}
 
 module _ {V : Type 0} where
   -- no value is open
@@ -118,6 +122,7 @@ module _ {V : Type 0} where
   if_done reply.Done new old = new
   if_done (reply.Mismatch top) new old = old
   if_done reply.NotOpen new old = old
+  if_done (reply.TreeFull full) new old = old
   if_done reply.TooDeep new old = old
   if_done reply.SlotsFull new old = old
 

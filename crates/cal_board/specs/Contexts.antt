@@ -1,6 +1,7 @@
 -- How open values stand in a context: as the path of a node.
 use Rattle.std.specs.Prelude.{◌≡◌, ◌<◌, List, length, map, All}
 use Rattle.cal_board.specs.declared.opened.Opened.{Opened}
+use Rattle.cal_context.specs.Lists.{Adds}
 use Rattle.cal_context.specs.Tree.{Tree, attribute_at, path_at}
 use Rattle.cal_context.specs.declared.numbers.NodeNumber.{NodeNumber}
 use Rattle.cal_value.specs.declared.attribute.Entry.{Entry}
@@ -16,3 +17,10 @@ pub record NodeStands (t : Tree) (n : NodeNumber) (path : List (Opened Variant))
   pub within : n.0 < length t.paths
   pub known : All (λ (o : Opened Variant). o.attribute < length t.attributes) path
   pub entries : path_at t n ≡ map (opened_entry t) path
+
+-- A node is there, and its path is all that the context has more, if it is new.
+pub record AddsNode (old new : Tree) (n : NodeNumber) : Type 0 where
+  pub within : n.0 < length new.paths
+  pub paths : Adds old.paths (path_at new n) new.paths
+  pub values : new.values ≡ old.values
+  pub attributes : new.attributes ≡ old.attributes

@@ -1,6 +1,8 @@
 pub mod Slots
+pub mod Rooms
 pub mod Blackboard
 pub mod Standing
+pub mod Asking
 pub mod Contexts
 pub mod ContextGrowth
 pub mod PathBoards

@@ -1,7 +1,7 @@
-ghost use Rattle.std.specs.Prelude.{◌<◌, length};
+ghost use Rattle.std.specs.Prelude.{◌≡◌, ◌<◌, length};
 ghost use Rattle.cal_context.specs.Tree.{Grows, value_at};
 ghost use Rattle.cal_board.specs.ContextGrowth.{NodeStands-Grows};
-ghost use Rattle.cal_board.specs.Contexts.{NodeStands};
+ghost use Rattle.cal_board.specs.Contexts.{AddsNode, NodeStands};
 ghost use Rattle.cal_context.proofs.CallerLemmas.{Grows-refl};
 
 use cal_context::{AttributeNumber, Context, Link, NodeNumber, ValueNumber};
@@ -11,7 +11,7 @@ use std::alloc::Global;
 /// Whoever makes nodes for the open values of reference slots. `V` is how a value is handed in, and
 /// `N` what is made for it. A maker only grows: a node stands for the same values for good.
 pub trait NodeMaker<V: Drop, N> {
-    ghost use Rattle.std.specs.Prelude.{◌≡◌, ℕ, List, IfOk, option_copied};
+    ghost use Rattle.std.specs.Prelude.{◌≡◌, ℕ, List, Option, IfOk, IsOk, OnErr, option_copied};
     ghost use Rattle.cal_board.specs.Blackboard.{opened_more};
     ghost use Rattle.cal_board.specs.Standing.{IsParent};
     ghost use Rattle.cal_board.specs.declared.opened.Opened.{Opened};
@@ -29,7 +29,17 @@ pub trait NodeMaker<V: Drop, N> {
     // whether it has grown from one to the other
     ghost grows: { Self → Self → Type 0 };
 
-    /// The node of a value that is opened below the values of another node, or below none.
+    // whether this node is all that it has more, if it is new
+    ghost adds: { Self → Self → N → Type 0 };
+
+    // what is true where it refuses a node below a parent, by an attribute and a value
+    ghost refuses: { Self → Self → Option N → ℕ → V → Type 0 };
+
+    // whether a value is copied without memory
+    ghost is_plain: { Self → V → Type 0 };
+
+    /// The node of a value that is opened below the values of another node, or below none. No
+    /// other node is made.
     fn child(&mut self, parent: Option<&N>, attribute: u32, value: V) -> Result<N, OutOfMemory>
         requires known { knows self.old attribute value }
         requires parent { (path : List (Opened Variant))
@@ -37,12 +47,16 @@ pub trait NodeMaker<V: Drop, N> {
         ensures made { IfOk result (λ n. (path : List (Opened Variant))
             → IsParent (is_node self.old) (option_copied parent.entry) path
             → is_node self.new n (opened_more attribute (value_of self.old value) path)) }
+        ensures added { IfOk result (λ n. adds self.old self.new n) }
+        ensures refused { OnErr result
+            (refuses self.old self.new (option_copied parent.entry) attribute value) }
         ensures onward { grows self.old self.new };
 
     /// The value itself.
     fn copy(&self, alloc: Global, value: V) -> Result<Variant, OutOfMemory>
         requires { (attribute : ℕ) × knows self.now attribute value }
-        ensures { IfOk result (λ v. v ≡ value_of self.now value) };
+        ensures copied { IfOk result (λ v. v ≡ value_of self.now value) }
+        ensures plain { is_plain self.now value → IsOk result };
 
     ghost same: { (m : Self) → grows m m };
 
@@ -59,6 +73,12 @@ impl NodeMaker<ValueNumber, NodeNumber> for Context {
     ghost is_node = { NodeStands };
 
     ghost grows = { Grows };
+
+    ghost adds = { AddsNode };
+
+    ghost refuses = { λ old new _ _ _. new ≡ old };
+
+    ghost is_plain = { λ _ _. ⊥ };
 
     ghost same = { Grows-refl };
 

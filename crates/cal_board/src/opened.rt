@@ -1,4 +1,4 @@
-use cal_value::Seq;
+use crate::Stack;
 
 /// An open value, with the number of its attribute. `value` is what stands for the value: itself,
 /// or a node.
@@ -13,5 +13,5 @@ pub struct Opened<V> {
 #[derive(Debug, Drop)]
 pub struct Slot<V> {
     pub number: u64,
-    pub opened: Seq<Opened<V>>,
+    pub opened: Stack<Opened<V>>,
 }

@@ -1,13 +1,13 @@
 ghost use Rattle.std.specs.Prelude.{◌≡◌, ◌<◌, ◌≤◌, ◌++◌, length, take, All, IfOk, OnOk, OnErr, Some};
 ghost use Rattle.std.specs.Prelude.{option_map};
-ghost use Rattle.cal_board.specs.Blackboard.{board_after, depths, ended, nothing_open, reply_to};
+ghost use Rattle.cal_board.specs.Blackboard.{IsTableReply, board_after, depths, ended, nothing_open, reply_to};
 ghost use Rattle.cal_board.specs.PathBoards.{AreKnown, IsLastValue, entries_of, entry_in};
 ghost use Rattle.cal_board.specs.PathBoards.{last_at, last_entries};
 ghost use Rattle.cal_board.specs.declared.opened.Opened as opened;
 ghost use Rattle.cal_value.specs.declared.variant.Variant as variants;
 ghost use Rattle.cal_words.specs.declared.op.OpCode.TheVariants as code;
 
-use crate::entries::{add_last_entries, add_paths, entry_of};
+use crate::entries::{add_paths, entry_of};
 use crate::{AttrRef, Board, BoardReply, NodeMaker};
 use cal_value::{Attribute, Entry, OutOfMemory, Seq, TryCopy, Variant};
 use cal_words::OpCode;
@@ -46,6 +46,12 @@ impl<'a> NodeMaker<&'a Variant, Variant> for Copies {
 
     ghost grows = { λ _ _. Unit {0} };
 
+    ghost adds = { λ _ _ _. Unit {0} };
+
+    ghost refuses = { λ _ _ _ _ _. Unit {0} };
+
+    ghost is_plain = { λ _ _. ⊥ };
+
     ghost same = { λ _. tt };
 
     ghost stays = { λ _ _ _ _ _ is. is };
@@ -77,7 +83,8 @@ impl PathBoard {
 
     /// What the board replies to such a line, which it isn't told of.
     pub fn check(&self, code: OpCode, attr: AttrRef) -> BoardReply
-        ensures { result ≡ reply_to self.now code attr }
+        ensures reply { result ≡ reply_to self.now code attr }
+        ensures table { IsTableReply result }
     {
         self.board.check(code, attr)
     }
@@ -146,15 +153,7 @@ impl PathBoard {
         ensures ok { OnOk result (out.new ≡ out.old ++ last_entries attrs.now self.now.as_values) }
         ensures err { OnErr result (out.new ≡ out.old) }
     {
-        let mut items = replace(out, Seq::new(self.alloc)).into_vec();
-        let count = items.len();
-        let slots = self.board.as_values();
-        let added = add_last_entries(self.alloc, attrs.as_slice(), slots, &mut items);
-        if added.is_err() {
-            items.truncate(count);
-        }
-        *out = Seq::from_vec(items);
-        added
+        self.board.immediates(self.alloc, attrs, out)
     }
 
     /// How many values stand in each slot, as `Board::depths` says.

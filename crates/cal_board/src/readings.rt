@@ -5,7 +5,7 @@ ghost use Rattle.cal_board.specs.Slots.{last_attribute};
 ghost use Rattle.cal_words.specs.declared.op.OpCode.TheVariants as code;
 
 use crate::slots::Slots;
-use crate::{AttrRef, Opened};
+use crate::{AttrRef, Growing, Opened};
 use cal_value::OutOfMemory;
 use cal_words::OpCode;
 use std::alloc::Global;
@@ -15,7 +15,7 @@ use std::marker::Model;
 /// put it there.
 #[derive(Drop)]
 pub struct Readings {
-    slots: Slots<u64>,
+    slots: Slots<u64, Growing>,
 }
 
 impl Model for Readings {

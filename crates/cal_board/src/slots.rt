@@ -1,32 +1,37 @@
-ghost use Rattle.std.specs.Prelude.{◌≡◌, ◌<◌, [], ◌∷◌, ◌++◌, length, OnOk, OnErr, MatchResult};
+ghost use Rattle.std.specs.Prelude.{◌≡◌, ◌+◌, ◌<◌, ◌≤◌, [], ◌∷◌, ◌++◌, length, vec_capacity, vec_len};
+ghost use Rattle.std.specs.Prelude.{IfOk, IsOk, OnOk, OnErr, MatchResult};
 ghost use Rattle.cal_board.specs.Slots.{AreOrdered, front, opened_in, with_slot, IsAt, IsGap};
 
-use crate::{Opened, Slot};
-use cal_value::{OutOfMemory, Seq};
+use crate::{Growing, Opened, Reserved, Room, Slot, Stack};
+use cal_value::OutOfMemory;
 use std::alloc::Global;
-use std::marker::Model;
+use std::marker::{Model, PhantomData};
+
+/// How many slots a board may have.
+const MOST_SLOTS: usize = 64;
 
 /// The slots that hold values, in the order of their numbers. A slot without values isn't kept, but
 /// its memory is, for the next one that is opened.
 #[derive(Drop)]
-pub(crate) struct Slots<V> {
+pub(crate) struct Slots<V, R: Room> {
     slots: Vec<Slot<V>>,
-    spare: Vec<Vec<Opened<V>>>,
+    spare: Vec<Stack<Opened<V>>>,
+    room: PhantomData<R>,
 }
 
-impl<V> Model for Slots<V> {
+impl<V, R: Room> Model for Slots<V, R> {
     ghost use Rattle.std.specs.Prelude.{List};
     ghost use Rattle.cal_board.specs.declared.opened.Slot.{Slot};
-    ghost use Rattle.cal_board.specs.Slots.{AreOrdered};
+    ghost use Rattle.cal_board.specs.Rooms.{HaveRoom};
 
     ghost Value = { List (Slot V) };
 
     ghost view = { λ s. s.slots.items };
 
-    ghost invariant = { λ s. AreOrdered s.slots.items };
+    ghost invariant = { λ s. HaveRoom R.slots s.slots s.spare };
 }
 
-impl<V> Slots<V> {
+impl<V> Slots<V, Growing> {
     /// No slot. It takes no memory.
     pub fn new(alloc: Global) -> Self
         ensures { result ≡ [] }
@@ -34,9 +39,27 @@ impl<V> Slots<V> {
         Slots {
             slots: Vec::new(alloc),
             spare: Vec::new(alloc),
+            room: PhantomData,
         }
     }
+}
 
+impl<V> Slots<V, Reserved> {
+    /// No slot, and all memory for 64 slots.
+    pub fn reserved(alloc: Global) -> Result<Self, OutOfMemory>
+    where
+        V: Drop,
+        ensures { IfOk result (λ slots. slots ≡ []) }
+    {
+        Ok(Slots {
+            slots: Vec::with_capacity(alloc, MOST_SLOTS)?,
+            spare: stacks(alloc, MOST_SLOTS)?,
+            room: PhantomData,
+        })
+    }
+}
+
+impl<V, R: Room> Slots<V, R> {
     /// The slots are in order, and hold values.
     pub fn is_ordered(&self)
         ensures { AreOrdered self.now }
@@ -70,15 +93,14 @@ impl<V> Slots<V> {
         ensures pushed { OnOk result
             (self.new ≡ with_slot number (opened_in number self.old ++ opened ∷ []) self.old) }
         ensures err { OnErr result (self.new ≡ self.old) }
+        ensures room { length (opened_in number self.old) < 128
+            → (opened_in number self.old ≡ [] → length self.old < R.slots) → IsOk result }
     {
         match find(&self.slots, number) {
             Ok(place) => self.slots[place].opened.push(opened),
             Err(place) => {
                 let alloc = *self.slots.allocator();
-                let mut values = self.spare.pop().unwrap_or_else(|| Vec::new(alloc));
-                values.clear();
-                values.push(opened)?;
-                let opened = Seq::from_vec(values);
+                let opened = stack_of(alloc, &mut self.spare, opened)?;
                 self.slots.insert(place, Slot { number, opened })?;
                 Ok(())
             }
@@ -95,9 +117,9 @@ impl<V> Slots<V> {
             return;
         };
         if self.slots[place].opened.len() > 1 {
-            drop_last(&mut self.slots[place].opened);
+            self.slots[place].opened.drop_last();
         } else {
-            let values = self.slots.remove(place).opened.into_vec();
+            let values = self.slots.remove(place).opened;
             keep(&mut self.spare, values);
         }
     }
@@ -110,35 +132,54 @@ impl<V> Slots<V> {
         ensures { self.new
             ≡ with_slot number (front (opened_in number self.old) ++ opened ∷ []) self.old }
     {
-        let alloc = *self.slots.allocator();
         let Ok(place) = find(&self.slots, number) else {
             return;
         };
-        set_last(alloc, &mut self.slots[place].opened, opened);
+        self.slots[place].opened.set_last(opened);
     }
 }
 
-#[inline(always)]
-fn drop_last<T: Drop>(list: &mut Seq<T>)
-    ensures { list.new ≡ front list.old }
+/// So many stacks without items.
+fn stacks<T: Drop>(alloc: Global, count: usize) -> Result<Vec<Stack<T>>, OutOfMemory>
+    ensures count { IfOk result (λ made. vec_len made ≡ count) }
+    ensures capacity { IfOk result (λ made. count ≤ vec_capacity made) }
 {
-    let _ = list.pop();
+    let mut made = Vec::with_capacity(alloc, count)?;
+    for _place in 0..count {
+        made.push(Stack::new(alloc)?)?;
+    }
+    Ok(made)
 }
 
-fn set_last<T: Drop>(alloc: Global, list: &mut Seq<T>, item: T)
-    requires { 0 < length list.old }
-    ensures { list.new ≡ front list.old ++ item ∷ [] }
+/// A stack of one item: a spare one, or a new one where none is left.
+fn stack_of<T: Drop>(
+    alloc: Global,
+    spare: &mut Vec<Stack<T>>,
+    item: T,
+) -> Result<Stack<T>, OutOfMemory>
+    ensures made { IfOk result (λ stack. stack ≡ item ∷ []) }
+    ensures one { vec_len spare.old ≤ vec_len spare.new + 1 }
+    ensures capacity { vec_capacity spare.new ≡ vec_capacity spare.old }
+    ensures err { OnErr result (vec_len spare.new ≡ vec_len spare.old) }
+    ensures room { 0 < vec_len spare.old → IsOk result }
 {
-    let mut items = std::mem::replace(list, Seq::new(alloc)).into_vec();
-    let last = items.len() - 1;
-    items[last] = item;
-    *list = Seq::from_vec(items);
+    let mut stack = match spare.pop() {
+        Some(stack) => stack,
+        None => Stack::new(alloc)?,
+    };
+    stack.begin(item);
+    Ok(stack)
 }
 
-/// Keeps memory for the next slot; where there is no room for it, it is given back.
-fn keep<T: Drop>(spare: &mut Vec<Vec<T>>, mut values: Vec<T>) {
-    values.clear();
-    let _ = spare.push(values);
+/// Keeps a stack's memory for the next slot; where there is no room for it, it is given back.
+fn keep<T: Drop>(spare: &mut Vec<Stack<T>>, mut stack: Stack<T>)
+    ensures capacity { vec_capacity spare.old ≤ vec_capacity spare.new }
+    ensures fewer { vec_len spare.old ≤ vec_len spare.new }
+    ensures kept { vec_len spare.old < vec_capacity spare.old
+        → vec_len spare.new ≡ vec_len spare.old + 1 }
+{
+    stack.clear();
+    let _ = spare.push(stack);
 }
 
 /// The place of a slot, or else the place to which it would go.

@@ -133,7 +133,7 @@ module _ (q : Query) where
       by true e rest = absurd (ne (sym (group_same (group_of q.group r) other e) ∙ all.0))
       by false e rest = rw e rest
 
-  are_of : (key : Rec) (rs : List Rec) → AreOf key (records_of q.group key rs)
+  pub are_of : (key : Rec) (rs : List Rec) → AreOf key (records_of q.group key rs)
   are_of key [] = tt
   are_of key (r ∷ rs) = by (is_group (group_of q.group r) key) refl (are_of key rs)
     where
@@ -261,7 +261,7 @@ module _ (q : Query) where
     has_records key h = let found = found_record key ss h in record { first = found.0; rest = found.1.0; are = found.1.1 }
 
     -- each group that was seen first was seen
-    keys_seen : (xs : List Rec) → AllByRecursion (λ key. list_any (is_group key) xs ≡ true) (firsts is_group xs)
+    pub keys_seen : (xs : List Rec) → AllByRecursion (λ key. list_any (is_group key) xs ≡ true) (firsts is_group xs)
     keys_seen [] = tt
     keys_seen (x ∷ xs) = (
       ap (λ b. b || list_any (is_group x) xs) (group_laws.refl x),

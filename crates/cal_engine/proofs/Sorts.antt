@@ -11,7 +11,7 @@ use Rattle.cal_engine.specs.Sorting.{put_in, sorted}
 
 module _ {A : Type 0} (lt : A → A → Bool) (weak : IsStrictWeakOrder lt) where
   -- no item is below one before it
-  abbrev Rises : List A → Type 0
+  abbrev pub Rises : List A → Type 0
   Rises [] = Unit {0}
   Rises (x ∷ xs) = AllByRecursion (λ y. lt y x ≡ false) xs × Rises xs
 
@@ -52,7 +52,7 @@ module _ {A : Type 0} (lt : A → A → Bool) (weak : IsStrictWeakOrder lt) wher
   tied y z a b = rw (a, b) refl
 
   -- two rising lists with the same items at each tie are the same
-  same_rising : (ys zs : List A) → Rises ys → Rises zs
+  pub same_rising : (ys zs : List A) → Rises ys → Rises zs
       → ((x : A) → filter (ties lt x) ys ≡ filter (ties lt x) zs) → ys ≡ zs
   same_rising [] [] up vp h = refl
   same_rising [] (z ∷ zs) up vp h =
@@ -119,7 +119,7 @@ module _ {A : Type 0} (cmp : A → A → Ordering) (weak : IsStrictWeakOrder (λ
       by true e rest = rw e (Rises-put_in (λ z. is_lt (cmp z y) ≡ false) x ys (weak.one_way y x e) up.0, rest)
       by false e rest = rw e ((e, not_below_all x y ys e up.0), (up.0, up.1))
 
-  sorted-rises : (xs : List A) → Rises (λ x y. is_lt (cmp x y)) weak (sorted cmp xs)
+  pub sorted-rises : (xs : List A) → Rises (λ x y. is_lt (cmp x y)) weak (sorted cmp xs)
   sorted-rises [] = tt
   sorted-rises (x ∷ xs) = put_in-rises x (sorted cmp xs) (sorted-rises xs)
 
@@ -145,7 +145,7 @@ module _ {A : Type 0} (cmp : A → A → Ordering) (weak : IsStrictWeakOrder (λ
       by true false true ea eb ec rest = grind (arith, ea, eb, ec, rest)
       by true false false ea eb ec rest = grind (arith, ea, eb, ec, rest)
 
-  sorted-ties : (w : A) (xs : List A) → filter (ties (λ x y. is_lt (cmp x y)) w) (sorted cmp xs) ≡ filter (ties (λ x y. is_lt (cmp x y)) w) xs
+  pub sorted-ties : (w : A) (xs : List A) → filter (ties (λ x y. is_lt (cmp x y)) w) (sorted cmp xs) ≡ filter (ties (λ x y. is_lt (cmp x y)) w) xs
   sorted-ties w [] = refl
   sorted-ties w (x ∷ xs) = by (ties (λ x y. is_lt (cmp x y)) w x) refl (put_in-ties w x (sorted cmp xs)) (sorted-ties w xs)
     where

@@ -4,7 +4,7 @@ use Rattle.std.specs.Prelude.{Ok, Err, Option, Some, None}
 use Rattle.std.specs.Option.{option_map}
 use Rattle.std.proofs.lemmas.Bool.{cases_Bool}
 use Rattle.std.specs.List.{onto_first}
-use Rattle.cal_input.specs.FirstFault.{after_lines, IsFirstFault}
+use Rattle.cal_line.specs.FirstFault.{after_lines, IsFirstFault}
 use Rattle.cal_script.specs.declared.kind.ScriptKind.{ScriptKind}
 use Rattle.cal_script.specs.declared.reader.Reader.{Reader}
 use Rattle.cal_script.specs.Lines.{lines_of}
@@ -82,7 +82,7 @@ pub record IsFrontRun (bytes : List ℕ) (line : ℕ) (reader : Reader) (rest : 
   pub run : script_runs.IsRun bytes line reader rest
   pub place : script_length (lines_of bytes) ≡ line + script_length (lines_of rest)
 
-script_length-cons : (line : List ℕ) (lines : List (List ℕ)) → begins line ≡ false → script_length (line ∷ lines) ≡ suc (script_length lines)
+pub script_length-cons : (line : List ℕ) (lines : List (List ℕ)) → begins line ≡ false → script_length (line ∷ lines) ≡ suc (script_length lines)
 script_length-cons line lines is = rw is (omega arith)
 
 module _ (bytes : List ℕ) (line : ℕ) (reader : Reader) (rest : List ℕ) (run : IsFrontRun bytes line reader rest) where
@@ -139,7 +139,7 @@ some_line byte bytes none =
     ]
 
 -- bytes have lines
-has_lines : (bytes : List ℕ) → (length bytes ≡ 0 → ⊥) → lines_of bytes ≢ []
+pub has_lines : (bytes : List ℕ) → (length bytes ≡ 0 → ⊥) → lines_of bytes ≢ []
 has_lines [] some is = some refl
 has_lines (byte ∷ bytes) some is = some_line byte bytes is
 
@@ -156,7 +156,7 @@ cut_journal before bytes pending rest run none is some =
 
 -- ---- both
 
-said_at : (text : Option JournalText) (k m : ℕ) (ls ms : List (List ℕ)) → k ≡ m → ls ≡ ms → SaysJournalBehind m ms text → SaysJournalBehind k ls text
+pub said_at : (text : Option JournalText) (k m : ℕ) (ls ms : List (List ℕ)) → k ≡ m → ls ≡ ms → SaysJournalBehind m ms text → SaysJournalBehind k ls text
 said_at text k m ls ms place left says =
     let at : SaysJournalBehind m ls text = (let P : List (List ℕ) → Type 0 = λ lines. SaysJournalBehind m lines text in subst P (sym left) says) in
     let P : ℕ → Type 0 = λ before. SaysJournalBehind before ls text in subst P (sym place) at

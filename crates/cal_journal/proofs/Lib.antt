@@ -3,3 +3,4 @@ pub mod Lines
 pub mod JournalRuns
 pub mod PrintedWords
 pub mod PrintedRuns
+pub mod Behind

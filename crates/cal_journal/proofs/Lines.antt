@@ -2,8 +2,8 @@
 use Rattle.std.proofs.Common.{◌≡◌, ℕ, suc, ◌+◌, ◌-◌, ◌≤◌, List, [], ◌∷◌, ◌++◌, length, take, drop, refl, sym, ap, ◌∙◌, add-one, arith}
 use Rattle.std.specs.Prelude.{Result, Ok, Err}
 use Rattle.std.proofs.lemmas.List.{take-append-drop, take-take, append-nil, nil_from_length}
-use Rattle.cal_input.specs.FirstFault.{◌>>=◌, after_lines, IsFirstFault}
-use Rattle.cal_input.proofs.FirstFaults.{take_next, after_lines-append}
+use Rattle.cal_line.specs.FirstFault.{◌>>=◌, after_lines, IsFirstFault}
+use Rattle.cal_line.proofs.FirstFaults.{take_next, after_lines-append}
 use Rattle.cal_script.specs.Lines.{lines_of}
 
 module _ {S K : Type 0} (step : S → List ℕ → Result S K) (start : S) where

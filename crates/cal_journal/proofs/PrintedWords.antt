@@ -17,7 +17,7 @@ use Rattle.std.proofs.lemmas.Str.Parse.{digit_from_value}
 use Rattle.cal_value.specs.Numerals.{at_most, number_of}
 use Rattle.cal_value.specs.Reading.{uint_of}
 use Rattle.cal_value.proofs.Numbers.{at_most-fits, number_of-digits}
-use Rattle.cal_input.specs.FirstFault.{◌>>=◌, after_lines}
+use Rattle.cal_line.specs.FirstFault.{◌>>=◌, after_lines}
 use Rattle.cal_line.specs.Lines.{HasNoNewline}
 use Rattle.cal_script.specs.Lines.{joined, pieces, words_of}
 use Rattle.cal_script.specs.declared.journal.Reply as replies
@@ -66,7 +66,7 @@ decimal_word n small =
 not_space : (byte : ℕ) → IsWordByte byte → eqb byte 32 ≡ false
 not_space byte is = ne_eqb byte 32 (λ (same : byte ≡ 32). omega arith)
 
-no_spaces : (word : List ℕ) → All IsWordByte word → All (λ byte. eqb byte 32 ≡ false) word
+pub no_spaces : (word : List ℕ) → All IsWordByte word → All (λ byte. eqb byte 32 ≡ false) word
 no_spaces word is = All-weaker IsWordByte (λ byte. eqb byte 32 ≡ false) not_space word is
 
 -- words that were joined by spaces are the words of their line

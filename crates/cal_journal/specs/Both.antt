@@ -3,7 +3,7 @@ use Rattle.std.specs.Prelude.{◌≡◌, ◌≢◌, ◌&&◌, true, nat_eq, ℕ,
 use Rattle.std.specs.Prelude.{length, Option, Some, None, Result, Ok, codes, take, drop}
 use Rattle.std.specs.Prelude.{◌==◌}
 use Rattle.std.specs.List.{position_or_len, starts_with}
-use Rattle.cal_input.specs.FirstFault.{after_lines, IsFirstFault}
+use Rattle.cal_line.specs.FirstFault.{after_lines, IsFirstFault}
 use Rattle.cal_script.specs.declared.kind.ScriptKind.{ScriptKind}
 use Rattle.cal_script.specs.declared.script.Script.{Script}
 use Rattle.cal_script.specs.declared.journal.JournalText.{JournalText}

@@ -4,4 +4,5 @@ pub mod Reading
 pub mod Pending
 pub mod Both
 pub mod Printing
+pub mod Marks
 pub mod ReadBack

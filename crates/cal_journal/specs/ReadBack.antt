@@ -1,14 +1,15 @@
 -- Journals whose text is read again.
-use Rattle.std.specs.Prelude.{◌≡◌, ℕ, ◌<◌, ◌^◌, length, All, Some, IfSome}
+use Rattle.std.specs.Prelude.{◌≡◌, ℕ, ◌<◌, ◌^◌, List, [], ◌∷◌, ◌++◌, length, All, Some, IfSome}
 use Rattle.cal_script.specs.declared.journal.Journal.{Journal}
-use Rattle.cal_script.specs.declared.journal.JournalText.{JournalText}
 use Rattle.cal_script.specs.declared.journal.LineNote.{LineNote}
 use Rattle.cal_script.specs.declared.journal.Placed.{Placed}
 use Rattle.cal_script.specs.declared.journal.Reply as replies
 use Rattle.cal_script.specs.declared.journal.Reply.TheVariants as reply
 use Rattle.cal_script.specs.declared.journal.ThreadNote.{ThreadNote}
+use Rattle.cal_script.specs.declared.script.Script.{Script}
 use Rattle.cal_script.specs.Lines.{lines_of}
-use Rattle.cal_journal.specs.Both.{SaysJournalBehind}
+use Rattle.cal_journal.specs.Both.{MeansBoth, SaysJournalBehind}
+use Rattle.cal_journal.specs.Marks.{printed}
 use Rattle.cal_journal.specs.Printing.{journal_text}
 
 -- Numbers that their fields hold, as all numbers of a journal are that a program has.
@@ -37,8 +38,19 @@ pub record HoldsJournal (journal : Journal) : Type 0 where
   pub threads : All HoldsThread journal.threads
   pub few : length journal.threads < 2 ^ 63
 
--- Behind so many lines of an input, the text of a journal says this journal.
+-- Behind so many lines of an input, the text of a journal says this journal, with its marks.
 abbrev pub IsReadBack : ℕ → Journal → Type 0
 IsReadBack before journal =
-    (text : JournalText) × SaysJournalBehind before (lines_of (journal_text journal)) (Some text)
-    × (text.journal ≡ journal)
+    SaysJournalBehind before (lines_of (journal_text journal)) (Some (printed before journal))
+
+-- Each line of these bytes ends with a newline, the last one too.
+abbrev pub EndsItsLines : List ℕ → Type 0
+EndsItsLines [] = Unit {0}
+EndsItsLines (byte ∷ []) = byte ≡ 10
+EndsItsLines (byte ∷ next ∷ bytes) = EndsItsLines (next ∷ bytes)
+
+-- The bytes of a script, and behind them the text of a journal, mean both, the journal with its
+-- marks.
+abbrev pub IsReadBehind : List ℕ → Script → Journal → Type 0
+IsReadBehind bytes script journal = MeansBoth (bytes ++ journal_text journal)
+    (script, Some (printed (length (lines_of bytes)) journal))

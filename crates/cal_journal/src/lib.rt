@@ -17,5 +17,5 @@ mod reading;
 pub use both::read_both;
 pub use ends::BothEnd;
 pub use kind::JournalKind;
-pub use laws::printed_journal_law;
+pub use laws::{journal_behind_script_law, printed_journal_law};
 pub use printing::print_journal;

@@ -1,8 +1,11 @@
-ghost use Rattle.std.specs.Prelude.{◌≡◌, ◌++◌, decimal, IfOk, OnOk};
+ghost use Rattle.std.specs.Prelude.{◌≡◌, ◌<◌, ◌^◌, ◌++◌, All, decimal, length};
+ghost use Rattle.std.specs.Prelude.{IfOk, IfSome, OnOk};
 ghost use Rattle.std.specs.List.{flat_map};
 ghost use Rattle.cal_journal.specs.Printing.{journal_text, note_text, notes_text, op_text};
 ghost use Rattle.cal_journal.specs.Printing.{reading_text, reply_text, spaced, thread_text};
 ghost use Rattle.cal_journal.specs.Printing.{threads_text};
+ghost use Rattle.cal_journal.specs.ReadBack.{HoldsJournal, HoldsNote, HoldsOp, HoldsReply};
+ghost use Rattle.cal_journal.specs.ReadBack.{HoldsThread};
 
 use cal_script::{Journal, LineNote, Placed, Reply, ThreadNote};
 use cal_value::{OutOfMemory, Text};
@@ -24,7 +27,8 @@ fn push_spaced(out: &mut Text, number: u64) -> Result<(), OutOfMemory>
 }
 
 fn push_reading(out: &mut Text, reading: Option<u64>) -> Result<(), OutOfMemory>
-    ensures { OnOk result (out.new ≡ out.old ++ reading_text reading) }
+    ensures text { OnOk result (out.new ≡ out.old ++ reading_text reading) }
+    ensures held { IfSome reading (λ n. n < 2 ^ 64) }
 {
     match reading {
         None => out.push_str(" -"),
@@ -40,7 +44,8 @@ fn push_named(out: &mut Text, name: &str, number: u32) -> Result<(), OutOfMemory
 }
 
 fn push_reply(out: &mut Text, reply: Reply) -> Result<(), OutOfMemory>
-    ensures { OnOk result (out.new ≡ out.old ++ reply_text reply) }
+    ensures text { OnOk result (out.new ≡ out.old ++ reply_text reply) }
+    ensures held { HoldsReply reply }
 {
     match reply {
         Reply::Done => out.push_str(" done"),
@@ -54,7 +59,8 @@ fn push_reply(out: &mut Text, reply: Reply) -> Result<(), OutOfMemory>
 }
 
 fn push_op(out: &mut Text, op: Placed) -> Result<(), OutOfMemory>
-    ensures { OnOk result (out.new ≡ out.old ++ op_text op) }
+    ensures text { OnOk result (out.new ≡ out.old ++ op_text op) }
+    ensures held { HoldsOp op }
 {
     out.push_str("op")?;
     push_spaced(out, u64::from(op.thread))?;
@@ -63,7 +69,8 @@ fn push_op(out: &mut Text, op: Placed) -> Result<(), OutOfMemory>
 }
 
 fn push_ops(out: &mut Text, ops: &[Placed]) -> Result<(), OutOfMemory>
-    ensures { OnOk result (out.new ≡ out.old ++ flat_map op_text ops.now) }
+    ensures text { OnOk result (out.new ≡ out.old ++ flat_map op_text ops.now) }
+    ensures held { OnOk result (All HoldsOp ops.now) }
 {
     for op in ops {
         push_op(out, *op)?;
@@ -72,7 +79,8 @@ fn push_ops(out: &mut Text, ops: &[Placed]) -> Result<(), OutOfMemory>
 }
 
 fn push_note(out: &mut Text, thread: u64, line: u64, note: LineNote) -> Result<(), OutOfMemory>
-    ensures { OnOk result (out.new ≡ out.old ++ note_text thread line note) }
+    ensures text { OnOk result (out.new ≡ out.old ++ note_text thread line note) }
+    ensures held { OnOk result (HoldsNote note) }
 {
     out.push_str("line")?;
     push_spaced(out, thread)?;
@@ -84,7 +92,9 @@ fn push_note(out: &mut Text, thread: u64, line: u64, note: LineNote) -> Result<(
 }
 
 fn push_notes(out: &mut Text, thread: u64, notes: &[LineNote]) -> Result<(), OutOfMemory>
-    ensures { OnOk result (out.new ≡ out.old ++ notes_text thread 1 notes.now) }
+    ensures text { OnOk result (out.new ≡ out.old ++ notes_text thread 1 notes.now) }
+    ensures held { OnOk result (All HoldsNote notes.now) }
+    ensures few { length notes.now < 2 ^ 63 }
 {
     let mut line: u64 = 1;
     for note in notes {
@@ -95,7 +105,8 @@ fn push_notes(out: &mut Text, thread: u64, notes: &[LineNote]) -> Result<(), Out
 }
 
 fn push_thread(out: &mut Text, thread: u64, note: &ThreadNote) -> Result<(), OutOfMemory>
-    ensures { OnOk result (out.new ≡ out.old ++ thread_text thread note.now) }
+    ensures text { OnOk result (out.new ≡ out.old ++ thread_text thread note.now) }
+    ensures held { OnOk result (HoldsThread note.now) }
 {
     out.push_str("start")?;
     push_spaced(out, thread)?;
@@ -105,7 +116,9 @@ fn push_thread(out: &mut Text, thread: u64, note: &ThreadNote) -> Result<(), Out
 }
 
 fn push_threads(out: &mut Text, threads: &[ThreadNote]) -> Result<(), OutOfMemory>
-    ensures { OnOk result (out.new ≡ out.old ++ threads_text 0 threads.now) }
+    ensures text { OnOk result (out.new ≡ out.old ++ threads_text 0 threads.now) }
+    ensures held { OnOk result (All HoldsThread threads.now) }
+    ensures few { length threads.now < 2 ^ 63 }
 {
     let mut thread: u64 = 0;
     for note in threads {
@@ -117,7 +130,10 @@ fn push_threads(out: &mut Text, threads: &[ThreadNote]) -> Result<(), OutOfMemor
 
 /// The text of a journal, which takes time in its length.
 pub fn print_journal(alloc: Global, journal: &Journal) -> Result<Text, OutOfMemory>
-    ensures { IfOk result (λ text. text ≡ journal_text journal.now) }
+    ensures text { IfOk result (λ text. text ≡ journal_text journal.now) }
+
+    // What was printed reads back, by the laws of printed journals.
+    ensures held { OnOk result (HoldsJournal journal.now) }
 {
     let mut out = Text::new(alloc);
     out.push_str("journal ")?;

@@ -9,3 +9,4 @@ pub mod LineSteps
 pub mod SplitSteps
 pub mod Inputs
 pub mod EscapeSteps
+pub mod FirstFaults

@@ -5,3 +5,4 @@ pub mod Fields
 pub mod WrittenFields
 pub mod Spans
 pub mod Steps
+pub mod FirstFault

@@ -5,7 +5,7 @@ use Rattle.std.proofs.Math.Nat.{add-mod_right}
 use Rattle.cal_words.specs.declared.sort.RecSort.{Ghosts as RecSort}
 use Rattle.cal_once.specs.declared.answer.Put.{Put}
 use Rattle.cal_once.specs.declared.answer.Put.TheVariants.{Placed, RowsFull, ArenaFull}
-use Rattle.cal_once.specs.declared.shape.Shape.{Shape}
+use Rattle.cal_words.specs.declared.shape.Shape.{Shape}
 use Rattle.cal_once.specs.declared.view.View.{View}
 use Rattle.cal_once.specs.declared.view.Plan.{Plan}
 use Rattle.cal_once.specs.Layout.{IsShape, arena_start, probe, start_in, slot_for, times}

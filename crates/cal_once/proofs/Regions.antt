@@ -3,7 +3,7 @@ use Rattle.std.proofs.Common.{◌≡◌, ◌⊎◌, ℕ, suc, ◌+◌, ◌*◌, 
 use Rattle.std.proofs.lemmas.Bool.{cases_lt}
 use Rattle.std.proofs.lemmas.List.{ext_get_or}
 use Rattle.std.proofs.Math.Nat.{mul-le-mul_right, suc-mul}
-use Rattle.cal_once.specs.declared.shape.Shape.{Shape}
+use Rattle.cal_words.specs.declared.shape.Shape.{Shape}
 use Rattle.cal_once.specs.Layout.{IsWithin, word_count, arena_start, size_in, start_in, slot_for, probe}
 
 pub length-part : (words : List ℕ) (n at : ℕ) → at + n ≤ length words → length (take n (drop at words)) ≡ n

@@ -1,6 +1,6 @@
 -- Where the words of a table lie.
 use Rattle.std.proofs.Common.{◌≡◌, ℕ, ◌+◌, ◌<◌, arith}
-use Rattle.cal_once.specs.declared.shape.Shape.{Shape}
+use Rattle.cal_words.specs.declared.shape.Shape.{Shape}
 use Rattle.cal_once.specs.Layout.{IsWithin, word_count, arena_start, start_in, size_in}
 use Rattle.cal_once.proofs.Regions.{arena_inside}
 

@@ -1,21 +1,11 @@
 use Rattle.std.specs.Prelude.{◌⊎◌, ℕ, ◌+◌, ◌*◌, ◌/◌, ◌%◌, ◌^◌, ◌<◌, ◌≤◌, List, [], ◌∷◌, take, drop}
 use Rattle.std.specs.Prelude.{slice_index, ◌==◌, if◌then◌else◌}
-use Rattle.cal_once.specs.declared.shape.Shape.{Shape}
-
--- a table has word 0, a word for each slot, and its arenas (ours)
-abbrev pub word_count : Shape → ℕ
-word_count shape = 1 + shape.slots + shape.arenas * shape.arena
+use Rattle.cal_words.specs.declared.shape.Shape.{Shape}
+pub use Rattle.cal_words.specs.Shapes.{IsShape, word_count}
 
 -- the first word of the arena of a number
 abbrev pub arena_start : Shape → ℕ → ℕ
 arena_start shape number = 1 + shape.slots + number * shape.arena
-
--- a shape that a table may have
-pub record IsShape (shape : Shape) : Type 0 where
-  pub some_home : 1 ≤ shape.homes
-  pub enough_slots : shape.homes ≤ shape.slots
-  pub some_arena : 1 ≤ shape.arenas
-  pub small : word_count shape ≤ 268435456
 
 -- a slot's word is 0, or the length of its record above the place of the record's first word (ours)
 abbrev pub slot_for : ℕ → ℕ → ℕ

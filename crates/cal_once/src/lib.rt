@@ -22,14 +22,13 @@ mod rows;
 mod rule;
 mod seat;
 mod settle;
-mod shape;
 mod split;
 mod view;
 mod visit;
 
 pub use answer::Put;
+pub use cal_words::Shape;
 pub use laws::{known_for_good, one_place_each};
 pub use rows::Rows;
 pub use seat::RowSeat;
-pub use shape::Shape;
 pub use view::{Plan, View};

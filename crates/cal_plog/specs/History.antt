@@ -1,5 +1,6 @@
 -- What a seat knows of the history. The operation at place k of the rows is number k of the list.
-use Rattle.std.specs.Prelude.{◌≡◌, ℕ, ◌+◌, ◌<◌, List, [], ◌∷◌, length, slice_index_or}
+use Rattle.std.specs.Prelude.{◌≡◌, ℕ, ◌+◌, ◌<◌, List, [], ◌∷◌, length, slice_get, slice_index_or}
+use Rattle.std.specs.Prelude.{Some}
 use Rattle.cal_words.specs.declared.op.OpRec.{OpRec}
 use Rattle.cal_words.specs.declared.sort.OpSort.{OpSort}
 use Rattle.cal_words.specs.Words.{op_words}
@@ -35,3 +36,7 @@ module _ (slots : ℕ) (v : View OpSort) where
   -- the history begins with these operations, as the seat has read whole
   abbrev pub HasSeen : List OpRec → Type 0
   HasSeen ops = (k : ℕ) (d : OpRec) → k < length ops → HasOp k (slice_index_or ops k d)
+
+-- the seat of a thread was joined into this one, and had published these places
+abbrev pub HasJoined : View OpSort → (thread : ℕ) → List ℕ → Type 0
+HasJoined v thread places = slice_get v.others thread ≡ Some (Some places)

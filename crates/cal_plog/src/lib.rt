@@ -14,5 +14,5 @@ mod next;
 mod seats;
 
 pub use append::LogFull;
-pub use laws::{history_for_good, one_history, own_operations};
+pub use laws::{history_for_good, one_history, own_operations, published_by};
 pub use log::{LogSeat, PLog};

@@ -5,7 +5,7 @@ use Rattle.std.specs.List.{onto_first}
 use Rattle.std.proofs.Math.ListN.{drop_of_length-le}
 use Rattle.std.proofs.lemmas.Bool.{cases_lt}
 use Rattle.std.proofs.lemmas.List.{append-nil, take-append-drop, take-append-le}
-use Rattle.cal_input.specs.FirstFault.{after_lines, IsFirstFault}
+use Rattle.cal_line.specs.FirstFault.{after_lines, IsFirstFault}
 use Rattle.cal_line.specs.Lines.{lines_of}
 use Rattle.cal_read.specs.Cuts.{ended_lines, onto_ended}
 use Rattle.cal_read.specs.Stream.{IsFault, line_step, no_lines}

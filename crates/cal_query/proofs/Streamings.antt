@@ -4,7 +4,7 @@ use Rattle.std.specs.Prelude.{is_some, Ok}
 use Rattle.cal_context.specs.Snapshots.{IsIn, meaning}
 use Rattle.cal_context.specs.Tree.{Tree}
 use Rattle.cal_value.specs.declared.record.Rec.{Rec}
-use Rattle.cal_input.specs.FirstFault.{IsFirstFault}
+use Rattle.cal_line.specs.FirstFault.{IsFirstFault}
 use Rattle.cal_line.specs.Lines.{lines_of}
 use Rattle.cal_read.specs.Cuts.{ended_lines}
 use Rattle.cal_read.specs.Reading.{Ends, HasRead, IsReady, IsRefusalOf, TakesBytes, TakesEnd, rows_made}

@@ -2,7 +2,7 @@ ghost use Rattle.std.specs.Prelude.{ℕ, ◌<◌, List, ◌++◌, length, OnOk, 
 ghost use Rattle.cal_base.specs.Change.{change_of};
 ghost use Rattle.cal_base.specs.ReadEnds.{ReadsAll, StopsAt};
 
-use cal_base::{ReadEnd, Source};
+use cal_base::{ReadEnd, Source, read_within};
 use cal_value::OutOfMemory;
 use std::alloc::Global;
 
@@ -69,12 +69,9 @@ fn feed_through<S: Source, F: Fed>(
 {
     let mut total = 0u64;
     loop {
-        let count = input.read(buffer)?;
+        let count = read_within(input, limit - total, buffer)?;
         if count == 0 {
             return Ok(());
-        }
-        if count as u64 > limit - total {
-            return Err(ReadEnd::TooLong);
         }
         let Ok(()) = fed.feed(&buffer[..count]) else {
             return Err(ReadEnd::OutOfMemory);

@@ -14,7 +14,7 @@ use Rattle.cal_context.specs.Tree.{Tree, attribute_at, path_at}
 use Rattle.cal_context.specs.declared.numbers.AttributeNumber.{AttributeNumber}
 use Rattle.cal_context.specs.declared.numbers.NodeNumber.{NodeNumber}
 use Rattle.cal_value.specs.declared.attribute.Attribute.{Attribute}
-use Rattle.cal_input.specs.FirstFault.{◌>>=◌}
+use Rattle.cal_line.specs.FirstFault.{◌>>=◌}
 use Rattle.cal_value.specs.Reading.{value_of}
 use Rattle.cal_value.specs.declared.attribute.Entry.{Entry}
 use Rattle.cal_value.specs.declared.variant.Variant.{Variant}

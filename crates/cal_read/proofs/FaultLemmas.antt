@@ -3,8 +3,8 @@ use Rattle.std.proofs.Common.{◌≡◌, ℕ, ◌+◌, ◌-◌, List, [], ◌∷
 use Rattle.std.specs.Prelude.{Result, Ok, Err}
 use Rattle.std.proofs.lemmas.Bool.{cases_lt}
 use Rattle.std.proofs.lemmas.List.{take_all, take_at, take-append-le, length-append}
-use Rattle.cal_input.specs.FirstFault.{after_lines, IsFirstFault}
-use Rattle.cal_input.proofs.FirstFaults.{after_lines-append}
+use Rattle.cal_line.specs.FirstFault.{after_lines, IsFirstFault}
+use Rattle.cal_line.proofs.FirstFaults.{after_lines-append}
 
 module _ {S K : Type 0} (step : S → List ℕ → Result S K) where
   pub after_push : (start : S) (lines : List (List ℕ)) (line : List ℕ) (s next : S) → after_lines step start lines ≡ Ok s → step s line ≡ Ok next

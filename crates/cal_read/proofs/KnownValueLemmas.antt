@@ -8,7 +8,7 @@ use Rattle.cal_context.specs.Children.{AddsChild, AddsLinked}
 use Rattle.cal_context.specs.Tree.{Tree, Grows}
 use Rattle.cal_context.specs.declared.numbers.NodeNumber.{NodeNumber}
 use Rattle.cal_context.specs.declared.numbers.ValueNumber.{ValueNumber}
-use Rattle.cal_input.specs.FirstFault.{◌>>=◌}
+use Rattle.cal_line.specs.FirstFault.{◌>>=◌}
 use Rattle.cal_value.specs.Reading.{value_of}
 use Rattle.cal_value.specs.declared.variant.Variant.TheVariants as value
 use Rattle.cal_read.specs.Fields.{or_fault}

@@ -5,7 +5,7 @@ use Rattle.std.proofs.lemmas.List.{length-append}
 use Rattle.cal_context.specs.Snapshots.{meaning}
 use Rattle.cal_context.specs.Tree.{Tree, Grows}
 use Rattle.cal_context.proofs.CallerLemmas.{IsIn-Grows, meaning-Grows, TakesMore-trans}
-use Rattle.cal_input.specs.FirstFault.{after_lines, IsFirstFault}
+use Rattle.cal_line.specs.FirstFault.{after_lines, IsFirstFault}
 use Rattle.cal_line.specs.Lines.{lines_of, HasNoNewline}
 use Rattle.cal_value.specs.declared.record.Rec.{Rec}
 use Rattle.cal_read.specs.Cuts.{ended_lines, joined, IsCut}

@@ -7,7 +7,7 @@ use Rattle.std.proofs.lemmas.Bool.Decides.{Decides-eqb}
 use Rattle.cal_context.specs.Snapshots.{IsIn, meaning, entry_of as imm_entry}
 use Rattle.cal_context.specs.Tree.{Tree}
 use Rattle.cal_context.specs.declared.snapshot.Snapshot.{Snapshot}
-use Rattle.cal_input.specs.FirstFault.{◌>>=◌}
+use Rattle.cal_line.specs.FirstFault.{◌>>=◌}
 use Rattle.cal_line.specs.declared.field.Field.{Field}
 use Rattle.cal_value.specs.declared.attribute.Attribute.{Attribute}
 use Rattle.cal_read.specs.Columns.{AreEnds}

@@ -6,7 +6,7 @@ use Rattle.std.specs.Ordering.{eq_by_cmp}
 use Rattle.std.proofs.lemmas.Bool.Decides.{nat_tests}
 use Rattle.cal_context.specs.Tree.{Tree, Grows, attribute_at}
 use Rattle.cal_context.specs.declared.numbers.AttributeNumber.{AttributeNumber}
-use Rattle.cal_input.specs.FirstFault.{◌>>=◌}
+use Rattle.cal_line.specs.FirstFault.{◌>>=◌}
 use Rattle.cal_value.specs.Order.{value_cmp}
 use Rattle.cal_value.specs.declared.variant.Variant.{Variant}
 use Rattle.cal_read.specs.Fields.{if_there}

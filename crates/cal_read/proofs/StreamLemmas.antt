@@ -10,7 +10,7 @@ use Rattle.std.proofs.lemmas.Str.{IsUtf8-from_is_utf8, is_utf8-from_IsUtf8}
 use Rattle.cal_context.specs.Snapshots.{IsIn, IsBelowRoot, meaning, entry_of}
 use Rattle.cal_context.specs.Tree.{Tree, Grows, path_at}
 use Rattle.cal_context.specs.declared.snapshot.Snapshot.{Snapshot}
-use Rattle.cal_input.specs.FirstFault.{◌>>=◌}
+use Rattle.cal_line.specs.FirstFault.{◌>>=◌}
 use Rattle.cal_line.specs.Fields.{fields_of}
 use Rattle.cal_line.specs.declared.field.Field.{Field}
 use Rattle.cal_value.specs.declared.record.Rec.{Rec}

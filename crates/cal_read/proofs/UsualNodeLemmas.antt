@@ -4,7 +4,7 @@ use Rattle.std.specs.Prelude.{Ok, codes}
 use Rattle.std.specs.List.{between}
 use Rattle.std.proofs.lemmas.List.{drop_all, drop_more}
 use Rattle.std.proofs.lemmas.List.Folds.{drop_split}
-use Rattle.cal_input.specs.FirstFault.{◌>>=◌}
+use Rattle.cal_line.specs.FirstFault.{◌>>=◌}
 use Rattle.cal_line.specs.Escapes.{escaped}
 use Rattle.cal_line.specs.Fields.{IsFields}
 use Rattle.cal_line.specs.WrittenFields.{written_fields}

@@ -1,7 +1,7 @@
 -- What a reader has read.
 use Rattle.std.specs.Prelude.{◌≡◌, ℕ, List, [], ◌++◌, Option, Some, None, Result, Ok, Err, length}
 use Rattle.cal_context.specs.Tree.{Tree}
-use Rattle.cal_input.specs.FirstFault.{after_lines, IsFirstFault}
+use Rattle.cal_line.specs.FirstFault.{after_lines, IsFirstFault}
 use Rattle.cal_value.specs.declared.record.Rec.{Rec}
 use Rattle.cal_line.specs.Lines.{lines_of}
 use Rattle.cal_read.specs.Cuts.{IsCut, ended_lines}

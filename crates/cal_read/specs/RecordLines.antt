@@ -1,7 +1,7 @@
 -- What a `ctx` or `globals` line says.
 use Rattle.std.specs.Prelude.{ℕ, ◌==◌, List, Result, Ok, Err, codes, length, map, if◌then◌else◌}
 use Rattle.std.specs.List.{zip}
-use Rattle.cal_input.specs.FirstFault.{◌>>=◌}
+use Rattle.cal_line.specs.FirstFault.{◌>>=◌}
 use Rattle.cal_line.specs.declared.field.Field.{Field}
 use Rattle.cal_value.specs.Reading.{value_of}
 use Rattle.cal_value.specs.declared.attribute.Attribute.{Attribute}

@@ -2,7 +2,7 @@
 -- has the first that applies).
 use Rattle.std.specs.Prelude.{◌≡◌, ℕ, List, [], ◌∷◌, ◌++◌, Result, Ok, Err, not, if◌then◌else◌}
 use Rattle.std.specs.Str.{is_utf8}
-use Rattle.cal_input.specs.FirstFault.{◌>>=◌, after_lines, IsFirstFault}
+use Rattle.cal_line.specs.FirstFault.{◌>>=◌, after_lines, IsFirstFault}
 use Rattle.cal_line.specs.Fields.{fields_of}
 use Rattle.cal_line.specs.Lines.{lines_of}
 use Rattle.cal_line.specs.declared.field.Field.{Field}

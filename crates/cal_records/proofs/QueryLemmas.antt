@@ -3,6 +3,7 @@ use Rattle.std.proofs.Common.{◌≡◌, ℕ, ◌+◌, ◌<◌, Bool, true, fals
 use Rattle.std.proofs.Common.{length, get_or, take, map, refl, sym, ap, ◌∙◌, append-nil}
 use Rattle.std.specs.Prelude.{nat_eq}
 use Rattle.std.specs.Cmp.Lexicographic.{pointwise}
+use Rattle.cal_profile.specs.Groups.{agg_of, aggs_of, channel_query, value_aggs}
 use Rattle.cal_value.specs.Texts.{text_cmp}
 use Rattle.std.specs.List.{flat_map, list_any}
 use Rattle.std.specs.Ordering.{eq_by_cmp}
@@ -16,7 +17,6 @@ use Rattle.cal_ql.specs.Once.{with_all_new, with_new}
 use Rattle.cal_ql.specs.Valid.{IsValidQuery}
 use Rattle.cal_ql.specs.declared.names.KernelName as kernels
 use Rattle.cal_ql.specs.declared.query.Agg.{Agg}
-use Rattle.cal_records.specs.Groups.{agg_of, aggs_of, channel_query, value_aggs}
 use Rattle.cal_script.specs.declared.script.ChannelQuery.{ChannelQuery}
 
 with_all_new-append : (kept aggs others : List Agg)

@@ -30,8 +30,8 @@ use Rattle.cal_engine.specs.Sorting.{put_in, sorted}
 use Rattle.cal_engine.specs.declared.grouped_rows.GroupedRows.{GroupedRows}
 use Rattle.cal_filter.specs.Kept.{result_entry}
 use Rattle.cal_filter.specs.Numbers.{value_of_number}
+use Rattle.cal_profile.specs.Groups.{group_in, is_result, rows_cmp}
 use Rattle.cal_ql.specs.declared.query.Agg.{Agg}
-use Rattle.cal_records.specs.Groups.{group_in, is_result, rows_cmp}
 use Rattle.cal_records.proofs.RisingLemmas.{rising-sorted}
 use Rattle.cal_records.specs.Ranks.{entries_at, group_at, key_entries, numbers_cmp, order_of}
 use Rattle.cal_records.specs.declared.group_keys.AllKeys.{AllKeys}

@@ -1,7 +1,9 @@
 -- What is taken in several steps.
-use Rattle.std.proofs.Common.{◌≡◌, ℕ, ◌+◌, ◌<◌, List, [], ◌∷◌, ◌++◌, length, get_or, take, sym}
+use Rattle.std.proofs.Common.{◌≡◌, ℕ, ◌+◌, ◌<◌, Bool, ◌||◌, List, [], ◌∷◌, ◌++◌, length, get_or, take, sym}
 use Rattle.std.proofs.Common.{ap, subst, ◌∙◌, append-nil}
-use Rattle.std.specs.List.{flat_map}
+use Rattle.std.specs.Prelude.{Option, is_some}
+use Rattle.std.specs.List.{flat_map, list_any}
+use Rattle.std.proofs.lemmas.List.Folds.{list_any_more}
 use Rattle.std.proofs.lemmas.Grind.{flat_map-append}
 use Rattle.std.proofs.lemmas.List.{take_more}
 use Rattle.cal_context.proofs.CallerLemmas.{TakesMore-trans}
@@ -23,3 +25,12 @@ taken-more f had then has xs i x below is so_far next =
     ∙ flat_map-append f (take i xs) (x ∷ [])
     ∙ ap (λ ys. flat_map f (take i xs) ++ ys) (append-nil (f x)) in
     subst (TakesMore had has) (sym more) (TakesMore-trans had then has _ _ so_far next)
+
+-- whether one of the items so far passes, and whether the next one does
+pub counted-more : {A : Type 0} (passes : A → Bool) (xs : List A) (i : ℕ) (x : A)
+    (first second both : Option ℕ) → i < length xs → x ≡ get_or xs i x
+    → is_some first ≡ list_any passes (take i xs) → is_some second ≡ passes x
+    → is_some both ≡ (is_some first || is_some second)
+    → is_some both ≡ list_any passes (take (i + 1) xs)
+counted-more passes xs i x first second both below is so_far next more =
+    more ∙ (λ j. so_far j || (next ∙ ap passes is) j) ∙ sym (list_any_more passes xs i x below)

@@ -1,4 +1,3 @@
-pub mod Groups
 pub mod Records
 pub mod Told
 pub mod Kept

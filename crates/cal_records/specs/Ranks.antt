@@ -8,8 +8,8 @@ use Rattle.cal_engine.specs.Making.{group_count, key_at}
 use Rattle.cal_engine.specs.Sorting.{sorted}
 use Rattle.cal_engine.specs.declared.grouped_rows.GroupedRows.{GroupedRows}
 use Rattle.cal_engine.specs.declared.key.GroupKey.{GroupKey}
+use Rattle.cal_profile.specs.Groups.{is_result}
 use Rattle.cal_ql.specs.declared.query.Agg.{Agg}
-use Rattle.cal_records.specs.Groups.{is_result}
 use Rattle.cal_records.specs.declared.group_keys.AllKeys.{AllKeys}
 use Rattle.cal_records.specs.declared.group_keys.GroupKeys.{GroupKeys}
 use Rattle.cal_records.specs.declared.sorting.Key.{Key}

@@ -1,6 +1,6 @@
 -- The records of a run, by its script and its journal. (Giltmoth's order.)
 use Rattle.std.specs.Prelude.{List, [], ◌∷◌, ◌++◌, filter, flat_map, map, if◌then◌else◌}
-use Rattle.cal_records.specs.Groups.{channel_query, group_records}
+use Rattle.cal_profile.specs.Groups.{channel_query, group_records}
 use Rattle.cal_run.specs.Runs.{snapshots}
 use Rattle.cal_script.specs.declared.journal.Journal.{Journal}
 use Rattle.cal_script.specs.declared.script.Channel.{Channel}

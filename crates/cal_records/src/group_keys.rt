@@ -2,8 +2,8 @@ ghost use Rattle.std.specs.Prelude.{◌≡◌, ℕ, ◌<◌, ◌∷◌, ◌++◌
 ghost use Rattle.cal_context.specs.Children.{CanLink};
 ghost use Rattle.cal_context.specs.Tree.{path_at};
 ghost use Rattle.cal_engine.specs.Making.{group_count, key_at};
+ghost use Rattle.cal_profile.specs.Groups.{is_result as is_result_of};
 ghost use Rattle.cal_records.specs.Forks.{entry_by};
-ghost use Rattle.cal_records.specs.Groups.{is_result as is_result_of};
 ghost use Rattle.cal_records.specs.Ranks.{entries_at, key_entries, key_entry};
 
 use crate::sorting::Key;

@@ -1,20 +1,21 @@
-ghost use Rattle.std.specs.Prelude.{◌≡◌, [], List, map, IfOk, IfSome, OnOk, option_copied};
+ghost use Rattle.std.specs.Prelude.{◌≡◌, [], List, map, true, IfNone, IfOk, IfSome, OnOk, is_some};
+ghost use Rattle.std.specs.Prelude.{option_copied};
 ghost use Rattle.cal_context.specs.Taking.{TakesMore};
 ghost use Rattle.cal_context.specs.Tree.{Grows};
 ghost use Rattle.cal_engine.specs.Answers.{answer_of};
 ghost use Rattle.cal_engine.specs.Making.{MakesRows};
 ghost use Rattle.cal_engine.specs.Sorting.{sorted};
 ghost use Rattle.cal_engine.specs.Standing.{HasFolded};
+ghost use Rattle.cal_profile.specs.Groups.{group_records, rows_cmp};
 ghost use Rattle.cal_ql.specs.Valid.{IsValidQuery};
 ghost use Rattle.cal_ql.specs.declared.query.Agg.{Agg as AnAgg};
-ghost use Rattle.cal_records.specs.Groups.{group_records, rows_cmp};
 ghost use Rattle.cal_records.specs.Records.{grouped};
 ghost use Rattle.cal_records.specs.Told.{CountsRefused, told};
 ghost use Rattle.cal_rowset.specs.Answers.{nth_row};
 ghost use Rattle.cal_run.specs.Numbers.{AreNumbered};
 ghost use Rattle.cal_run.specs.Runs.{snapshots};
 ghost use Rattle.cal_run.specs.Seeing.{CanBeRead};
-ghost use Rattle.cal_valid.specs.Valid.{IsRunnable};
+ghost use Rattle.cal_script.specs.Valid.{IsRunnable};
 ghost use Rattle.cal_value.specs.declared.record.Rec.{Rec as ARecord};
 
 use crate::query::channel_query;
@@ -48,6 +49,8 @@ pub(crate) fn take_groups<T: Taker>(
         (T.has_taken taker.new context.new)
         (grouped script.now (told script.now (option_copied journal.entry)) channel.now)) }
     ensures refused { IfOk result (CountsRefused script.now) }
+    ensures counted { IfNone journal.entry
+        (IfOk result (λ counted. is_some counted ≡ channel.now.aggregate)) }
     ensures grows { Grows context.old context.new }
 {
     if !channel.aggregate {
@@ -80,6 +83,7 @@ fn take_query<T: Taker>(
         (group_records query.now (snapshots script.now (told script.now
         (option_copied journal.entry)) channel.now))) }
     ensures refused { IfOk result (CountsRefused script.now) }
+    ensures counted { IfNone journal.entry (IfOk result (λ counted. is_some counted ≡ true)) }
     ensures grows { Grows context.old context.new }
 {
     let (rows, refused) = group_rows(alloc, script, journal, channel, query, numbers, context)?;
@@ -105,6 +109,7 @@ fn group_rows(
         (answer_of query.now (snapshots script.now (told script.now (option_copied journal.entry))
         channel.now)).rows.rows) }
     ensures refused { IfOk result (λ rows. CountsRefused script.now rows.1) }
+    ensures counted { IfNone journal.entry (IfOk result (λ rows. is_some rows.1 ≡ true)) }
     ensures grows { Grows context.old context.new }
 {
     let mut fold = SnapshotFold::new(alloc, query, context)?;
@@ -134,6 +139,7 @@ fn fold_snapshots(
     ensures folded { OnOk result (HasFolded fold.new context.new
         (snapshots script.now (told script.now (option_copied journal.entry)) channel.now)) }
     ensures refused { IfOk result (CountsRefused script.now) }
+    ensures counted { IfNone journal.entry (IfOk result (λ counted. is_some counted ≡ true)) }
     ensures grows { Grows context.old context.new }
 {
     let refused = take_snapshots(alloc, script, journal, channel, numbers, context, fold)?;

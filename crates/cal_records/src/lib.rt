@@ -19,4 +19,4 @@ mod sorting;
 
 pub use globals::put_globals;
 pub use query::channel_query;
-pub use run::{run_records, run_serial, take_plain_run, take_run};
+pub use run::{run_records, take_plain_run, take_run};

@@ -1,8 +1,8 @@
 ghost use Rattle.std.specs.Prelude.{◌≡◌, true, ◌++◌, IfOk, OnOk};
+ghost use Rattle.cal_profile.specs.Groups.{agg_of, aggs_of, channel_query as query_of, value_aggs};
 ghost use Rattle.cal_ql.specs.Kernels.{first_of_each, result_name};
 ghost use Rattle.cal_ql.specs.Once.{with_all_new, with_new};
 ghost use Rattle.cal_ql.specs.Valid.{IsValidQuery};
-ghost use Rattle.cal_records.specs.Groups.{agg_of, aggs_of, channel_query as query_of, value_aggs};
 ghost use Rattle.cal_records.specs.Kept.{AreNamed};
 
 use cal_ql::{Agg, Format, KernelName, Query};

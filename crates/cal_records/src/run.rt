@@ -1,23 +1,20 @@
-ghost use Rattle.std.specs.Prelude.{◌≡◌, [], IfErr, IfOk, IfSome, OnOk, option_copied};
+ghost use Rattle.std.specs.Prelude.{◌≡◌, [], ◌||◌, true, IfNone, IfOk, IfSome, OnOk, is_some};
+ghost use Rattle.std.specs.Prelude.{option_copied};
 ghost use Rattle.cal_context.specs.Taking.{TakesMore};
 ghost use Rattle.cal_context.specs.Tree.{Grows};
 ghost use Rattle.cal_records.specs.Records.{channel_rows, records_of, run_rows, traced};
-ghost use Rattle.cal_records.specs.Told.{CountsRefused, told};
-ghost use Rattle.cal_run.specs.Broken.{IsLawfulText};
-ghost use Rattle.cal_run.specs.Checking.{IsRefusalOf};
+ghost use Rattle.cal_records.specs.Told.{CountsRefused, IsCounted, is_kept, told};
 ghost use Rattle.cal_run.specs.Numbers.{AreNumbered};
 ghost use Rattle.cal_run.specs.Plain.{plain};
 ghost use Rattle.cal_run.specs.Runs.{snapshots};
 ghost use Rattle.cal_run.specs.Seeing.{CanBeRead};
-ghost use Rattle.cal_valid.specs.Valid.{IsRunnable};
+ghost use Rattle.cal_script.specs.Valid.{IsRunnable};
 
 use crate::globals::put_globals;
 use crate::groups::take_groups;
 use cal_context::{Context, Taken, Taker, expand};
-use cal_run::{
-    CoreEnd, Numbers, check_journal, lawful_journal_law, take_channel, take_plain_channel,
-};
-use cal_script::{Channel, Journal, JournalText, Script};
+use cal_run::{Numbers, take_channel, take_plain_channel};
+use cal_script::{Channel, Journal, Script};
 use cal_value::{OutOfMemory, Records};
 use std::alloc::Global;
 
@@ -56,8 +53,8 @@ pub fn take_run<T: Taker>(
 }
 
 /// Hands the rows of the run of the threads one after another to a taker, as `take_run` does by the
-/// plain journal, of which nothing is kept. Gives how many lines were refused, where some channel
-/// has trace or aggregates.
+/// plain journal, of which nothing is kept. Gives how many lines were refused, exactly where some
+/// channel has trace or aggregates.
 pub fn take_plain_run<T: Taker>(
     alloc: Global,
     script: &Script,
@@ -72,6 +69,7 @@ pub fn take_plain_run<T: Taker>(
         (T.has_taken taker.new context.new)
         (run_rows script.now (plain script.now))) }
     ensures refused { IfOk result (CountsRefused script.now) }
+    ensures counted { IfOk result (IsCounted script.now) }
     ensures grows { Grows context.old context.new }
 {
     let mut refused = None;
@@ -86,7 +84,8 @@ pub fn take_plain_run<T: Taker>(
 fn either(script: &Script, first: Option<u64>, second: Option<u64>) -> Option<u64>
     requires first { CountsRefused script.now first }
     requires second { CountsRefused script.now second }
-    ensures { CountsRefused script.now result }
+    ensures refused { CountsRefused script.now result }
+    ensures counted { is_some result ≡ (is_some first || is_some second) }
 {
     let _ = script;
     match second {
@@ -114,6 +113,8 @@ fn take_rows_of<T: Taker>(
         (T.has_taken taker.new context.new)
         (channel_rows script.now (told script.now (option_copied journal.entry)) channel.now)) }
     ensures refused { IfOk result (CountsRefused script.now) }
+    ensures counted { IfNone journal.entry
+        (IfOk result (λ counted. is_some counted ≡ is_kept channel.now)) }
     ensures grows { Grows context.old context.new }
 {
     let traced = take_trace(alloc, script, journal, channel, numbers, context, taker)?;
@@ -139,6 +140,8 @@ fn take_trace<T: Taker>(
         (T.has_taken taker.new context.new)
         (traced script.now (told script.now (option_copied journal.entry)) channel.now)) }
     ensures refused { IfOk result (CountsRefused script.now) }
+    ensures counted { IfNone journal.entry
+        (IfOk result (λ counted. is_some counted ≡ channel.now.trace)) }
     ensures grows { Grows context.old context.new }
 {
     if !channel.trace {
@@ -167,6 +170,7 @@ pub(crate) fn take_snapshots<T: Taker>(
         (T.has_taken taker.new context.new)
         (snapshots script.now (told script.now (option_copied journal.entry)) channel.now)) }
     ensures refused { IfOk result (CountsRefused script.now) }
+    ensures counted { IfNone journal.entry (IfOk result (λ counted. is_some counted ≡ true)) }
     ensures grows { Grows context.old context.new }
 {
     match journal {
@@ -215,18 +219,4 @@ fn run_records_in(
         rows: taken.into_rows(),
         globals: expand(alloc, context, &globals)?,
     })
-}
-
-/// The records of a run whose journal was read, or the first rule that the journal breaks. It takes
-/// time in the lengths of all paths.
-pub fn run_serial(alloc: Global, script: &Script, text: &JournalText) -> Result<Records, CoreEnd>
-    requires { IsRunnable script.now }
-    ensures lawful { OnOk result (IsLawfulText script.now text.now) }
-    ensures records { IfOk result (λ records. records ≡ records_of script.now text.now.journal) }
-    ensures refused { IfErr result (IsRefusalOf script.now text.now) }
-{
-    check_journal(alloc, script, text)?;
-    lawful_journal_law();
-    let records = run_records(alloc, script, &text.journal)?;
-    Ok(records)
 }

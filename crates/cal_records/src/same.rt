@@ -1,5 +1,5 @@
 ghost use Rattle.std.specs.Prelude.{◌≡◌, true};
-ghost use Rattle.cal_records.specs.Groups.{grouping};
+ghost use Rattle.cal_profile.specs.Groups.{grouping};
 
 use cal_ql::{Agg, Format, KernelName, Query};
 use cal_value::{Seq, Text, same};

@@ -2,7 +2,7 @@ ghost use Rattle.std.specs.Prelude.{◌≡◌, ◌<◌, List, map, IfOk, IsTrue}
 ghost use Rattle.std.specs.List.{All, range_with_len};
 ghost use Rattle.cal_engine.specs.Making.{MakesRows};
 ghost use Rattle.cal_engine.specs.Sorting.{sorted};
-ghost use Rattle.cal_records.specs.Groups.{rows_cmp};
+ghost use Rattle.cal_profile.specs.Groups.{rows_cmp};
 ghost use Rattle.cal_records.specs.Ranks.{key_entry, numbers_cmp, order_of};
 ghost use Rattle.cal_rowset.specs.Answers.{nth_row};
 ghost use Rattle.cal_value.specs.Order.{entry_cmp, path_cmp};

@@ -26,6 +26,7 @@ done : (r : BoardReply) → is_accepted (Some (as_reply r)) ≡ true → r ≡ b
 done board.Done is = refl
 done (board.Mismatch top) is = cc
 done board.NotOpen is = cc
+done (board.TreeFull full) is = cc
 done board.TooDeep is = cc
 done board.SlotsFull is = cc
 

@@ -25,7 +25,7 @@ use Rattle.cal_board.specs.declared.opened.Opened.{Opened}
 use Rattle.cal_board.specs.declared.opened.Slot.{Slot}
 use Rattle.cal_board.specs.declared.reply.BoardReply as replies
 use Rattle.cal_board.specs.declared.reply.BoardReply.TheVariants.{Done, Mismatch, NotOpen, TooDeep}
-use Rattle.cal_board.specs.declared.reply.BoardReply.TheVariants.{SlotsFull}
+use Rattle.cal_board.specs.declared.reply.BoardReply.TheVariants.{SlotsFull, TreeFull}
 use Rattle.cal_context.proofs.ListLemmas.{length-IsFront}
 use Rattle.cal_context.specs.Tree.{Tree, Grows, value_at, no_value}
 use Rattle.cal_context.specs.declared.numbers.NodeNumber.{NodeNumber}
@@ -40,7 +40,7 @@ use Rattle.cal_script.specs.declared.journal.Placed.{Placed}
 use Rattle.cal_script.specs.declared.script.Line as lines
 use Rattle.cal_script.specs.declared.script.Line.TheVariants as line
 use Rattle.cal_script.specs.declared.script.Script.{Script}
-use Rattle.cal_valid.specs.Valid.{IsPlaced, IsRunnable}
+use Rattle.cal_script.specs.Valid.{IsPlaced, IsRunnable}
 use Rattle.cal_value.specs.declared.attribute.Attribute.{Attribute}
 use Rattle.cal_value.specs.declared.variant.Variant.{Variant}
 use Rattle.cal_words.specs.declared.op.OpCode as codes
@@ -175,6 +175,7 @@ module _ (script : Script) (b : Blackboard Variant) (is : IsKnown script b) wher
         by Done = changed-known c
         by (Mismatch t) = is
         by NotOpen = is
+        by (TreeFull full) = is
         by TooDeep = is
         by SlotsFull = is
 
@@ -269,7 +270,7 @@ module _ (t : Tree) (script : Script) (ns : Numbers) (is : AreNumbered t script 
 
   pub attributes-within : (a : ℕ) → a < length script.attributes → a < length t.attributes
   attributes-within a l = omega
-      (arith, l, length-IsFront script.attributes t.attributes is.attributes)
+      (arith, l, length-IsFront script.attributes t.attributes is.named.front)
 
 -- ---- an operation
 

@@ -1,6 +1,10 @@
 pub mod BehindLemmas
 pub mod HeldLemmas
 pub mod FillLemmas
+pub mod AddingLemmas
+pub mod FrontLemmas
+pub mod FitLemmas
+pub mod EntryLemmas
 pub mod NumberLemmas
 pub mod PlacedNumbers
 pub mod ServiceLemmas
@@ -13,14 +17,6 @@ pub mod LawLemmas
 pub mod OutlineLemmas
 pub mod PlainLemmas
 pub mod PlainLawLemmas
-pub mod BrokenLemmas
-pub mod RowLemmas
-pub mod OrderLemmas
-pub mod MergeLemmas
-pub mod WatchLemmas
-pub mod TellLemmas
-pub mod WalkLemmas
-pub mod FirstLemmas
 pub mod WalkingLemmas
 pub mod ScopeLemmas
 pub mod AcceptedLemmas

@@ -1,8 +1,8 @@
 -- Numbers stay what they are while the context grows, and one more is added to a list.
 use Rattle.std.proofs.Common.{◌≡◌, ℕ, suc, zero, ◌+◌, ◌<◌, List, [], ◌∷◌, ◌++◌, length, get_or}
 use Rattle.std.proofs.Common.{take, sym, ap, subst, ◌∙◌, inl, inr, arith}
-use Rattle.std.specs.List.{AllZip}
-use Rattle.std.proofs.lemmas.List.{length-take, map-append, take_more}
+use Rattle.std.specs.List.{AllZip, Contains}
+use Rattle.std.proofs.lemmas.List.{get_or-take, length-take-le, map-append, take_more}
 use Rattle.std.proofs.lemmas.List.Elements.{All-push}
 use Rattle.std.proofs.lemmas.Slice.Zip.{AllZip-long}
 use Rattle.std.proofs.lemmas.Option.{get_or_from_slice_get, slice_get_within}
@@ -16,30 +16,32 @@ use Rattle.cal_context.specs.Tree.{Tree, Grows, no_attribute, no_value, value_at
 use Rattle.cal_context.specs.declared.numbers.AttributeNumber.{AttributeNumber}
 use Rattle.cal_context.specs.declared.numbers.ValueNumber.{ValueNumber}
 use Rattle.cal_run.specs.Lines.{attribute_of}
-use Rattle.cal_run.specs.Numbers.{AreNumbered, EventsStand, IsNumber, ValuesStand}
+use Rattle.cal_run.specs.Numbers.{AreNamed, AreNumbered, EventsStand, IsNumber, ValuesStand}
 use Rattle.cal_run.specs.declared.numbers.EventNumbers.{EventNumbers}
 use Rattle.cal_run.specs.declared.numbers.Numbers.{Numbers}
+use Rattle.cal_script.specs.Valid.{AreDeclared}
 use Rattle.cal_script.specs.declared.script.Script.{Script}
 use Rattle.cal_value.specs.declared.attribute.Attribute.{Attribute}
 use Rattle.cal_value.specs.declared.variant.Variant.{Variant}
 
 -- what was added has its number
 pub IsNumber-added : (old new : Tree) (n : AttributeNumber) (a : Attribute)
-    → AddsAttribute old a new n → IsNumber new n a
+    → AddsAttribute old a new n → IsNumber new.attributes n a
 IsNumber-added old new n a added = record {
   within = slice_get_within new.attributes n.0 a added.attributes.number;
   is = get_or_from_slice_get new.attributes n.0 a no_attribute added.attributes.number;
 }
 
 module _ {old new : Tree} (grows : Grows old new) where
-  pub IsNumber-Grows : (n : AttributeNumber) (a : Attribute) → IsNumber old n a → IsNumber new n a
+  pub IsNumber-Grows : (n : AttributeNumber) (a : Attribute) → IsNumber old.attributes n a
+      → IsNumber new.attributes n a
   IsNumber-Grows n a is = record {
     within = within_attributes grows n.0 is.within;
     is = attribute_at-Grows grows n is.within ∙ is.is;
   }
 
-  pub EventsStand-Grows : (ns : EventNumbers) (a : Attribute) → EventsStand old ns a
-      → EventsStand new ns a
+  pub EventsStand-Grows : (ns : EventNumbers) (a : Attribute) → EventsStand old.attributes ns a
+      → EventsStand new.attributes ns a
   EventsStand-Grows ns a is = record {
     begin = IsNumber-Grows ns.begin _ is.begin;
     end = IsNumber-Grows ns.end _ is.end;
@@ -54,18 +56,24 @@ module _ {old new : Tree} (grows : Grows old new) where
     within = λ k d l. within_values grows _ (is.within k d l);
   }
 
-  pub AreNumbered-Grows : (script : Script) (ns : Numbers) → AreNumbered old script ns
-      → AreNumbered new script ns
-  AreNumbered-Grows script ns is = record {
-    attributes = IsFront-trans script.attributes old.attributes new.attributes is.attributes
+  pub AreNamed-Grows : (script : Script) (ns : Numbers) → AreNamed old.attributes script ns
+      → AreNamed new.attributes script ns
+  AreNamed-Grows script ns is = record {
+    front = IsFront-trans script.attributes old.attributes new.attributes is.front
         grows.attributes;
-    values = ValuesStand-Grows ns.values.items script.values is.values;
-    events = AllZip-weaken (EventsStand old) (EventsStand new) EventsStand-Grows ns.events.items
-        script.attributes is.events;
+    events = AllZip-weaken (EventsStand old.attributes) (EventsStand new.attributes)
+        EventsStand-Grows ns.events.items script.attributes is.events;
     duration = IsNumber-Grows ns.duration _ is.duration;
     inclusive = IsNumber-Grows ns.inclusive _ is.inclusive;
     depth = IsNumber-Grows ns.depth _ is.depth;
     count = IsNumber-Grows ns.count _ is.count;
+  }
+
+  pub AreNumbered-Grows : (script : Script) (ns : Numbers) → AreNumbered old script ns
+      → AreNumbered new script ns
+  AreNumbered-Grows script ns is = record {
+    named = AreNamed-Grows script ns is.named;
+    values = ValuesStand-Grows ns.values.items script.values is.values;
   }
 
   -- one value more
@@ -87,31 +95,35 @@ module _ {old new : Tree} (grows : Grows old new) where
   -- the events of one attribute more
   pub events_more : (ns : List EventNumbers) (n : EventNumbers) (a : Attribute)
       (xs : List Attribute) (i : ℕ)
-      → AllZip (EventsStand old) ns (take i xs) → EventsStand new n a → a ≡ get_or xs i a
-      → i < length xs
-      → AllZip (EventsStand new) (ns ++ n ∷ []) (take (i + 1) xs)
+      → AllZip (EventsStand old.attributes) ns (take i xs) → EventsStand new.attributes n a
+      → a ≡ get_or xs i a → i < length xs
+      → AllZip (EventsStand new.attributes) (ns ++ n ∷ []) (take (i + 1) xs)
   events_more ns n a xs i is made at below =
-      subst (AllZip (EventsStand new) (ns ++ n ∷ [])) (sym (take_more xs i a below))
-      (AllZip-append (EventsStand new) ns (n ∷ []) (take i xs) (get_or xs i a ∷ [])
-      (AllZip-weaken (EventsStand old) (EventsStand new) EventsStand-Grows ns (take i xs) is)
-      (subst (EventsStand new n) at made, tt))
+      let was = EventsStand old.attributes in
+      let now = EventsStand new.attributes in
+      subst (AllZip now (ns ++ n ∷ [])) (sym (take_more xs i a below))
+      (AllZip-append now ns (n ∷ []) (take i xs) (get_or xs i a ∷ [])
+      (AllZip-weaken was now EventsStand-Grows ns (take i xs) is)
+      (subst (now n) at made, tt))
 
--- one attribute more has its place as its number
+-- One attribute more of some whose names are apart has its place as its number.
 pub placed_more : (old new : Tree) (n : AttributeNumber) (a : Attribute) (xs : List Attribute)
     (i : ℕ)
-    → old.attributes ≡ take i xs → AddsAttribute old a new n → n.0 ≡ i → a ≡ get_or xs i a
+    → AreDeclared xs → old.attributes ≡ take i xs → AddsAttribute old a new n → a ≡ get_or xs i a
     → i < length xs
     → new.attributes ≡ take (i + 1) xs
-placed_more old new n a xs i is added number at below = by added.attributes.adds
+placed_more old new n a xs i declared is added at below = by added.attributes.adds
   where
-    long : length old.attributes ≡ i
-    long = (let e = ap length is in let m = length-take i xs in omega (arith, e, m, below))
+    apart : Contains old.attributes a → ⊥
+    apart there =
+        let long : length old.attributes ≡ i = ap length is ∙ length-take-le i xs (omega arith) in
+        let before : there.0 < i = omega (arith, there.1, long) in
+        let found : get_or xs there.0 a ≡ a =
+        sym (get_or-take i xs there.0 a before) ∙ ap (λ ys. get_or ys there.0 a) (sym is) ∙ there.2 in
+        declared.apart there.0 i a before below (ap (λ (b : Attribute). b.name) (found ∙ at))
 
     by : Adds old.attributes a new.attributes → new.attributes ≡ take (i + 1) xs
-    by (inl same) =
-        let within = slice_get_within new.attributes n.0 a added.attributes.number in
-        let e = ap length same.1 in
-        absurd (omega (arith, within, e, long, number))
+    by (inl same) = absurd (apart same.0)
     by (inr more) = more.1 ∙ (λ j. is j ++ at j ∷ []) ∙ sym (take_more xs i a below)
 
 -- what holds of two lists place by place holds at a place
@@ -123,13 +135,3 @@ module _ {A B : Type 0} where
   all_zip-at R (x ∷ xs) [] i d e z l = absurd z
   all_zip-at R (x ∷ xs) (y ∷ ys) zero d e z l = z.0
   all_zip-at R (x ∷ xs) (y ∷ ys) (suc i) d e z l = all_zip-at R xs ys i d e z.1 (omega (arith, l))
-
--- the attributes of an attribute's events
-pub events-at : (t : Tree) (script : Script) (ns : Numbers) (i : ℕ) (e : EventNumbers)
-    → AreNumbered t script ns
-    → i < length script.attributes
-    → EventsStand t (get_or ns.events.items i e) (attribute_of script i)
-events-at t script ns i e is below =
-    let long = AllZip-long (EventsStand t) ns.events.items script.attributes is.events in
-    all_zip-at (EventsStand t) ns.events.items script.attributes i e no_attribute is.events
-    (omega (arith, below, long))

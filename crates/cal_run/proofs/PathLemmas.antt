@@ -43,7 +43,7 @@ use Rattle.cal_script.specs.declared.journal.Placed.{Placed}
 use Rattle.cal_script.specs.declared.script.Line as lines
 use Rattle.cal_script.specs.declared.script.Line.TheVariants as line
 use Rattle.cal_script.specs.declared.script.Script.{Script}
-use Rattle.cal_valid.specs.Valid.{IsPlaced, IsRunnable}
+use Rattle.cal_script.specs.Valid.{IsPlaced, IsRunnable}
 use Rattle.cal_value.specs.ExactOrder.{exact_decides, exact_equiv}
 use Rattle.cal_value.specs.Order.{path_cmp}
 use Rattle.cal_value.specs.OrderLaws.{path_exact}
@@ -252,6 +252,7 @@ if-refused : (r : boards.BoardReply) (new old : Blackboard Variant)
 if-refused board.Done new old refused = absurd (true≢false refused)
 if-refused (board.Mismatch top) new old refused = refl
 if-refused board.NotOpen new old refused = refl
+if-refused (board.TreeFull full) new old refused = refl
 if-refused board.TooDeep new old refused = refl
 if-refused board.SlotsFull new old refused = refl
 

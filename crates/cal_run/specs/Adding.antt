@@ -1,34 +1,70 @@
 -- What is added to the immediates of a snapshot by numbers.
-use Rattle.std.specs.Prelude.{◌≡◌, ◌<◌, List, ◌++◌, length, map, All, Option, Some, None}
-use Rattle.cal_context.specs.Snapshots.{entry_of}
-use Rattle.cal_context.specs.Tree.{Tree}
+use Rattle.std.specs.Prelude.{◌≡◌, ℕ, ◌<◌, List, ◌++◌, length, map, All, Option, Some, None}
+use Rattle.std.specs.Prelude.{slice_get}
+use Rattle.cal_context.specs.Tree.{no_value}
 use Rattle.cal_context.specs.declared.snapshot.Immediate.{Immediate}
 use Rattle.cal_board.specs.Blackboard.{Blackboard}
+use Rattle.cal_board.specs.PathBoards.{last_opened}
+use Rattle.cal_board.specs.declared.opened.Opened.{Opened}
 use Rattle.cal_run.specs.Held.{Accepts, HasPlaces, Shows}
+use Rattle.cal_run.specs.Numbers.{AreNamed, attribute_in}
 use Rattle.cal_run.specs.Snapshots.{Sight}
 use Rattle.cal_run.specs.declared.moment.Moment.{Moment}
+use Rattle.cal_run.specs.declared.numbers.Numbers.{Numbers}
 use Rattle.cal_run.specs.declared.operation.Operation.{Operation}
+use Rattle.cal_run.specs.declared.sink.EventValue as event_values
+use Rattle.cal_run.specs.declared.sink.EventValue.TheVariants as event_value
 use Rattle.cal_script.specs.declared.script.Script.{Script}
+use Rattle.cal_value.specs.declared.attribute.Attribute.{Attribute}
 use Rattle.cal_value.specs.declared.attribute.Entry.{Entry}
+use Rattle.cal_value.specs.declared.variant.Variant.{Variant}
 
--- the attribute of each immediate is one of the context
-abbrev pub AreWithin : Tree → List Immediate → Type 0
-AreWithin t imms = All (λ (i : Immediate). i.attribute.0 < length t.attributes) imms
+-- ---- what is added
+
+-- the entry that an immediate means, by the attributes of its number
+abbrev pub entry_by : List Attribute → Immediate → Entry
+entry_by attributes i = record { attr = attribute_in attributes i.attribute; value = i.value }
+
+-- the attribute of each immediate is one of these
+abbrev pub AreWithin : List Attribute → List Immediate → Type 0
+AreWithin attributes imms = All (λ (i : Immediate). i.attribute.0 < length attributes) imms
 
 -- Immediates that mean these entries were added.
-pub record AddsEntries (t : Tree) (old new : List Immediate) (more : List Entry) : Type 0 where
-  pub within : AreWithin t old → AreWithin t new
-  pub means : map (entry_of t) new ≡ map (entry_of t) old ++ more
+pub record AddsEntries (attributes : List Attribute) (old new : List Immediate) (more : List Entry)
+    : Type 0 where
+  pub within : AreWithin attributes old → AreWithin attributes new
+  pub means : map (entry_by attributes) new ≡ map (entry_by attributes) old ++ more
 
--- a moment shows something
-abbrev pub ShowsSome : Tree → Script → Moment → Type 0
-ShowsSome t script moment = (s : Sight) × Shows t script moment s
+-- the value that an event shows: one of a script's, by its place, or another one, or none, which is
+-- shown as false
+abbrev pub IsEventValue : List Variant → event_values.EventValue → Variant → Type 0
+IsEventValue values (event_value.Opened place) v = slice_get values place ≡ Some v
+IsEventValue values (event_value.Lent value) v = value.now ≡ v
+IsEventValue values event_value.Absent v = no_value ≡ v
 
--- whatever the moment shows, the entries that are found in it were added
-abbrev pub AddsShown : Tree → Script → Moment → (old new : List Immediate) → (Sight → List Entry)
-    → Type 0
-AddsShown t script moment old new entries =
-    (s : Sight) → Shows t script moment s → AddsEntries t old new (entries s)
+-- the last of open values, of which there are some, is shown
+pub record IsLastShown (values : List Variant) (path : List (Opened Variant))
+    (shown : event_values.EventValue) : Type 0 where
+  pub last : Opened Variant
+  pub is_last : last_opened path ≡ Some last
+  pub value : IsEventValue values shown last.value
+
+-- ---- what a moment shows
+
+module _ {N : Type 0} (is_node : N → List (Opened Variant) → Type 0) (script : Script) where
+  -- a moment shows something
+  abbrev pub ShowsSome : Moment N → Type 0
+  ShowsSome moment = (s : Sight) × Shows is_node script moment s
+
+  -- Whatever the moment shows, the entries that are found in it were added, by whatever attributes
+  -- the numbers are of.
+  abbrev pub AddsShown : Numbers → Moment N → (old new : List Immediate) → (Sight → List Entry)
+      → Type 0
+  AddsShown numbers moment old new entries =
+      (attributes : List Attribute) → AreNamed attributes script numbers
+      → (s : Sight) → Shows is_node script moment s → AddsEntries attributes old new (entries s)
+
+-- ---- operations
 
 -- the operation, if there is one, has its places
 abbrev pub MayHavePlaces : Script → Option Operation → Type 0

@@ -4,6 +4,7 @@ use Rattle.cal_board.specs.Blackboard.{Blackboard, reply_to}
 use Rattle.cal_board.specs.Contexts.{NodeStands}
 use Rattle.cal_board.specs.PathBoards.{AreKnown}
 use Rattle.cal_board.specs.Standing.{Stands}
+use Rattle.cal_board.specs.declared.opened.Opened.{Opened}
 use Rattle.cal_board.specs.declared.opened.Slot.{Slot}
 use Rattle.cal_board.specs.declared.reply.BoardReply.TheVariants as reply
 use Rattle.cal_context.specs.Tree.{Tree}
@@ -39,11 +40,15 @@ pub record IsKnown (script : Script) (b : Blackboard Variant) : Type 0 where
   pub references : All (λ (s : Slot Variant). AreKnown script.attributes s.opened) b.references
   pub as_values : All (λ (s : Slot Variant). AreKnown script.attributes s.opened) b.as_values
 
--- A board of nodes stands for this board.
-pub record Holds (t : Tree) (script : Script) (held : Blackboard NodeNumber)
-    (b : Blackboard Variant) : Type 0 where
-  pub stands : Stands (NodeStands t) held b
+-- A board of nodes stands for this board, by which open values a node stands for.
+pub record HoldsBy {N : Type 0} (is_node : N → List (Opened Variant) → Type 0) (script : Script)
+    (held : Blackboard N) (b : Blackboard Variant) : Type 0 where
+  pub stands : Stands is_node held b
   pub known : IsKnown script b
+
+-- the nodes are those of a context
+abbrev pub Holds : Tree → Script → Blackboard NodeNumber → Blackboard Variant → Type 0
+Holds t script held b = HoldsBy (NodeStands t) script held b
 
 -- for some board
 abbrev pub HoldsSome : Tree → Script → Blackboard NodeNumber → Type 0
@@ -62,9 +67,10 @@ pub record IsProcess (t : Tree) (script : Script) (history : List Placed) (p : P
   pub within : p.count ≤ length history
 
 -- what a moment shows is what a snapshot sees
-pub record Shows (t : Tree) (script : Script) (m : Moment) (s : Sight) : Type 0 where
-  pub mine : Holds t script m.board.now s.mine
-  pub process : Holds t script m.process.now s.process
+pub record Shows {N : Type 0} (is_node : N → List (Opened Variant) → Type 0) (script : Script)
+    (m : Moment N) (s : Sight) : Type 0 where
+  pub mine : HoldsBy is_node script m.board.now s.mine
+  pub process : HoldsBy is_node script m.process.now s.process
   pub readings : m.timed ≡ true → m.readings.now ≡ s.readings
   pub reading : m.reading ≡ s.reading
   pub previous : m.previous ≡ s.previous

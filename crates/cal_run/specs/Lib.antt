@@ -4,8 +4,6 @@ pub mod Snapshots
 pub mod Steps
 pub mod Runs
 pub mod Lawful
-pub mod Broken
-pub mod Checking
 pub mod Numbers
 pub mod Held
 pub mod Adding
@@ -20,3 +18,4 @@ pub mod Holding
 pub mod Counting
 pub mod Refused
 pub mod Walking
+pub mod Entries

@@ -28,3 +28,7 @@ pub record CanBeRead (script : Script) (journal : Journal) : Type 0 where
   pub shape : HasShape script journal
   pub order : All (λ (t : List Line × ThreadNote).
       SeesInOrder script journal.ops 0 (zip t.0 t.1.lines)) (zip script.threads journal.threads)
+
+-- each of these lines has seen at most so much
+abbrev pub HaveSeen : ℕ → List (Line × LineNote) → Type 0
+HaveSeen count ls = All (λ (l : Line × LineNote). l.1.seen ≤ count) ls

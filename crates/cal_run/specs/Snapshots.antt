@@ -1,8 +1,8 @@
 -- What a snapshot of a channel has, in the order of its parts. (After Caliper; the order and the
 -- services' entries are Giltmoth's.)
-use Rattle.std.specs.Prelude.{ℕ, ◌-◌, Bool, List, [], ◌∷◌, ◌++◌, map, sum, codes, not}
+use Rattle.std.specs.Prelude.{ℕ, ◌-◌, ◌<◌, ◌≤◌, Bool, List, [], ◌∷◌, ◌++◌, map, sum, codes, not}
 use Rattle.std.specs.Prelude.{if◌then◌else◌, ◌&&◌, true, false, Option, Some, None, option_map}
-use Rattle.std.specs.Prelude.{slice_index_or, unwrap_or}
+use Rattle.std.specs.Prelude.{All, length, slice_index_or, unwrap_or}
 use Rattle.cal_board.specs.Blackboard.{Blackboard, depths}
 use Rattle.cal_board.specs.PathBoards.{entries_of, last_at, last_entries}
 use Rattle.cal_board.specs.declared.opened.Opened.{Opened}
@@ -57,6 +57,12 @@ numbered attribute n = record { attr = attribute; value = variant.Uint n }
 abbrev pub probe_value : probes.ProbeKind → List ℕ → ℕ
 probe_value probe.Depth depths = slice_index_or depths 0 0
 probe_value probe.Count depths = sum depths
+
+-- the depths on which a probe may be asked: of 1 to 65 slots, with at most 128 values each
+pub record CanBeAsked (depths : List ℕ) : Type 0 where
+  pub some : 0 < length depths
+  pub few : length depths ≤ 65
+  pub each : All (λ depth. depth ≤ 128) depths
 
 -- ---- what a snapshot sees
 

@@ -36,11 +36,12 @@ pub record ThreadState : Type 0 where
 abbrev pub at_start : ThreadState
 at_start = record { board = nothing_open; readings = []; clock = 0 }
 
--- a board's reply as a line's
+-- A board's reply as a line's. No board of a run says that a tree is full.
 abbrev pub as_reply : boards.BoardReply → replies.Reply
 as_reply board.Done = reply.Done
 as_reply (board.Mismatch top) = reply.Mismatch top
 as_reply board.NotOpen = reply.NotOpen
+as_reply (board.TreeFull full) = reply.SlotsFull
 as_reply board.TooDeep = reply.TooDeep
 as_reply board.SlotsFull = reply.SlotsFull
 

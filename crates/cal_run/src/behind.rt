@@ -9,7 +9,7 @@ ghost use Rattle.cal_run.specs.Numbers.{AreNumbered};
 ghost use Rattle.cal_run.specs.Plain.{plain_history};
 ghost use Rattle.cal_run.specs.Steps.{ThreadState};
 ghost use Rattle.cal_run.specs.Timers.{AreTimers};
-ghost use Rattle.cal_valid.specs.Valid.{IsPlaced, IsRunnable};
+ghost use Rattle.cal_script.specs.Valid.{IsPlaced, IsRunnable};
 
 use crate::Numbers;
 use crate::drafts::Drafts;

@@ -1,106 +1,98 @@
-ghost use Rattle.std.specs.Prelude.{◌≡◌, Some, option_copied, option_map, unwrap_or};
 ghost use Rattle.cal_board.specs.Blackboard.{Blackboard};
 ghost use Rattle.cal_board.specs.Contexts.{NodeStands};
-ghost use Rattle.cal_board.specs.PathBoards.{last_at};
-ghost use Rattle.cal_board.specs.Standing.{Stands};
-ghost use Rattle.cal_board.specs.declared.opened.Opened.{Opened};
-ghost use Rattle.cal_context.specs.Children.{IsLinked};
-ghost use Rattle.cal_context.specs.Snapshots.{IsBelowRoot};
-ghost use Rattle.cal_context.specs.Tree.{no_value, value_at};
-ghost use Rattle.cal_context.specs.declared.numbers.Link as links;
-ghost use Rattle.cal_run.specs.Held.{Holds, HoldsSome};
-ghost use Rattle.cal_run.specs.Lines.{value_of};
+ghost use Rattle.cal_board.specs.Standing.{Stands, StandsForSome};
+ghost use Rattle.cal_run.specs.Adding.{IsEventValue, IsLastShown};
+ghost use Rattle.cal_run.specs.Held.{HasPlaces};
 ghost use Rattle.cal_run.specs.Snapshots.{closed_on, value_on};
 ghost use Rattle.cal_value.specs.declared.variant.Variant as variants;
 
 use crate::Operation;
 use crate::lines::attr_ref;
-use cal_board::{AttrRef, Board};
+use crate::sink::EventValue;
+use cal_board::Board;
 use cal_context::{Context, NodeNumber};
 use cal_script::Script;
-use cal_value::Variant;
 use cal_words::OpCode;
 
-/// The value of an event, by the board that its operation acts on, if there is one.
-#[inline(always)]
-pub(crate) fn event_value<'a>(
-    script: &'a Script,
-    op: Operation,
-    board: &'a Board<NodeNumber>,
-    context: &'a Context,
-) -> Option<&'a Variant>
-    requires { HoldsSome context.now script.now board.now }
-    ensures { (b : Blackboard variants.Variant)
-        → Holds context.now script.now board.now b
-        → unwrap_or (option_copied result) no_value ≡ value_on script.now b op.code op }
-{
-    match op.code {
-        OpCode::Begin => opened_value(script, op),
-        OpCode::Set => opened_value(script, op),
-        OpCode::End => closed_value(script, op, board, context),
+/// Whoever knows the values for which the nodes of boards stand.
+pub trait NodeValues<N> {
+    ghost use Rattle.std.specs.Prelude.{List};
+    ghost use Rattle.cal_board.specs.declared.opened.Opened.{Opened};
+    ghost use Rattle.cal_value.specs.declared.variant.Variant.{Variant};
+
+    // whether a node stands for these open values, the outermost first
+    ghost is_node: { Self → N → List (Opened Variant) → Type 0 };
+
+    // whether places are those of these values, which are a script's
+    ghost has_values: { Self → List Variant → Type 0 };
+
+    /// The last of the open values for which a node stands.
+    fn last_value<'a>(&'a self, node: &'a N) -> EventValue<'a>
+        requires { (path : List (Opened Variant)) × is_node self.now node.now path }
+        ensures { (values : List Variant) → has_values self.now values
+            → (path : List (Opened Variant)) → is_node self.now node.now path
+            → IsLastShown values path result };
+}
+
+/// A context lends the value of a node's own entry.
+impl NodeValues<NodeNumber> for Context {
+    ghost is_node = { NodeStands };
+
+    ghost has_values = { λ _ _. Unit {0} };
+
+    #[inline(always)]
+    fn last_value<'a>(&'a self, node: &'a NodeNumber) -> EventValue<'a> {
+        match self.link(*node) {
+            None => EventValue::Absent,
+            Some(link) => EventValue::Lent(self.value_at(link.value)),
+        }
     }
 }
 
-/// The value that an operation opens.
+/// The value of an event, by the board that its operation acts on.
 #[inline(always)]
-fn opened_value(script: &Script, op: Operation) -> Option<&Variant>
-    ensures { unwrap_or (option_copied result) no_value ≡ value_of script.now op }
+pub(crate) fn event_value<'a, N, V: NodeValues<N>>(
+    script: &Script,
+    op: Operation,
+    board: &'a Board<N>,
+    nodes: &'a V,
+) -> EventValue<'a>
+    requires places { HasPlaces script.now op }
+    requires stands { StandsForSome (V.is_node nodes.now) board.now }
+    requires values { V.has_values nodes.now script.now.values }
+    ensures { (b : Blackboard variants.Variant) → Stands (V.is_node nodes.now) board.now b
+        → IsEventValue script.now.values result (value_on script.now b op.code op) }
 {
-    match script.values.get(op.value as usize) {
-        Some(value) => Some(value),
-        None => None,
+    match op.code {
+        OpCode::Begin => EventValue::Opened(op.value),
+        OpCode::Set => EventValue::Opened(op.value),
+        OpCode::End => closed_value(script, op, board, nodes),
     }
 }
 
 /// The value that an operation closes on a board.
 #[inline(always)]
-fn closed_value<'a>(
-    script: &'a Script,
+fn closed_value<'a, N, V: NodeValues<N>>(
+    script: &Script,
     op: Operation,
-    board: &'a Board<NodeNumber>,
-    context: &'a Context,
-) -> Option<&'a Variant>
-    requires { HoldsSome context.now script.now board.now }
-    ensures { (b : Blackboard variants.Variant)
-        → Holds context.now script.now board.now b
-        → unwrap_or (option_copied result) no_value ≡ closed_on script.now b op }
+    board: &'a Board<N>,
+    nodes: &'a V,
+) -> EventValue<'a>
+    requires stands { StandsForSome (V.is_node nodes.now) board.now }
+    requires values { V.has_values nodes.now script.now.values }
+    ensures { (b : Blackboard variants.Variant) → Stands (V.is_node nodes.now) board.now b
+        → IsEventValue script.now.values result (closed_on script.now b op) }
 {
-    match last_value(board, attr_ref(script, op.attr), context) {
-        Some(value) => Some(value),
-        None => None,
-    }
-}
-
-/// The last value in an attribute's slot.
-#[inline(always)]
-fn last_value<'a>(
-    board: &'a Board<NodeNumber>,
-    attr: AttrRef,
-    context: &'a Context,
-) -> Option<&'a Variant>
-    requires { (b : Blackboard variants.Variant) × Stands (NodeStands context.now) board.now b }
-    ensures { (b : Blackboard variants.Variant) → Stands (NodeStands context.now) board.now b
-        → option_copied result
-        ≡ option_map (λ (o : Opened variants.Variant). o.value) (last_at b attr) }
-{
+    let attr = attr_ref(script, op.attr);
     if attr.as_value {
-        return board.last_immediate(attr);
-    }
-    match board.last_node(attr) {
-        None => None,
-        Some(node) => node_value(*node, context),
-    }
-}
-
-/// The value of a node's own entry.
-#[inline(always)]
-fn node_value<'a>(node: NodeNumber, context: &'a Context) -> Option<&'a Variant>
-    requires { IsBelowRoot context.now node }
-    ensures { (link : links.Link) × IsLinked context.now link node
-        × (option_copied result ≡ Some (value_at context.now link.value)) }
-{
-    match context.link(node) {
-        None => None,
-        Some(link) => Some(context.value_at(link.value)),
+        match board.last_immediate(attr) {
+            Some(value) => EventValue::Lent(value),
+            None => EventValue::Absent,
+        }
+    } else {
+        match board.last_node(attr) {
+            Some(node) => nodes.last_value(node),
+            None => EventValue::Absent,
+        }
     }
 }

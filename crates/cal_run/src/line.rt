@@ -11,7 +11,7 @@ ghost use Rattle.cal_run.specs.Snapshots.{Sight, snapshot_of};
 ghost use Rattle.cal_run.specs.Steps.{ThreadState, is_accepted, readings_changed, reply_to_line};
 ghost use Rattle.cal_run.specs.Steps.{seen_before};
 ghost use Rattle.cal_run.specs.Threads.{CanRun, IsSomeThread, IsThread, RunsLine, ShowsThread};
-ghost use Rattle.cal_valid.specs.Valid.{IsPlaced, IsRunnable};
+ghost use Rattle.cal_script.specs.Valid.{IsPlaced, IsRunnable};
 
 use crate::boards::operate_accepted;
 use crate::drafts::Drafts;

@@ -9,7 +9,7 @@ ghost use Rattle.cal_run.specs.Noting.{HoldsPlaced, IsNoted, IsPlain, IsSomePlai
 ghost use Rattle.cal_run.specs.Noting.{OutlinesThen, before_after};
 ghost use Rattle.cal_run.specs.Plain.{notes_from, plain_history};
 ghost use Rattle.cal_run.specs.Steps.{ThreadState, at_start};
-ghost use Rattle.cal_valid.specs.Valid.{IsPlaced, IsRunnable};
+ghost use Rattle.cal_script.specs.Valid.{IsPlaced, IsRunnable};
 
 use crate::lines::is_process_line;
 use crate::note::{found_reply, note_of};

@@ -4,6 +4,7 @@ ghost use Rattle.cal_context.specs.Lists.{IsFront};
 ghost use Rattle.cal_context.specs.Tree.{Grows};
 ghost use Rattle.cal_run.specs.Numbers.{AreNumbered, EventsStand, IsNumber, ValuesStand, number_in};
 ghost use Rattle.cal_run.specs.Snapshots.{added, event_name, event_of};
+ghost use Rattle.cal_script.specs.Valid.{AreDeclared, IsRunnable};
 ghost use Rattle.cal_value.specs.declared.kind.Kind.TheVariants as kind;
 
 use cal_context::{AttributeNumber, Context, ValueNumber};
@@ -38,11 +39,10 @@ const ADDED: Props = Props(65);
 
 impl Numbers {
     /// Gives each attribute and value of a script its number in a context without attributes, and
-    /// each attribute that a service may add. An attribute that stands twice in the script, as none
-    /// of a valid one does, is answered as want of memory is. An `Err` may leave some in the
-    /// context.
+    /// each attribute that a service may add. An `Err` may leave some in the context.
     pub fn of(alloc: Global, script: &Script, context: &mut Context) -> Result<Numbers, OutOfMemory>
-        requires { context.old.attributes ≡ [] }
+        requires runnable { IsRunnable script.now }
+        requires none { context.old.attributes ≡ [] }
         ensures numbered { IfOk result (AreNumbered context.new script.now) }
         ensures grows { Grows context.old context.new }
     {
@@ -79,15 +79,13 @@ impl Numbers {
 
 /// Gives each attribute its place as its number.
 fn place_attributes(attributes: &[Attribute], context: &mut Context) -> Result<(), OutOfMemory>
-    requires { context.old.attributes ≡ [] }
+    requires declared { AreDeclared attributes.now }
+    requires none { context.old.attributes ≡ [] }
     ensures placed { OnOk result (context.new.attributes ≡ attributes.now) }
     ensures grows { Grows context.old context.new }
 {
-    for (place, attribute) in attributes.iter().enumerate() {
-        let number = context.attribute(attribute)?;
-        if number.0 as usize != place {
-            return Err(OutOfMemory);
-        }
+    for attribute in attributes {
+        context.attribute(attribute)?;
     }
     Ok(())
 }
@@ -144,7 +142,7 @@ fn number_events(
     context: &mut Context,
 ) -> Result<Vec<EventNumbers>, OutOfMemory>
     ensures numbered { IfOk result
-        (λ numbers. AllZip (EventsStand context.new) numbers.items attributes.now) }
+        (λ numbers. AllZip (EventsStand context.new.attributes) numbers.items attributes.now) }
     ensures grows { Grows context.old context.new }
 {
     let mut numbers = Vec::with_capacity(alloc, attributes.len())?;
@@ -159,7 +157,7 @@ fn number_events_of(
     attribute: &Attribute,
     context: &mut Context,
 ) -> Result<EventNumbers, OutOfMemory>
-    ensures numbered { IfOk result (λ numbers. EventsStand context.new numbers attribute.now) }
+    ensures numbered { IfOk result (λ numbers. EventsStand context.new.attributes numbers attribute.now) }
     ensures grows { Grows context.old context.new }
 {
     let begin = number_event(alloc, OpCode::Begin, attribute, context)?;
@@ -174,7 +172,7 @@ fn number_event(
     attribute: &Attribute,
     context: &mut Context,
 ) -> Result<AttributeNumber, OutOfMemory>
-    ensures numbered { IfOk result (λ n. IsNumber context.new n (event_of code attribute.now)) }
+    ensures numbered { IfOk result (λ n. IsNumber context.new.attributes n (event_of code attribute.now)) }
     ensures grows { Grows context.old context.new }
 {
     let mut name = Text::from_str(alloc, event_name(code))?;
@@ -197,7 +195,7 @@ fn number_uint(
     name: &str,
     context: &mut Context,
 ) -> Result<AttributeNumber, OutOfMemory>
-    ensures numbered { IfOk result (λ n. IsNumber context.new n (added name.now kind.Uint)) }
+    ensures numbered { IfOk result (λ n. IsNumber context.new.attributes n (added name.now kind.Uint)) }
     ensures grows { Grows context.old context.new }
 {
     number_added(Text::from_str(alloc, name)?, Kind::Uint, context)
@@ -209,7 +207,7 @@ fn number_added(
     kind: Kind,
     context: &mut Context,
 ) -> Result<AttributeNumber, OutOfMemory>
-    ensures numbered { IfOk result (λ n. IsNumber context.new n (added name kind)) }
+    ensures numbered { IfOk result (λ n. IsNumber context.new.attributes n (added name kind)) }
     ensures grows { Grows context.old context.new }
 {
     context.attribute(&Attribute {

@@ -28,6 +28,12 @@ impl<'a> NodeMaker<&'a Variant, Nothing> for Outliner {
 
     ghost grows = { λ _ _. Unit {0} };
 
+    ghost adds = { λ _ _ _. Unit {0} };
+
+    ghost refuses = { λ _ _ _ _ _. ⊥ };
+
+    ghost is_plain = { λ _ _. ⊥ };
+
     ghost same = { λ _. tt };
 
     ghost stays = { λ _ _ _ _ _ is. is };

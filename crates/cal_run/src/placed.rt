@@ -2,7 +2,7 @@ ghost use Rattle.std.specs.Prelude.{◌≡◌, ◌+◌, ◌<◌, length, OnOk};
 ghost use Rattle.cal_board.specs.Blackboard.{nothing_open};
 ghost use Rattle.cal_run.specs.History.{board_placed, placed_operation};
 ghost use Rattle.cal_run.specs.Noting.{HoldsPlaced, OutlinesSome, OutlinesThen};
-ghost use Rattle.cal_valid.specs.Valid.{IsRunnable};
+ghost use Rattle.cal_script.specs.Valid.{IsRunnable};
 
 use crate::outline::{Nothing, operate_outline};
 use crate::process::{placed_at, placed_operation};

@@ -4,7 +4,7 @@ ghost use Rattle.std.specs.List.{list_any};
 ghost use Rattle.cal_run.specs.Lines.{is_process_line};
 ghost use Rattle.cal_run.specs.Plain.{placed_lines, plain_history};
 ghost use Rattle.cal_script.specs.declared.script.Line as lines_of;
-ghost use Rattle.cal_valid.specs.Valid.{IsRunnable};
+ghost use Rattle.cal_script.specs.Valid.{IsRunnable};
 ghost use Rattle.cal_value.specs.Props.{has_process_scope};
 
 use crate::lines::is_process_line;

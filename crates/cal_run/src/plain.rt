@@ -1,7 +1,7 @@
 ghost use Rattle.std.specs.Prelude.{◌≡◌, IfOk, Some, None, if◌then◌else◌};
 ghost use Rattle.cal_run.specs.Lawful.{takes_start_reading};
 ghost use Rattle.cal_run.specs.Plain.{plain, plain_history, threads_from};
-ghost use Rattle.cal_valid.specs.Valid.{IsRunnable};
+ghost use Rattle.cal_script.specs.Valid.{IsRunnable};
 
 use crate::noting::note_lines;
 use crate::placed::PlacedProcess;

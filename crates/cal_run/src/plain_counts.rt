@@ -4,7 +4,7 @@ ghost use Rattle.cal_run.specs.Numbers.{AreNumbered};
 ghost use Rattle.cal_run.specs.Paths.{nodes};
 ghost use Rattle.cal_run.specs.Plain.{plain};
 ghost use Rattle.cal_run.specs.Runs.{snapshots};
-ghost use Rattle.cal_valid.specs.Valid.{IsRunnable};
+ghost use Rattle.cal_script.specs.Valid.{IsRunnable};
 
 use crate::Numbers;
 use crate::placing::plain_history;

@@ -8,7 +8,7 @@ ghost use Rattle.cal_run.specs.Plain.{plain, plain_history};
 ghost use Rattle.cal_run.specs.Refused.{is_refused, refused_in};
 ghost use Rattle.cal_run.specs.Runs.{snapshots};
 ghost use Rattle.cal_run.specs.Steps.{at_start};
-ghost use Rattle.cal_valid.specs.Valid.{IsPlaced, IsRunnable};
+ghost use Rattle.cal_script.specs.Valid.{IsPlaced, IsRunnable};
 
 use crate::Numbers;
 use crate::behind::Behind;

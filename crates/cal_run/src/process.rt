@@ -5,7 +5,7 @@ ghost use Rattle.cal_run.specs.Held.{HoldsSome, HoldsThen, IsProcess};
 ghost use Rattle.cal_run.specs.History.{board_placed, placed_operation};
 ghost use Rattle.cal_run.specs.Numbers.{AreNumbered};
 ghost use Rattle.cal_script.specs.declared.journal.Placed as places;
-ghost use Rattle.cal_valid.specs.Valid.{IsRunnable};
+ghost use Rattle.cal_script.specs.Valid.{IsRunnable};
 
 use crate::boards::operate;
 use crate::lines::line_at;

@@ -6,7 +6,7 @@ ghost use Rattle.cal_run.specs.Runs.{snapshots, taken_by_thread};
 ghost use Rattle.cal_run.specs.Seeing.{CanBeRead, SeesInOrder};
 ghost use Rattle.cal_script.specs.declared.journal.LineNote as line_notes;
 ghost use Rattle.cal_script.specs.declared.script.Line as script_lines;
-ghost use Rattle.cal_valid.specs.Valid.{IsPlaced, IsRunnable};
+ghost use Rattle.cal_script.specs.Valid.{IsPlaced, IsRunnable};
 
 use crate::Numbers;
 use crate::drafts::Drafts;
@@ -111,7 +111,7 @@ fn take_thread<T: Taker>(
 }
 
 /// The line at a place, with its note.
-pub(crate) fn noted_at(lines: &[Line], notes: &[LineNote], place: usize) -> (Line, LineNote)
+pub fn noted_at(lines: &[Line], notes: &[LineNote], place: usize) -> (Line, LineNote)
     requires line { place < length lines.now }
     requires note { place < length notes.now }
     ensures line { (d : script_lines.Line) → result.0 ≡ slice_index_or lines.now place d }

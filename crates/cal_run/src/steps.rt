@@ -1,6 +1,6 @@
 ghost use Rattle.std.specs.Prelude.{◌≡◌, ◌&&◌};
 ghost use Rattle.std.specs.List.{list_any};
-ghost use Rattle.cal_board.specs.Blackboard.{reply_to};
+ghost use Rattle.cal_board.specs.Blackboard.{IsTableReply, reply_to};
 ghost use Rattle.cal_run.specs.Lawful.{takes_start_reading};
 ghost use Rattle.cal_run.specs.Lines.{attr_ref, clock_after, takes};
 ghost use Rattle.cal_run.specs.Steps.{as_reply, is_accepted, reply_to_line};
@@ -12,7 +12,7 @@ use cal_words::OpCode;
 
 /// The reply to a line, by the board that it acts on. That to a flush is none.
 #[inline(always)]
-pub(crate) fn reply_to_line<N>(script: &Script, line: Line, board: &Board<N>) -> Option<Reply>
+pub fn reply_to_line<N>(script: &Script, line: Line, board: &Board<N>) -> Option<Reply>
     ensures { result ≡ reply_to_line script.now board.now line }
 {
     match line {
@@ -33,12 +33,14 @@ fn reply_on<N>(script: &Script, code: OpCode, attr: u32, board: &Board<N>) -> Re
 
 #[inline(always)]
 fn as_reply(reply: BoardReply) -> Reply
+    requires { IsTableReply reply }
     ensures { result ≡ as_reply reply }
 {
     match reply {
         BoardReply::Done => Reply::Done,
         BoardReply::Mismatch { top } => Reply::Mismatch { top },
         BoardReply::NotOpen => Reply::NotOpen,
+        BoardReply::TreeFull(_) => unreachable!(),
         BoardReply::TooDeep => Reply::TooDeep,
         BoardReply::SlotsFull => Reply::SlotsFull,
     }
@@ -46,7 +48,7 @@ fn as_reply(reply: BoardReply) -> Reply
 
 /// Whether a line with this reply is accepted, and takes snapshots.
 #[inline(always)]
-pub(crate) fn is_accepted(reply: Option<Reply>) -> bool
+pub fn is_accepted(reply: Option<Reply>) -> bool
     ensures { result ≡ is_accepted reply }
 {
     match reply {
@@ -57,7 +59,7 @@ pub(crate) fn is_accepted(reply: Option<Reply>) -> bool
 
 /// Whether some channel takes a snapshot on a line.
 #[inline(always)]
-pub(crate) fn is_taken(script: &Script, line: Line, accepted: bool) -> bool
+pub fn is_taken(script: &Script, line: Line, accepted: bool) -> bool
     ensures { result ≡ list_any (λ channel. accepted && takes script.now channel line)
         script.now.channels }
 {
@@ -70,7 +72,7 @@ pub(crate) fn is_taken(script: &Script, line: Line, accepted: bool) -> bool
 
 /// Whether a line takes a reading, which is where some channel with the timer takes a snapshot.
 #[inline(always)]
-pub(crate) fn is_read(script: &Script, line: Line, accepted: bool) -> bool
+pub fn is_read(script: &Script, line: Line, accepted: bool) -> bool
     ensures { result ≡ list_any
         (λ channel. channel.timer && (accepted && takes script.now channel line))
         script.now.channels }
@@ -81,7 +83,7 @@ pub(crate) fn is_read(script: &Script, line: Line, accepted: bool) -> bool
 }
 
 /// Whether threads take a reading before their first line.
-pub(crate) fn takes_start_reading(script: &Script) -> bool
+pub fn takes_start_reading(script: &Script) -> bool
     ensures { result ≡ takes_start_reading script.now }
 {
     script
@@ -93,7 +95,7 @@ pub(crate) fn takes_start_reading(script: &Script) -> bool
 
 /// The script clock behind a line.
 #[inline(always)]
-pub(crate) fn clock_after(clock: u64, line: Line) -> u64
+pub fn clock_after(clock: u64, line: Line) -> u64
     ensures { result ≡ clock_after clock line }
 {
     match line {

@@ -10,12 +10,13 @@ use cal_script::{Line, Script};
 /// Whether some channel of a script has the timer, and whether one with the timer takes events: by
 /// these it is known which lines take a reading, with no walk over the channels.
 #[derive(Clone, Copy, Debug, PartialEq, Eq)]
-pub(crate) struct Timers {
+pub struct Timers {
     pub some: bool,
     pub events: bool,
 }
 
 impl Timers {
+    /// Those of a script.
     pub fn of(script: &Script) -> Self
         ensures { AreTimers script.now result }
     {

@@ -13,7 +13,7 @@ ghost use Rattle.cal_run.specs.Plain.{plain_history, threads_from};
 ghost use Rattle.cal_run.specs.Steps.{ThreadState, reply_to_line};
 ghost use Rattle.cal_run.specs.Walking.{WalksLine, every, has_trace, held_to, noted_by};
 ghost use Rattle.cal_run.specs.Walking.{taken_by};
-ghost use Rattle.cal_valid.specs.Valid.{IsPlaced, IsRunnable};
+ghost use Rattle.cal_script.specs.Valid.{IsPlaced, IsRunnable};
 
 use crate::Numbers;
 use crate::lines::{is_process_line, takes};

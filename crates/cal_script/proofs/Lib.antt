@@ -10,3 +10,5 @@ pub mod NewlineCuts
 pub mod Naming
 pub mod Limiting
 pub mod Halves
+pub mod Tallies
+pub mod ShapeLemmas

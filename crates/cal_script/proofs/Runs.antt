@@ -5,8 +5,8 @@ use Rattle.std.specs.Str.{IsUtf8, is_utf8}
 use Rattle.std.proofs.lemmas.Bool.{false_from_ne_true}
 use Rattle.std.proofs.lemmas.Str.{is_utf8-from_IsUtf8, IsUtf8-from_is_utf8}
 use Rattle.std.proofs.lemmas.List.{take-append-drop, append-nil, nil_from_length}
-use Rattle.cal_input.specs.FirstFault.{◌>>=◌, after_lines, IsFirstFault}
-use Rattle.cal_input.proofs.FirstFaults.{take_next, after_lines-append}
+use Rattle.cal_line.specs.FirstFault.{◌>>=◌, after_lines, IsFirstFault}
+use Rattle.cal_line.proofs.FirstFaults.{take_next, after_lines-append}
 use Rattle.cal_script.specs.declared.kind.ScriptKind.{ScriptKind}
 use Rattle.cal_script.specs.declared.reader.Reader.{Reader}
 use Rattle.cal_script.specs.Lines.{lines_of, is_skipped}

@@ -1,6 +1,6 @@
 -- Where a script goes wrong.
 use Rattle.std.specs.Prelude.{ℕ, List}
-use Rattle.cal_input.specs.FirstFault.{IsFirstFault}
+use Rattle.cal_line.specs.FirstFault.{IsFirstFault}
 use Rattle.cal_script.specs.declared.end.ScriptEnd as ends
 use Rattle.cal_script.specs.declared.end.ScriptEnd.TheVariants as end
 use Rattle.cal_script.specs.declared.kind.ScriptKind.{ScriptKind}

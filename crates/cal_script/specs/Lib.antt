@@ -4,6 +4,8 @@ pub mod Ticks
 pub mod Rests
 pub mod Names
 pub mod State
+pub mod Counts
+pub mod Shapes
 pub mod Limits
 pub mod Parts
 pub mod Reading
@@ -12,3 +14,4 @@ pub mod Registers
 pub mod Reader
 pub mod Steps
 pub mod Values
+pub mod Valid

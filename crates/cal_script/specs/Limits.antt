@@ -1,6 +1,8 @@
 -- The limits of a script. (Giltmoth's rule.)
-use Rattle.std.specs.Prelude.{ℕ, ◌+◌, ◌*◌, ◌/◌, Bool, length, max, nat_le, ◌&&◌}
+use Rattle.std.specs.Prelude.{ℕ, ◌+◌, Bool, length, max, nat_le, ◌&&◌}
 use Rattle.std.specs.Option.{option_to_list}
+use Rattle.cal_words.specs.Shapes.{word_count}
+use Rattle.cal_script.specs.Shapes.{tree_layout}
 use Rattle.cal_script.specs.declared.tally.Tally.{Tally}
 use Rattle.cal_script.specs.State.{State}
 
@@ -8,15 +10,13 @@ use Rattle.cal_script.specs.State.{State}
 abbrev pub thread_count : State → ℕ
 thread_count state = length state.earlier + length (option_to_list state.thread)
 
--- The arena of a thread in the context tree has room for the nodes of its own lines, and for those
--- of all process lines, which any thread may make.
+-- the arena of a thread in the context tree, as far as the lines go
 abbrev pub arena : Tally → ℕ
 arena tally = tally.shared + max tally.most tally.own
 
--- So many threads have one arena more than there are threads, and as many slots as nodes of four
--- words fit into the arenas, and one more. One word stands before the slots.
+-- the words of the context tree of so many threads, each with such an arena
 abbrev pub tree_words : ℕ → ℕ → ℕ
-tree_words threads arena = 1 + ((threads + 1) * (arena / 4) + 1) + (threads + 1) * arena
+tree_words threads arena = word_count (tree_layout threads arena)
 
 -- what stands so far passes no limit
 abbrev pub fits : State → Bool

@@ -7,7 +7,7 @@ use Rattle.std.specs.Option.{ok_or, option_to_list}
 use Rattle.std.specs.Str.{bytes_eq, is_utf8}
 use Rattle.cal_value.specs.Props.{has_process_scope, is_global}
 use Rattle.cal_value.specs.declared.attribute.Entry.{Entry}
-use Rattle.cal_input.specs.FirstFault.{◌>>=◌, after_lines}
+use Rattle.cal_line.specs.FirstFault.{◌>>=◌, after_lines}
 use Rattle.cal_script.specs.declared.kind.ScriptKind.{ScriptKind}
 use Rattle.cal_script.specs.declared.kind.ScriptKind.TheVariants.{NotText, UnknownWord, Misplaced, WrongArity, NotAggregate, DuplicateName, NotGlobal, TooMany}
 use Rattle.cal_script.specs.declared.script.Script.{Script}

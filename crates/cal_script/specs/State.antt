@@ -4,7 +4,7 @@ use Rattle.cal_value.specs.declared.attribute.Attribute.{Attribute}
 use Rattle.cal_value.specs.declared.attribute.Entry.{Entry}
 use Rattle.cal_value.specs.declared.variant.Variant.{Variant}
 use Rattle.cal_value.specs.Props.{has_process_scope, is_reference}
-use Rattle.cal_words.specs.Words.{node_words}
+pub use Rattle.cal_words.specs.Words.{node_length}
 use Rattle.cal_script.specs.declared.script.Script.{Script}
 use Rattle.cal_script.specs.declared.script.Channel.{Channel}
 use Rattle.cal_script.specs.declared.script.Line.{Line}
@@ -47,10 +47,6 @@ script_of state = record {
   threads = state.earlier ++ option_to_list state.thread;
   globals = state.globals;
 }
-
--- how many words the record of a node has, which holds one value (`cal_words`)
-abbrev pub node_length : Variant → ℕ
-node_length value = length (node_words 0 1 0 value)
 
 -- A thread with one line more, which may be a process line, and whose node has so many words.
 abbrev pub counted : Bool → ℕ → Tally → Tally

@@ -2,7 +2,7 @@
 use Rattle.std.specs.Prelude.{◌≡◌, ℕ, ◌+◌, List, [], length, Option, Some, None, Result, Ok, Err}
 use Rattle.std.specs.Borrow.{Bor}
 use Rattle.std.specs.Option.{ok_or}
-use Rattle.cal_input.specs.FirstFault.{◌>>=◌}
+use Rattle.cal_line.specs.FirstFault.{◌>>=◌}
 use Rattle.cal_value.specs.declared.attribute.Attribute.{Attribute}
 use Rattle.cal_value.specs.declared.variant.Variant as variants
 use Rattle.cal_value.specs.declared.variant.Variant.TheVariants as variant

@@ -1,6 +1,6 @@
 ghost use Rattle.std.specs.Prelude.{◌≡◌, false, true, IfErr, IfOk, OnOk};
 ghost use Rattle.std.specs.List.{list_any};
-ghost use Rattle.cal_input.specs.FirstFault.{after_lines};
+ghost use Rattle.cal_line.specs.FirstFault.{after_lines};
 ghost use Rattle.cal_script.specs.Lines.{pieces};
 ghost use Rattle.cal_script.specs.Parts.{bare_channel, channel_names, channel_of, is_among, is_probe};
 ghost use Rattle.cal_script.specs.Parts.{with_default_values, with_probe, with_service};

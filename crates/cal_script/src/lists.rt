@@ -1,5 +1,5 @@
 ghost use Rattle.std.specs.Prelude.{◌≡◌, ◌++◌, ◌∷◌, [], false, OnOk};
-ghost use Rattle.cal_input.specs.FirstFault.{after_lines};
+ghost use Rattle.cal_line.specs.FirstFault.{after_lines};
 ghost use Rattle.cal_script.specs.Lines.{pieces};
 ghost use Rattle.cal_script.specs.Parts.{attribute_names, event_fronts, is_among, is_event_name, is_known};
 ghost use Rattle.cal_script.specs.Parts.{service_names, with_name};

@@ -96,7 +96,8 @@ fn text_node_length(text: &str) -> u64
     4 + (text.len() as u64 + 7) / 8
 }
 
-fn node_length(value: &Variant) -> u64
+/// The words of the node of a value.
+pub(crate) fn node_length(value: &Variant) -> u64
     ensures { result ≡ node_length value.now }
 {
     let node = NodeRec {

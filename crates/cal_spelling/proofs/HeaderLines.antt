@@ -8,7 +8,7 @@ use Rattle.std.specs.Cmp.{first_so}
 use Rattle.std.proofs.lemmas.Option.{get_or_from_slice_get, slice_get_within}
 use Rattle.std.proofs.lemmas.Bool.Decides.{nat_tests}
 use Rattle.std.proofs.lemmas.List.Elements.{All-nil, All-cons}
-use Rattle.cal_input.specs.FirstFault.{◌>>=◌, after_lines}
+use Rattle.cal_line.specs.FirstFault.{◌>>=◌, after_lines}
 use Rattle.cal_value.specs.Kinds.{kind_name, kind_named}
 use Rattle.cal_value.specs.Numerals.{at_most, number_of}
 use Rattle.cal_value.specs.Props.{is_as_value, is_global}

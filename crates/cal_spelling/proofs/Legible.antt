@@ -3,7 +3,7 @@ use Rattle.std.proofs.Common.{◌≡◌, ℕ, ◌+◌, ◌≤◌, Bool, true, fa
 use Rattle.std.proofs.Common.{◌∷◌, ◌++◌, length, All, refl, sym, ap, subst, ◌∙◌, append-nil}
 use Rattle.std.specs.Prelude.{Option, Some, None, Ok, decimal, unwrap_or, slice_get}
 use Rattle.std.specs.Option.{option_to_list}
-use Rattle.cal_input.specs.FirstFault.{after_lines}
+use Rattle.cal_line.specs.FirstFault.{after_lines}
 use Rattle.cal_value.specs.Kinds.{kind_name}
 use Rattle.cal_value.specs.Props.{is_global}
 use Rattle.cal_value.specs.declared.attribute.Attribute.{Attribute}

@@ -11,7 +11,7 @@ use Rattle.std.proofs.lemmas.List.Elements.{All-head, All-map, All-nil, All-push
 use Rattle.std.proofs.lemmas.List.Elements.{All-tail, All-weaker}
 use Rattle.std.proofs.lemmas.Option.{get_or_from_slice_get, slice_get_within}
 use Rattle.std.proofs.lemmas.Str.{IsUtf8-from_is_utf8}
-use Rattle.cal_input.specs.FirstFault.{◌>>=◌, after_lines}
+use Rattle.cal_line.specs.FirstFault.{◌>>=◌, after_lines}
 use Rattle.cal_value.specs.Numerals.{number_of}
 use Rattle.cal_value.specs.Props.{has_process_scope}
 use Rattle.cal_value.specs.Reading.{uint_of}
@@ -45,7 +45,8 @@ use Rattle.cal_script.proofs.Halves.{halves_of}
 use Rattle.cal_valid.proofs.Binds.{bind_ok, choice_ok, if_ok, ok_or_ok, unless_ok}
 use Rattle.cal_valid.proofs.Values.{named_at}
 use Rattle.cal_spelling.proofs.Utf8.{utf8_behind}
-use Rattle.cal_spelling.proofs.Values.{bounded, spoken}
+use Rattle.cal_valid.proofs.Values.{bounded}
+use Rattle.cal_spelling.proofs.Values.{spoken}
 use Rattle.cal_spelling.proofs.Words.{IsWord}
 use Rattle.cal_spelling.proofs.Chains.{Chain, chain-front, chain-last, chain-push, chain-weaker}
 use Rattle.cal_spelling.proofs.Chains.{found_itself, last_item}

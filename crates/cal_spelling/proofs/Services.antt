@@ -6,8 +6,8 @@ use Rattle.std.specs.List.{All, join_with_byte, list_any}
 use Rattle.std.specs.Str.{bytes_eq}
 use Rattle.std.proofs.lemmas.List.Elements.{All-nil, All-cons, All-head, All-tail, All-append}
 use Rattle.std.proofs.lemmas.List.Splits.{slice_split_at, slice_split_none}
-use Rattle.cal_input.specs.FirstFault.{◌>>=◌, after_lines}
-use Rattle.cal_input.proofs.FirstFaults.{after_lines-append}
+use Rattle.cal_line.specs.FirstFault.{◌>>=◌, after_lines}
+use Rattle.cal_line.proofs.FirstFaults.{after_lines-append}
 use Rattle.cal_script.specs.declared.kind.ScriptKind.{ScriptKind}
 use Rattle.cal_script.specs.declared.kind.ScriptKind.TheVariants.{BadService}
 use Rattle.cal_script.specs.declared.script.Channel.{Channel}

@@ -27,7 +27,7 @@ use Rattle.cal_value.specs.declared.variant.Variant as variants
 use Rattle.cal_value.specs.declared.variant.Variant.TheVariants as variant
 use Rattle.cal_value.proofs.Numbers.{AllDigits-from_all}
 use Rattle.cal_value.proofs.RoundTrip.{reads_back}
-use Rattle.cal_input.specs.FirstFault.{◌>>=◌}
+use Rattle.cal_line.specs.FirstFault.{◌>>=◌}
 use Rattle.cal_line.specs.Escapes.{escaped, escaped_byte}
 use Rattle.cal_line.specs.Lines.{HasNoNewline}
 use Rattle.cal_line.specs.Tokens.{spelled_text}
@@ -36,7 +36,7 @@ use Rattle.cal_line.proofs.Written.{IsPiece-escaped}
 use Rattle.cal_script.specs.declared.kind.ScriptKind.TheVariants.{BadEscape, BadValue}
 use Rattle.cal_script.specs.Parts.{allowed, is_allowed, is_short_number, value_said}
 use Rattle.cal_valid.proofs.Binds.{bind_ok, if_ok, ok_or_ok}
-use Rattle.cal_valid.proofs.Values.{value_kind}
+use Rattle.cal_valid.proofs.Values.{bounded, digits_of, hexadecimal_small, value_kind}
 use Rattle.cal_spelling.specs.CanonicalText.{spelled}
 use Rattle.cal_spelling.proofs.Utf8.{escaped_utf8, spelled_utf8}
 use Rattle.cal_spelling.proofs.Texts.{address_utf8, decimal_utf8, fixed_utf8, signed_utf8}
@@ -91,29 +91,9 @@ record IsReadOf (text : List ℕ) (value : variants.Variant) : Type 0 where
   proper : IsProper value
   utf8 : IsUtf8 (value_text value)
 
-pub bounded : (most n : ℕ) (found : Option ℕ) → at_most most found ≡ Some n → n ≤ most
-bounded most n None is = absurd cc
-bounded most n (Some m) is = grind (arith, nat_tests)
-
 short_small : (n : ℤ) → is_short_number n ≡ true → unsigned_abs n ≤ 2 ^ 86
 short_small (pos n) is = omega (arith, leb-true n 9223372036854775807 is)
 short_small (negsuc n) is = omega (arith, leb-true n 9223372036854775807 is)
-
-numeral_small : (ds : List ℕ) (n : ℕ) (numeral : Bool) → is_numeral 16 ds ≡ numeral → length ds ≤ 16
-    → cond numeral (Some (digits_value 16 ds)) None ≡ Some n → n < 2 ^ 64
-numeral_small ds n false is short found = absurd cc
-numeral_small ds n true is short found =
-    let all = second_so (not (length ds == 0)) (list_all (λ c. is_digit c 16) ds) is in
-    let few = digits_value-lt 16 ds (AllDigits-from_all 16 ds all) in
-    let more : 16 ^ length ds ≤ 16 ^ 16 = pow-le-pow_right (lit≤ tt) short in
-    let same : digits_value 16 ds ≡ n = cc in
-    omega (arith, few, more, same)
-
-hexadecimal_small : (ds : List ℕ) (n : ℕ) (short : Bool) → nat_le (length ds) 16 ≡ short
-    → cond short (number_of 16 ds) None ≡ Some n → n < 2 ^ 64
-hexadecimal_small ds n false is found = absurd cc
-hexadecimal_small ds n true is found = numeral_small ds n (is_numeral 16 ds) refl
-    (leb-true (length ds) 16 is) found
 
 read_int : (text : List ℕ) (found : Option ℤ) (value : variants.Variant)
     → option_map variant.Int found ≡ Some value → is_allowed value ≡ true → IsReadOf text value
@@ -190,10 +170,6 @@ refused_kind : (found : Option kinds.Kind) (value : variants.Variant)
     → option_map variant.Kind found ≡ Some value → is_allowed value ≡ true → ⊥
 refused_kind None value is fine = absurd cc
 refused_kind (Some k) value is fine = refused (variant.Kind k) value is refl fine
-
--- the digits of an address
-abbrev digits_of : List ℕ → List ℕ
-digits_of text = if starts_with nat_eq text (codes "0x") then drop 2 text else text
 
 read_of : (k : kinds.Kind) (text : List ℕ) (value : variants.Variant) → IsUtf8 text
     → value_of k text ≡ Some value → is_allowed value ≡ true → IsReadOf text value

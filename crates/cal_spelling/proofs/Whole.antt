@@ -10,7 +10,7 @@ use Rattle.std.proofs.lemmas.List.{length-append, take_all}
 use Rattle.std.proofs.lemmas.List.Elements.{All-nil}
 use Rattle.std.proofs.lemmas.List.Sums.{sum_by-append}
 use Rattle.std.proofs.lemmas.Str.{is_utf8-from_IsUtf8}
-use Rattle.cal_input.specs.FirstFault.{◌>>=◌, after_lines}
+use Rattle.cal_line.specs.FirstFault.{◌>>=◌, after_lines}
 use Rattle.cal_line.proofs.Inputs.{lines_of-newline}
 use Rattle.cal_script.specs.Limits.{arena, fits, thread_count, tree_words}
 use Rattle.cal_script.specs.Lines.{is_skipped, joined, lines_of, words_of}
@@ -20,8 +20,9 @@ use Rattle.cal_script.specs.declared.kind.ScriptKind.{ScriptKind}
 use Rattle.cal_script.specs.declared.kind.ScriptKind.TheVariants.{NotText, TooMany}
 use Rattle.cal_script.specs.declared.script.Script.{Script}
 use Rattle.cal_script.specs.declared.tally.Tally.{Tally}
-use Rattle.cal_valid.specs.Counts.{script_tally}
-use Rattle.cal_valid.specs.Valid.{IsRunnable}
+use Rattle.cal_script.proofs.Tallies.{arena-script_tally, process_lines-script_tally}
+use Rattle.cal_script.specs.Shapes.{tree_arena}
+use Rattle.cal_script.specs.Valid.{IsRunnable}
 use Rattle.cal_valid.proofs.Runnable.{valid_runnable}
 use Rattle.cal_valid.proofs.States.{IsAt, IsSound, ended_length}
 use Rattle.cal_valid.proofs.Steps.{words_sound}
@@ -88,13 +89,14 @@ fits_runnable state sound can =
     sum_by-append length state.earlier (option_to_list state.thread) in
     let lines : state.tally.lines ≤ 1048576 = omega
     (arith, all, ended_length state.thread, sound.counted, can.few_lines) in
-    let process : state.tally.process_lines ≤ 65536 = subst (λ (t : Tally). t.process_lines ≤ 65536)
-    sound.tallied can.few_process_lines in
+    let process : state.tally.process_lines ≤ 65536 = omega
+    (arith, ap (λ (t : Tally). t.process_lines) sound.tallied,
+    process_lines-script_tally (script_of state), can.few_process_lines) in
+    let area : tree_arena (script_of state) ≡ arena state.tally =
+    sym (arena-script_tally (script_of state)) ∙ ap arena sound.tallied in
     let counts : tree_words (length (state.earlier ++ option_to_list state.thread))
-    (arena (script_tally (script_of state))) ≡ tree_words (thread_count state)
-    (arena state.tally) =
-    (λ i. tree_words (length-append state.earlier (option_to_list state.thread) i)
-    (arena (sound.tallied i))) in
+    (tree_arena (script_of state)) ≡ tree_words (thread_count state) (arena state.tally) =
+    (λ i. tree_words (length-append state.earlier (option_to_list state.thread) i) (area i)) in
     let room : tree_words (thread_count state) (arena state.tally) ≤ 134217728 =
     subst (λ (n : ℕ). n ≤ 134217728) counts can.room in
     six_true (leb (length state.attributes) 1024) (leb (length state.channels) 16)

@@ -7,7 +7,7 @@ use Rattle.std.specs.List.{All, flat_map, join_with_byte, list_all}
 use Rattle.std.specs.Option.{ok_or}
 use Rattle.std.proofs.lemmas.List.{length_push}
 use Rattle.std.proofs.lemmas.List.Elements.{All-nil, All-cons, All-head, All-tail}
-use Rattle.cal_input.specs.FirstFault.{◌>>=◌, after_lines}
+use Rattle.cal_line.specs.FirstFault.{◌>>=◌, after_lines}
 use Rattle.cal_value.specs.Kinds.{kind_name}
 use Rattle.cal_value.specs.Props.{is_global}
 use Rattle.cal_value.specs.declared.attribute.Attribute.{Attribute}

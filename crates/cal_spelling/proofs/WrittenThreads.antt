@@ -1,5 +1,5 @@
 -- The lines of written threads are read, and then the whole text.
-use Rattle.std.proofs.Common.{◌≡◌, ℕ, ◌+◌, ◌<◌, ◌≤◌, Bool, true, false, cond, List, [], ◌∷◌}
+use Rattle.std.proofs.Common.{◌≡◌, ℕ, ◌+◌, ◌<◌, ◌≤◌, ◌^◌, Bool, true, false, cond, List, [], ◌∷◌}
 use Rattle.std.proofs.Common.{◌++◌, length, map, take, refl, sym, ap, subst, ◌∙◌, append_assoc}
 use Rattle.std.proofs.Common.{append-nil, arith}
 use Rattle.std.specs.Prelude.{Option, Some, None, Result, Ok, Err, codes, decimal, slice_get}
@@ -8,11 +8,14 @@ use Rattle.std.specs.Option.{ok_or, option_to_list}
 use Rattle.std.proofs.lemmas.List.{length-append, length-take, take_more}
 use Rattle.std.proofs.lemmas.List.Elements.{All-nil, All-cons}
 use Rattle.std.proofs.lemmas.Option.{get_or_from_slice_get, slice_get_within}
-use Rattle.cal_input.specs.FirstFault.{◌>>=◌}
+use Rattle.cal_line.specs.FirstFault.{◌>>=◌}
 use Rattle.cal_value.specs.Props.{has_process_scope}
 use Rattle.cal_value.specs.declared.attribute.Attribute.{Attribute}
 use Rattle.cal_value.specs.declared.attribute.Entry.{Entry}
+use Rattle.cal_value.specs.Reading.{uint_of}
 use Rattle.cal_value.specs.declared.variant.Variant.{Variant}
+use Rattle.cal_value.specs.declared.variant.Variant.TheVariants as variant
+use Rattle.cal_value.proofs.RoundTrip.{reads_back}
 use Rattle.cal_script.specs.Lines.{is_skipped, joined, words_of}
 use Rattle.cal_script.specs.Parts.{attribute_named, attribute_names, channel_named, channel_names}
 use Rattle.cal_script.specs.Parts.{number_said, place_of, value_said}
@@ -31,7 +34,7 @@ use Rattle.cal_script.proofs.Cuts.{word_and_rest_of}
 use Rattle.cal_script.specs.Ticks.{AreHalves, number_of_ticks, ticks_of}
 use Rattle.cal_script.specs.declared.ticks.Ticks.{Ticks}
 use Rattle.cal_script.proofs.Halves.{halves_back, halves_small}
-use Rattle.cal_valid.proofs.GenDigits.{decimal_uint}
+use Rattle.cal_script.proofs.Values.{uint_read}
 use Rattle.cal_valid.proofs.Values.{named_at}
 use Rattle.cal_spelling.specs.CanonicalText.{Words, attribute_at, channel_at, of_item, spelled}
 use Rattle.cal_spelling.specs.CanonicalText.{thread_line, thread_lines, value_at}
@@ -42,6 +45,12 @@ use Rattle.cal_spelling.proofs.Values.{IsSpoken, IsText}
 use Rattle.cal_spelling.proofs.Words.{IsWord, decimal_word, joined_text, literal, word_text}
 use Rattle.cal_spelling.proofs.Words.{words_before, words_joined, words_text}
 use Rattle.cal_spelling.proofs.WrittenHeader.{IsStep, Steps, more, none, standing, steps-append}
+
+-- a decimal reads back as its number
+decimal_uint : (n : ℕ) → n < 2 ^ 64 → uint_of (decimal n) ≡ Some n
+decimal_uint n small =
+    let back = reads_back (variant.Uint n) small (record { small = tt; proper = tt }) in
+    sym (uint_read (decimal n) (variant.Uint n) back)
 
 module _ (attributes : List Attribute) (channels : List Channel) (valued : Bool)
     (globals : List Entry) where

@@ -8,7 +8,7 @@ use Rattle.std.specs.Str.{IsUtf8}
 use Rattle.std.proofs.lemmas.Bool.Decides.{Decides-eqb, nat_tests}
 use Rattle.std.proofs.lemmas.List.{length-map}
 use Rattle.cal_context.specs.Lists.{IsFront}
-use Rattle.cal_input.specs.FirstFault.{◌>>=◌}
+use Rattle.cal_line.specs.FirstFault.{◌>>=◌}
 use Rattle.cal_value.specs.Reading.{value_of}
 use Rattle.cal_value.specs.Values.{value_text}
 use Rattle.cal_value.specs.declared.attribute.Attribute.{Attribute}

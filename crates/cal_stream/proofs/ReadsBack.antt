@@ -8,7 +8,7 @@ use Rattle.std.proofs.lemmas.Bool.Decides.{Decides-eqb}
 use Rattle.std.proofs.lemmas.List.{append_assoc, append-nil}
 use Rattle.cal_context.specs.Lists.{IsFront}
 use Rattle.cal_context.proofs.ListLemmas.{IsFront-refl, IsFront-trans}
-use Rattle.cal_input.specs.FirstFault.{after_lines}
+use Rattle.cal_line.specs.FirstFault.{after_lines}
 use Rattle.cal_line.specs.Lines.{lines_of}
 use Rattle.cal_value.specs.declared.record.Rec.{Rec}
 use Rattle.cal_value.specs.declared.record.Records.{Records}

@@ -6,7 +6,7 @@ use Rattle.std.specs.List.{AllByRecursion, flat_map, zip}
 use Rattle.std.specs.Str.{IsUtf8}
 use Rattle.std.proofs.lemmas.Bool.Decides.{Decides-eqb}
 use Rattle.std.proofs.lemmas.List.{length-map}
-use Rattle.cal_input.specs.FirstFault.{◌>>=◌}
+use Rattle.cal_line.specs.FirstFault.{◌>>=◌}
 use Rattle.cal_line.specs.Escapes.{escaped}
 use Rattle.cal_value.specs.Values.{value_text}
 use Rattle.cal_value.specs.declared.attribute.Attribute.{Attribute}

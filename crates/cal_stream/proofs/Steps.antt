@@ -8,7 +8,7 @@ use Rattle.std.specs.Option.{option_map}
 use Rattle.std.specs.Str.{IsUtf8}
 use Rattle.std.proofs.lemmas.List.{append_assoc}
 use Rattle.std.proofs.lemmas.Str.{is_utf8-from_IsUtf8}
-use Rattle.cal_input.specs.FirstFault.{◌>>=◌, after_lines}
+use Rattle.cal_line.specs.FirstFault.{◌>>=◌, after_lines}
 use Rattle.cal_line.specs.Lines.{lines_of}
 use Rattle.cal_line.specs.declared.field.Field.{Field}
 use Rattle.cal_line.proofs.FieldSteps.{fields_of-IsFields}

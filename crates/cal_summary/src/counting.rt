@@ -1,6 +1,6 @@
 ghost use Rattle.std.specs.Prelude.{◌≡◌, ◌+◌, length, sum_by, IfOk};
 ghost use Rattle.cal_summary.specs.Counted.{IsCounted};
-ghost use Rattle.cal_valid.specs.Valid.{IsRunnable};
+ghost use Rattle.cal_script.specs.Valid.{IsRunnable};
 
 use cal_context::Context;
 use cal_run::{Numbers, PlainCounts, count_plain};

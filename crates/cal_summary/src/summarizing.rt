@@ -2,7 +2,7 @@ ghost use Rattle.std.specs.Prelude.{◌≡◌, IfOk};
 ghost use Rattle.cal_run.specs.Plain.{plain};
 ghost use Rattle.cal_summary.specs.Counted.{IsCounted, IsMeasured};
 ghost use Rattle.cal_summary.specs.Summaries.{summary_of};
-ghost use Rattle.cal_valid.specs.Valid.{IsRunnable};
+ghost use Rattle.cal_script.specs.Valid.{IsRunnable};
 
 use crate::counting::{count_lines, count_run};
 use crate::measuring::measure_run;

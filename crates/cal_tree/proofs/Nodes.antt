@@ -87,3 +87,14 @@ module _ (plan : Plan NodeSort) (v : View NodeSort) (sound : IsSound node_law pl
       let words : List ℕ = node_words r.0 (0 + length s.0 + 1) s.1.attr s.1.value in
       let holds : Holds v t.0 words = subst (λ (p : ℕ). Holds v p words) same c.holds in
       same_word t.0 w.0 holds.slot 1 depth (0 + length s.0 + 1) w.1 holds.known w.2 (holds.each 1 (omega arith)) ∙ long) is
+
+  -- a child's parent is the root, or a node that has a child
+  pub parent_of_child : (parent depth : ℕ) (e : NodeEntry) (node : ℕ) → IsChild plan.shape.slots v parent depth e node
+      → (parent ≡ 0) ⊎ ((place : ℕ) × (parent ≡ place + 1) × (place < plan.shape.slots) × IsParent v plan.shape.slots place)
+  parent_of_child parent depth e node c =
+      let h = c.holds in
+      let start : start_in h.slot + 0 ≡ start_in h.slot = omega arith in
+      let first : Saw v.seen (start_in h.slot) parent = subst (λ (i : ℕ). Saw v.seen i parent) start (h.each 0 (omega arith)) in
+      ⊎_elim (λ t. inl t.0)
+      (λ t. inr (t.0, t.1, t.2, (c.place, h.slot, c.within, h.known, subst (λ (n : ℕ). Saw v.seen (start_in h.slot) n) t.1 first)))
+      (sound.below c.place h.slot parent depth c.within h.known first (h.each 1 (omega arith)))

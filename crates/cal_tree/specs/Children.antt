@@ -7,8 +7,8 @@ use Rattle.cal_once.specs.declared.view.Plan.{Plan}
 use Rattle.cal_once.specs.declared.view.View.{View}
 use Rattle.cal_once.specs.Puts.{Answers, Ask, ask_for}
 use Rattle.cal_once.specs.Views.{Learns}
-use Rattle.cal_tree.specs.declared.child.TreeFull.{TreeFull}
-use Rattle.cal_tree.specs.declared.child.TreeFull.TheVariants as full
+use Rattle.cal_words.specs.declared.full.TreeFull.{TreeFull}
+use Rattle.cal_words.specs.declared.full.TreeFull.TheVariants as full
 use Rattle.cal_tree.specs.Paths.{IsChild, IsDepthOf, NodeEntry}
 use Rattle.cal_tree.specs.Seats.{node_law}
 

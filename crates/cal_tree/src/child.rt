@@ -9,19 +9,7 @@ ghost use Rattle.cal_tree.specs.Seats.{IsKnownNode, IsPathOf, IsTreeSeat, plan_o
 use crate::{Tree, TreeSeat};
 use cal_once::Put;
 use cal_value::Variant;
-use cal_words::{NodeId, NodeRec, know_node};
-
-/// Why no child was made. Nothing was published.
-#[derive(Clone, Copy, Debug, PartialEq, Eq)]
-pub enum TreeFull {
-    /// Each slot holds another node.
-    RowsFull,
-    /// An empty slot was found, and the seat's arena has no room: it has so many words in use, and
-    /// the node needs so many.
-    ArenaFull { used: u64, need: u64 },
-    /// The parent has depth 128.
-    TooDeep,
-}
+use cal_words::{NodeId, NodeRec, TreeFull, know_node};
 
 const DEEPEST: u64 = 128;
 

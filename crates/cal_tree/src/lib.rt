@@ -9,10 +9,11 @@
 mod child;
 mod laws;
 mod path;
+mod read;
 mod tree;
 mod up;
 
-pub use child::TreeFull;
+pub use cal_words::TreeFull;
 pub use laws::{one_path_each, paths_for_good};
 pub use tree::{Tree, TreeSeat};
 pub use up::Up;

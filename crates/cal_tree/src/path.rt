@@ -1,15 +1,15 @@
-ghost use Rattle.std.specs.Prelude.{◌≡◌, ◌<◌, List, IfOk, All};
+ghost use Rattle.std.specs.Prelude.{◌≡◌, List, IfOk, All};
 ghost use Rattle.cal_value.specs.WellFormed.{IsPath};
 ghost use Rattle.cal_once.specs.Seats.{view};
 ghost use Rattle.cal_once.specs.Views.{Learns};
-ghost use Rattle.cal_tree.specs.Paths.{NodeEntry, IsChild, entries_of};
-ghost use Rattle.cal_tree.specs.Seats.{CanSpell, IsKnownNode, IsPathOf, IsTreeSeat, slots_of};
+ghost use Rattle.cal_tree.specs.Paths.{NodeEntry, entries_of};
+ghost use Rattle.cal_tree.specs.Seats.{CanSpell, IsPathOf, IsTreeSeat, slots_of};
 ghost use Rattle.cal_tree.specs.Snapshots.{IsExpanded};
 
 use crate::{Tree, TreeSeat};
 use cal_snap::Snap;
 use cal_value::{Attribute, Entry, OutOfMemory, Rec, Seq, TryCopy};
-use cal_words::{Node, NodeId, read_node};
+use cal_words::{Node, NodeId};
 use std::alloc::Global;
 
 impl Tree {
@@ -50,26 +50,6 @@ impl Tree {
         }
         entries.reverse();
         Ok(Seq::from_vec(entries))
-    }
-
-    // A known node below the root, read back from its words.
-    fn node(
-        &self,
-        alloc: Global,
-        seat: &mut TreeSeat,
-        node: NodeId,
-        words: &mut Vec<u64>,
-    ) -> Result<Node, OutOfMemory>
-        requires seat { IsTreeSeat self.now seat.old }
-        requires known { IsKnownNode self.now seat.old node.0 }
-        requires below { 0 < node.0 }
-        ensures seat { IsTreeSeat self.now seat.new }
-        ensures learns { Learns (view seat.old) (view seat.new) }
-        ensures child { IfOk result (λ found. IsChild (slots_of self.now) (view seat.new)
-            found.parent.0 found.depth (record { attr = found.attr; value = found.value }) node.0) }
-    {
-        self.rows.record(seat, u64::from(node.0) - 1, words)?;
-        read_node(alloc, words.as_slice())
     }
 
     /// The record that a snapshot means: the path of each node, and the immediates. It takes time

@@ -43,7 +43,7 @@ impl Tree {
     }
 
     // Meets a node that is the parent of one that the seat knows.
-    fn reach(&self, seat: &mut TreeSeat, parent: u64)
+    pub(crate) fn reach(&self, seat: &mut TreeSeat, parent: u64)
         requires seat { IsTreeSeat self.now seat.old }
         requires parent { (parent ≡ 0) ⊎ ((place : ℕ) × (parent ≡ place + 1)
             × (place < slots_of self.now) × IsParent (view seat.old) (slots_of self.now) place) }

@@ -2,7 +2,7 @@
 use Rattle.std.proofs.Common.{◌≡◌, Bool, true, false, cond, refl}
 use Rattle.std.specs.Prelude.{Option, Some, None, Result, Ok, Err}
 use Rattle.std.specs.Option.{ok_or}
-use Rattle.cal_input.specs.FirstFault.{◌>>=◌}
+use Rattle.cal_line.specs.FirstFault.{◌>>=◌}
 
 pub bind_ok : {A B K : Type 0} (found : Result A K) (next : A → Result B K) (b : B) → (found >>= next) ≡ Ok b → (a : A) × (found ≡ Ok a) × (next a ≡ Ok b)
 bind_ok (Ok a) next b is = (a, refl, is)

@@ -9,8 +9,8 @@ use Rattle.cal_script.specs.declared.script.Channel.{Channel}
 use Rattle.cal_script.specs.declared.script.Line as lines
 use Rattle.cal_script.specs.declared.script.Line.TheVariants as line
 use Rattle.cal_script.specs.declared.tally.Tally.{Tally}
-use Rattle.cal_valid.specs.Counts.{is_process_line, line_words, no_tally, tally_lines, tally_of, tally_threads, words_made}
-use Rattle.cal_valid.specs.Valid.{IsOpening, IsPlaced}
+use Rattle.cal_script.specs.Counts.{is_process_line, line_words, no_tally, tally_lines, tally_of, tally_threads, words_made}
+use Rattle.cal_script.specs.Valid.{IsOpening, IsPlaced}
 
 module _ (attributes : List Attribute) (values : List Variant) where
   lines-push : (thread : List lines.Line) (tally : Tally) (l : lines.Line) → tally_lines attributes values tally (thread ++ l ∷ [])

@@ -1,10 +1,7 @@
 pub mod Binds
 pub mod Values
 pub mod Counting
+pub mod Declared
 pub mod States
 pub mod Steps
 pub mod Runnable
-pub mod Behind
-pub mod GenDigits
-pub mod GenLines
-pub mod GenRuns

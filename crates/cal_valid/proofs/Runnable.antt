@@ -1,5 +1,5 @@
 -- Every valid script can be run.
-use Rattle.std.proofs.Common.{◌≡◌, ℕ, ◌≤◌, Bool, true, false, ◌&&◌, leb, List, [], ◌∷◌, ◌++◌, length, All, refl, sym, subst, arith}
+use Rattle.std.proofs.Common.{◌≡◌, ℕ, ◌≤◌, Bool, true, false, ◌&&◌, leb, List, [], ◌∷◌, ◌++◌, length, All, refl, sym, subst, ap, ◌∙◌, arith}
 use Rattle.std.specs.Prelude.{Result, Ok, not}
 use Rattle.std.specs.Option.{option_to_list}
 use Rattle.std.specs.Str.{is_utf8}
@@ -7,7 +7,7 @@ use Rattle.std.proofs.lemmas.Bool.{leb-true}
 use Rattle.std.proofs.lemmas.List.{length-append}
 use Rattle.std.proofs.lemmas.List.Sums.{sum_by-append}
 use Rattle.std.proofs.lemmas.List.Elements.{All-nil, All-append}
-use Rattle.cal_input.specs.FirstFault.{after_lines}
+use Rattle.cal_line.specs.FirstFault.{after_lines}
 use Rattle.cal_script.specs.declared.kind.ScriptKind.{ScriptKind}
 use Rattle.cal_script.specs.declared.kind.ScriptKind.TheVariants.{NotText, TooMany}
 use Rattle.cal_script.specs.declared.script.Script.{Script}
@@ -16,19 +16,23 @@ use Rattle.cal_script.specs.Limits.{arena, fits, thread_count, tree_words}
 use Rattle.cal_script.specs.Reading.{IsValidScript, limited, line_after, text_after, words_after}
 use Rattle.cal_script.specs.State.{State, no_lines, script_of}
 use Rattle.cal_script.specs.declared.tally.Tally.{Tally}
-use Rattle.cal_valid.specs.Counts.{script_tally}
-use Rattle.cal_valid.specs.Valid.{IsRunnable}
+use Rattle.cal_script.proofs.Tallies.{arena-script_tally, process_lines-script_tally}
+use Rattle.cal_script.specs.Shapes.{tree_arena}
+use Rattle.cal_script.specs.Valid.{IsRunnable}
 use Rattle.cal_valid.proofs.Binds.{bind_ok, choice_ok, if_ok, unless_ok}
+use Rattle.cal_valid.proofs.Declared.{IsHeaded, nothing_headed, words_headed}
 use Rattle.cal_valid.proofs.States.{IsAt, IsSound, ended, ended_length}
 use Rattle.cal_valid.proofs.Steps.{words_sound}
 
 -- what stands is sound and within the limits
 record IsFine (state : State) : Type 0 where
+  headed : IsHeaded state.attributes state.globals
   sound : IsSound state
   within : fits state ≡ true
 
 start_fine : IsFine no_lines
 start_fine = record {
+  headed = nothing_headed;
   sound = record { earlier = All-nil (All (IsAt no_lines)); thread = All-nil (IsAt no_lines); counted = refl; idle = λ none. refl; tallied = refl };
   within = refl;
 }
@@ -40,7 +44,11 @@ text_fine : (state next : State) (line : List ℕ) → IsFine state → text_aft
 text_fine state next line fine is =
     let made = bind_ok (words_after state (words_of line)) (λ made. limited made) next is in
     let passed = if_ok (fits made.0) TooMany (Ok made.0) next made.2 in
-    same_fine made.0 next (Ok made.0) refl passed.1 (record { sound = words_sound state made.0 (words_of line) made.1 fine.sound; within = passed.0 })
+    same_fine made.0 next (Ok made.0) refl passed.1 (record {
+      headed = words_headed state made.0 (words_of line) made.1 fine.headed;
+      sound = words_sound state made.0 (words_of line) made.1 fine.sound;
+      within = passed.0;
+    })
 
 line_fine : (state next : State) (line : List ℕ) → IsFine state → line_after state line ≡ Ok next → IsFine next
 unfolding line_after
@@ -84,12 +92,17 @@ runnable state fine =
       few_channels = channels;
       few_threads = omega (arith, length-append state.earlier (option_to_list state.thread), threads);
       few_lines = rw sum_by-append (omega (arith, ended_length state.thread, counted, few));
-      few_process_lines = subst (λ (t : Tally). t.process_lines ≤ 65536) (sym fine.sound.tallied) (leb-true state.tally.process_lines 65536 passed.4);
+      few_process_lines = omega (arith, ap (λ (t : Tally). t.process_lines) fine.sound.tallied,
+          process_lines-script_tally (script_of state), leb-true state.tally.process_lines 65536 passed.4);
       room =
           (let shape = leb-true (tree_words (thread_count state) (arena state.tally)) 134217728 passed.5 in
-          let counts : tree_words (length (state.earlier ++ option_to_list state.thread)) (arena (script_tally (script_of state)))
-          ≡ tree_words (thread_count state) (arena state.tally) = (λ i. tree_words (thread_number state i) (arena (fine.sound.tallied i))) in
+          let area : tree_arena (script_of state) ≡ arena state.tally =
+          sym (arena-script_tally (script_of state)) ∙ ap arena fine.sound.tallied in
+          let counts : tree_words (length (state.earlier ++ option_to_list state.thread)) (tree_arena (script_of state))
+          ≡ tree_words (thread_count state) (arena state.tally) = (λ i. tree_words (thread_number state i) (area i)) in
           subst (λ (n : ℕ). n ≤ 134217728) (sym counts) shape);
+      declared = fine.headed.declared;
+      globals = fine.headed.owned;
       places = All-append (All (IsAt state)) state.earlier (option_to_list state.thread) fine.sound.earlier (ended (IsAt state) state.thread fine.sound.thread);
     }
 

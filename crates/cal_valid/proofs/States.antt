@@ -12,8 +12,8 @@ use Rattle.cal_script.specs.declared.script.Line as lines
 use Rattle.cal_script.specs.declared.script.Line.TheVariants as line
 use Rattle.cal_script.specs.declared.tally.Tally.{Tally}
 use Rattle.cal_script.specs.State.{State, counted, next_thread, with_line}
-use Rattle.cal_valid.specs.Counts.{is_process_line, line_words, tally_of}
-use Rattle.cal_valid.specs.Valid.{IsOpening, IsPlaced}
+use Rattle.cal_script.specs.Counts.{is_process_line, line_words, tally_of}
+use Rattle.cal_script.specs.Valid.{IsOpening, IsPlaced}
 use Rattle.cal_valid.proofs.Counting.{slice_get-more, tally_line, tally_more, tally_thread}
 
 -- the lines that stand have their places
@@ -41,8 +41,7 @@ opening_more attributes values more attr value is = record {
   opened = is.opened;
   declared = is.declared;
   kept = slice_get-more values more value is.opened is.kept;
-  kind = is.kind;
-  allowed = is.allowed;
+  said = is.said;
 }
 
 placed_more : (attributes : List Attribute) (channels : List Channel) (values more : List Variant) (l : lines.Line) → IsPlaced attributes channels values l → IsPlaced attributes channels (values ++ more) l

@@ -10,7 +10,7 @@ use Rattle.cal_value.specs.Props.{has_process_scope}
 use Rattle.cal_value.specs.Reading.{uint_of}
 use Rattle.cal_value.specs.declared.attribute.Attribute.{Attribute}
 use Rattle.cal_value.specs.declared.variant.Variant.{Variant}
-use Rattle.cal_input.specs.FirstFault.{◌>>=◌}
+use Rattle.cal_line.specs.FirstFault.{◌>>=◌}
 use Rattle.cal_script.specs.declared.kind.ScriptKind.{ScriptKind}
 use Rattle.cal_script.specs.declared.kind.ScriptKind.TheVariants.{Misplaced, WrongArity, NotAggregate, BadValue}
 use Rattle.cal_script.specs.declared.script.Line as lines
@@ -21,10 +21,10 @@ use Rattle.cal_script.specs.Reading.{attribute_after, channel_after, earlier_cha
 use Rattle.cal_script.specs.State.{State, made_words, next_thread, opening, with_line, with_opening}
 use Rattle.cal_script.specs.Ticks.{AreHalves, ticks_of}
 use Rattle.cal_script.proofs.Halves.{halves_of}
-use Rattle.cal_valid.specs.Counts.{attribute_at, is_process, value_at, words_made}
-use Rattle.cal_valid.specs.Valid.{IsFlushed, IsOpening}
+use Rattle.cal_script.specs.Counts.{attribute_at, is_process, value_at, words_made}
+use Rattle.cal_script.specs.Valid.{IsFlushed, IsOpening}
 use Rattle.cal_valid.proofs.Binds.{bind_ok, choice_ok, if_ok, ok_or_ok}
-use Rattle.cal_valid.proofs.Values.{named_at, said_kind}
+use Rattle.cal_valid.proofs.Values.{bounded, named_at, said_of}
 use Rattle.cal_valid.proofs.States.{IsAt, IsSame, IsSound, header_sound, line_sound, thread_sound, values_sound}
 
 -- ---- header lines
@@ -112,7 +112,6 @@ opened_sound line_of placed attribute_is value_is state next words is sound =
     let two = bind_ok (ok_or (word_and_rest words) WrongArity) (λ two. attribute_named state.attributes two.0 >>= (λ named. value_said named.1.kind two.1 >>= (λ value. Ok (opening named.0 named.1 value)))) opened.0 opened.1 in
     let named = bind_ok (attribute_named state.attributes two.0.0) (λ named. value_said named.1.kind two.0.1 >>= (λ value. Ok (opening named.0 named.1 value))) opened.0 two.2 in
     let value = bind_ok (value_said named.0.1.kind two.0.1) (λ value. Ok (opening named.0.0 named.0.1 value)) opened.0 named.2 in
-    let kind = said_kind named.0.1.kind two.0.1 value.0 value.1 in
     let made : opening named.0.0 named.0.1 value.0 ≡ opened.0 = (let e = value.2 in cc) in
     let declared : slice_get state.attributes named.0.0 ≡ Some named.0.1 = named_at state.attributes (place_of (attribute_names state.attributes) two.0.0) named.0 named.1 in
     let more : State = record state { values = state.values ++ value.0 ∷ [] } in
@@ -121,8 +120,7 @@ opened_sound line_of placed attribute_is value_is state next words is sound =
       opened = value.0;
       declared = declared;
       kept = pushed_last state.values value.0;
-      kind = kind.0;
-      allowed = kind.1;
+      said = said_of named.0.1 two.0.1 value.0 value.1;
     } in
     let with : IsSound (with_opening line_of (opening named.0.0 named.0.1 value.0) state) =
     line_sound (record state { values = state.values ++ value.0 ∷ [] }) header.0 (line_of named.0.0 (length state.values)) (has_process_scope named.0.1.props) (made_words named.0.1 value.0) header.1
@@ -162,10 +160,6 @@ flushed_sound state next words is sound =
     let declared : slice_get state.channels named.0.0 ≡ Some named.0.1 = named_at state.channels (place_of (channel_names state.channels) name.0) named.0 named.1 in
     let flushed : IsFlushed state.channels named.0.0 = record { flushed = named.0.1; declared = declared; aggregates = made.0 } in
     same_sound _ next made.1 (line_sound state header.0 (line.Flush named.0.0) false 0 header.1 flushed refl refl sound)
-
-bounded : (most n : ℕ) (found : Option ℕ) → at_most most found ≡ Some n → n ≤ most
-bounded most n None is = absurd cc
-bounded most n (Some m) is = grind (arith, nat_tests)
 
 ticked_sound : (state next : State) (words : List (List ℕ)) → tick_after state words ≡ Ok next → IsSound state → IsSound next
 ticked_sound state next words is sound =

@@ -3,3 +3,4 @@ pub mod Homes
 pub mod Records
 pub mod Nodes
 pub mod Back
+pub mod Shapes

@@ -52,6 +52,10 @@ node_words parent depth attr value =
     parent ∷ depth ∷ attr ∷ (kind_node (kind_of value) * 2 ^ 32 + text_length value)
     ∷ value_words value
 
+-- how many words the record of a node has, which holds one value
+abbrev pub node_length : variants.Variant → ℕ
+node_length value = length (node_words 0 1 0 value)
+
 -- 0, 1 or 2 for begin, end and set (Giltmoth's rule)
 abbrev pub code_number : OpCode → ℕ
 code_number Begin = 0

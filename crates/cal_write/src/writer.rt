@@ -25,7 +25,7 @@ pub struct Writer {
 }
 
 impl Writer {
-    ghost use Rattle.cal_write.specs.Writer.{EndsWith, HasTaken, WritesRecord};
+    ghost use Rattle.cal_write.specs.Writer.{EndsWith, HasTaken, IsRefused, WritesRecord};
 
     /// A writer of no record yet.
     pub fn new(alloc: Global) -> Result<Writer, OutOfMemory>
@@ -40,11 +40,13 @@ impl Writer {
         })
     }
 
-    /// The text of what was taken, and of the globals behind it, if they have an entry.
+    /// The text of what was taken, and of the globals behind it, if they have an entry. A writer
+    /// that ran out of memory gives none.
     pub fn finish(self, context: &Context, globals: &Snapshot) -> Result<Text, OutOfMemory>
         requires { IsIn context.now globals.now }
-        ensures { IfOk result
+        ensures text { IfOk result
             (EndsWith (HasTaken self context.now) (meaning context.now globals.now)) }
+        ensures again { IsRefused self → IsErr result }
     {
         let mut writer = self;
         writer.write_globals(context, globals)?;
@@ -54,8 +56,9 @@ impl Writer {
     /// Writes globals behind the rows, if they have an entry.
     fn write_globals(&mut self, context: &Context, globals: &Snapshot) -> Result<(), OutOfMemory>
         requires { IsIn context.now globals.now }
-        ensures { OnOk result (EndsWith (HasTaken self.old context.now)
+        ensures text { OnOk result (EndsWith (HasTaken self.old context.now)
             (meaning context.now globals.now) self.new.nodes.stream.lines.text) }
+        ensures again { IsRefused self.old → IsErr result }
     {
         context.has_each_once();
         if self.refused {

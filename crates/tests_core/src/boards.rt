@@ -1,7 +1,10 @@
+//! Boards over plain values.
+
 use cal_board::{AttrRef, BoardReply, PathBoard};
 use cal_value::{OutOfMemory, Variant};
 use cal_words::OpCode;
 use std::alloc::Global;
+use std::process::Abort;
 
 const FUNCTION: AttrRef = AttrRef {
     number: 0,
@@ -39,30 +42,66 @@ fn reply_to(board: &mut PathBoard, code: OpCode, attr: AttrRef) -> Result<BoardR
     }
 }
 
-/// A board on which so many attributes are open, each in a slot of its own.
-fn with_slots(alloc: Global, slots: u32) -> Result<PathBoard, OutOfMemory> {
-    let mut board = PathBoard::new(alloc);
+/// A line, and the reply to it.
+type Line = (OpCode, AttrRef, BoardReply);
+
+/// Opens so many attributes, each in a slot of its own.
+fn open_slots(board: &mut PathBoard, slots: u32) -> Result<(), OutOfMemory> {
     for number in 0..slots {
-        let _ = reply_to(&mut board, OpCode::Begin, own(number))?;
+        let _ = reply_to(board, OpCode::Begin, own(number))?;
     }
-    Ok(board)
+    Ok(())
 }
 
-/// A board on which so many values of `function` are open.
-fn with_values(alloc: Global, values: u32) -> Result<PathBoard, OutOfMemory> {
-    let mut board = PathBoard::new(alloc);
+/// Opens so many values of `function`.
+fn open_values(board: &mut PathBoard, values: u32) -> Result<(), OutOfMemory> {
     for _ in 0..values {
-        let _ = reply_to(&mut board, OpCode::Begin, FUNCTION)?;
+        let _ = reply_to(board, OpCode::Begin, FUNCTION)?;
     }
-    Ok(board)
+    Ok(())
+}
+
+/// The first of these lines with another reply.
+fn wrong_line(board: &mut PathBoard, lines: &[Line]) -> Result<Option<usize>, OutOfMemory> {
+    for row in 0..lines.len() {
+        let (code, attr, wanted) = lines[row];
+        if reply_to(board, code, attr)? != wanted {
+            return Ok(Some(row));
+        }
+    }
+    Ok(None)
+}
+
+fn opened(board: &mut PathBoard, slots: u32, values: u32) -> Result<(), OutOfMemory> {
+    open_slots(board, slots)?;
+    open_values(board, values)
+}
+
+/// The same on a board with so many slots, and so many values of `function`.
+fn wrong_behind(
+    alloc: Global,
+    slots: u32,
+    values: u32,
+    lines: &[Line],
+) -> Result<Option<usize>, OutOfMemory> {
+    let mut board = PathBoard::new(alloc);
+    let wrong = match opened(&mut board, slots, values) {
+        Ok(()) => wrong_line(&mut board, lines),
+        Err(end) => Err(end),
+    };
+    drop(board);
+    wrong
+}
+
+fn check(rt: &impl Abort, wrong: Result<Option<usize>, OutOfMemory>) {
+    assert_eq!(rt; wrong, Ok(None), "the first wrong line");
 }
 
 #[test]
-fn the_65th_slot_is_refused(rt: HostRuntime) -> Result<(), OutOfMemory> {
+fn the_65th_slot_is_refused(rt: HostRuntime) {
     use BoardReply::{Done, SlotsFull};
     use OpCode::{Begin, End, Set};
-    let mut board = with_slots(rt.alloc(), 64)?;
-    let rows = [
+    let lines = [
         (Begin, own(64), SlotsFull),
         (Set, ITERATION, SlotsFull),
         (Begin, own(63), Done),
@@ -70,22 +109,14 @@ fn the_65th_slot_is_refused(rt: HostRuntime) -> Result<(), OutOfMemory> {
         (Begin, own(64), Done),
         (Begin, own(5), SlotsFull),
     ];
-    for (code, attr, wanted) in rows {
-        assert_eq!(rt;
-            reply_to(&mut board, code, attr)?,
-            wanted,
-            "{code:?} {attr:?}"
-        );
-    }
-    Ok(())
+    check(&rt, wrong_behind(rt.alloc(), 64, 0, &lines));
 }
 
 #[test]
-fn the_129th_value_of_a_slot_is_refused(rt: HostRuntime) -> Result<(), OutOfMemory> {
+fn the_129th_value_of_a_slot_is_refused(rt: HostRuntime) {
     use BoardReply::{Done, TooDeep};
     use OpCode::{Begin, Set};
-    let mut board = with_values(rt.alloc(), 127)?;
-    let rows = [
+    let lines = [
         (Begin, FUNCTION, Done),
         (Begin, FUNCTION, TooDeep),
         // another nested attribute has the same slot
@@ -93,22 +124,14 @@ fn the_129th_value_of_a_slot_is_refused(rt: HostRuntime) -> Result<(), OutOfMemo
         (Set, FUNCTION, Done),
         (Set, ITERATION, Done),
     ];
-    for (code, attr, wanted) in rows {
-        assert_eq!(rt;
-            reply_to(&mut board, code, attr)?,
-            wanted,
-            "{code:?} {attr:?}"
-        );
-    }
-    Ok(())
+    check(&rt, wrong_behind(rt.alloc(), 0, 127, &lines));
 }
 
 #[test]
-fn a_line_is_refused_by_the_slots_last_value(rt: HostRuntime) -> Result<(), OutOfMemory> {
+fn a_line_is_refused_by_the_slots_last_value(rt: HostRuntime) {
     use BoardReply::{Done, Mismatch, NotOpen};
     use OpCode::{Begin, End, Set};
-    let mut board = PathBoard::new(rt.alloc());
-    let rows = [
+    let lines = [
         (End, FUNCTION, NotOpen),
         (Begin, FUNCTION, Done),
         (End, LOOP, Mismatch { top: 0 }),
@@ -123,8 +146,5 @@ fn a_line_is_refused_by_the_slots_last_value(rt: HostRuntime) -> Result<(), OutO
         (End, ITERATION, Done),
         (End, ITERATION, NotOpen),
     ];
-    for (number, (code, attr, wanted)) in rows.into_iter().enumerate() {
-        assert_eq!(rt; reply_to(&mut board, code, attr)?, wanted, "row {number}");
-    }
-    Ok(())
+    check(&rt, wrong_behind(rt.alloc(), 0, 0, &lines));
 }

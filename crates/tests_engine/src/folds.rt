@@ -1,8 +1,9 @@
+//! Folds that are merged.
 ghost use Rattle.cal_ql.specs.Valid.{IsValidQuery};
 
-use crate::texts::{Row, is_true, query_of, record, rows_text};
+use crate::texts::{Row, has_rows, record};
 use cal_engine::Fold;
-use cal_ql::Query;
+use cal_ql::{Query, parse_query};
 use cal_value::OutOfMemory;
 use std::alloc::Global;
 
@@ -63,45 +64,46 @@ fn merged(alloc: Global, query: &Query, first: &[Row], last: &[Row]) -> Result<F
     }
 }
 
-fn ends_so(alloc: Global, fold: Fold, wanted: &str) -> Result<bool, OutOfMemory> {
-    let answer = fold.finish()?;
-    let rows = rows_text(alloc, &answer)?;
-    Ok(rows.as_str() == wanted)
+fn ends_so(alloc: Global, fold: Fold, wanted: &str) -> bool {
+    match fold.finish() {
+        Ok(answer) => has_rows(alloc, &answer, wanted),
+        Err(_) => false,
+    }
+}
+
+fn are_merged(alloc: Global, query: &Query, first: &[Row], last: &[Row], wanted: &str) -> bool
+    requires { IsValidQuery query.now }
+{
+    match merged(alloc, query, first, last) {
+        Ok(fold) => ends_so(alloc, fold, wanted),
+        Err(_) => false,
+    }
 }
 
 /// Whether two folds that are merged answer with these rows.
-fn merge_to(
-    alloc: Global,
-    text: &str,
-    first: &[Row],
-    last: &[Row],
-    wanted: &str,
-) -> Result<bool, OutOfMemory> {
-    let Some(query) = query_of(alloc, text)? else {
-        return Ok(false);
-    };
-    ends_so(alloc, merged(alloc, &query, first, last)?, wanted)
+fn merge_to(alloc: Global, text: &str, first: &[Row], last: &[Row], wanted: &str) -> bool {
+    match parse_query(alloc, text) {
+        Ok(query) => are_merged(alloc, &query, first, last, wanted),
+        Err(_) => false,
+    }
 }
 
 #[test]
 fn merged_folds_answer_for_both(rt: HostRuntime) {
     let text = "aggregate sum(x) group by path";
     let wanted = "/main/a sum#x=1;/main/b sum#x=5;/main sum#x=9;";
-    is_true(&rt, merge_to(rt.alloc(), text, &FIRST, &LAST, wanted));
+    assert!(rt; merge_to(rt.alloc(), text, &FIRST, &LAST, wanted));
 }
 
 #[test]
 fn a_fold_of_nothing_takes_the_other(rt: HostRuntime) {
     let text = "aggregate sum(x) group by path";
     let wanted = "/main sum#x=9;/main/b sum#x=3;";
-    is_true(&rt, merge_to(rt.alloc(), text, &[], &LAST, wanted));
+    assert!(rt; merge_to(rt.alloc(), text, &[], &LAST, wanted));
 }
 
 #[test]
 fn merged_folds_without_groups_keep_all_records(rt: HostRuntime) {
     let wanted = "/main/b x=2;/main x=4;/main/b x=3;/main x=5;";
-    is_true(
-        &rt,
-        merge_to(rt.alloc(), "where x>1", &FIRST, &LAST, wanted),
-    );
+    assert!(rt; merge_to(rt.alloc(), "where x>1", &FIRST, &LAST, wanted));
 }

@@ -1,3 +1,5 @@
+//! Groups and their rows.
+
 use crate::texts::{Case, Row, check};
 
 const ROWS: [Row; 5] = [

@@ -1,3 +1,5 @@
+//! Kernels.
+
 use crate::texts::{Case, Row, check};
 
 const NUMBERS: [Row; 4] = [

@@ -1,3 +1,5 @@
+//! The order of rows.
+
 use crate::texts::{Case, Row, check};
 
 const ROWS: [Row; 5] = [

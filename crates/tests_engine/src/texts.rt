@@ -1,8 +1,8 @@
-ghost use Rattle.std.specs.Prelude.{IfOk, IfSome};
+//! Queries and records, and what the answers show.
 ghost use Rattle.cal_ql.specs.Valid.{IsValidQuery};
 
 use cal_engine::answer;
-use cal_ql::{Query, QueryEnd, parse_query};
+use cal_ql::{Query, parse_query};
 use cal_rowset::Rowset;
 use cal_value::{
     Attribute, Entry, Kind, OutOfMemory, Props, Rec, Records, Seq, Text, Variant, parse_value,
@@ -21,59 +21,55 @@ pub(crate) type Row = (
 /// A query, and the rows and the columns that are expected.
 pub(crate) type Case = (&'static str, &'static str, &'static str);
 
-/// The answer is yes, and the memory was enough.
-pub(crate) fn is_true(rt: &impl Abort, answer: Result<bool, OutOfMemory>) {
-    assert_eq!(rt; answer, Ok(true));
-}
-
 /// Answers each query on the records, and compares the answer with what is expected.
 pub(crate) fn check(rt: &impl Abort, alloc: Global, rows: &[Row], cases: &'static [Case]) {
     assert_eq!(rt;
         wrong_case(alloc, rows, cases),
-        Ok(None),
+        None,
         "the first wrong query"
     );
 }
 
-fn wrong_case(
-    alloc: Global,
-    rows: &[Row],
-    cases: &'static [Case],
-) -> Result<Option<&'static str>, OutOfMemory> {
-    let records = records(alloc, rows)?;
+fn wrong_case(alloc: Global, rows: &[Row], cases: &'static [Case]) -> Option<&'static str> {
+    match records(alloc, rows) {
+        Ok(records) => wrong_answer(alloc, &records, cases),
+        Err(_) => Some("no records"),
+    }
+}
+
+fn wrong_answer(alloc: Global, records: &Records, cases: &'static [Case]) -> Option<&'static str> {
     for row in 0..cases.len() {
-        if !answers(alloc, &records, &cases[row])? {
-            return Ok(Some(cases[row].0));
+        if !answers(alloc, records, &cases[row]) {
+            return Some(cases[row].0);
         }
     }
-    Ok(None)
+    None
 }
 
-fn answers(alloc: Global, records: &Records, case: &Case) -> Result<bool, OutOfMemory> {
-    let Some(query) = query_of(alloc, case.0)? else {
-        return Ok(false);
-    };
-    let answer = answer(alloc, &query, records)?;
-    Ok(has_rows(alloc, &answer, case.1)? && has_columns(alloc, &answer, case.2)?)
-}
-
-fn has_rows(alloc: Global, answer: &Rowset, wanted: &str) -> Result<bool, OutOfMemory> {
-    Ok(rows_text(alloc, answer)?.as_str() == wanted)
-}
-
-fn has_columns(alloc: Global, answer: &Rowset, wanted: &str) -> Result<bool, OutOfMemory> {
-    Ok(columns_text(alloc, answer)?.as_str() == wanted)
-}
-
-/// The query of a text, if it is one.
-pub(crate) fn query_of(alloc: Global, text: &str) -> Result<Option<Query>, OutOfMemory>
-    ensures { IfOk result (λ query. IfSome query IsValidQuery) }
-{
-    match parse_query(alloc, text) {
-        Ok(query) => Ok(Some(query)),
-        Err(QueryEnd::OutOfMemory) => Err(OutOfMemory),
-        Err(_) => Ok(None),
+fn answers(alloc: Global, records: &Records, case: &Case) -> bool {
+    match parse_query(alloc, case.0) {
+        Ok(query) => is_answered(alloc, &query, records, case),
+        Err(_) => false,
     }
+}
+
+fn is_answered(alloc: Global, query: &Query, records: &Records, case: &Case) -> bool
+    requires { IsValidQuery query.now }
+{
+    match answer(alloc, query, records) {
+        Ok(answer) => has_rows(alloc, &answer, case.1) && has_columns(alloc, &answer, case.2),
+        Err(_) => false,
+    }
+}
+
+pub(crate) fn has_rows(alloc: Global, answer: &Rowset, wanted: &str) -> bool {
+    let mut out = Text::new(alloc);
+    put_rows(answer, &mut out).is_ok() && out.as_str() == wanted
+}
+
+fn has_columns(alloc: Global, answer: &Rowset, wanted: &str) -> bool {
+    let mut out = Text::new(alloc);
+    put_columns(answer, &mut out).is_ok() && out.as_str() == wanted
 }
 
 fn put_records(alloc: Global, rows: &[Row], all: &mut Seq<Rec>) -> Result<(), OutOfMemory> {
@@ -95,15 +91,20 @@ fn records(alloc: Global, rows: &[Row]) -> Result<Records, OutOfMemory> {
     })
 }
 
-pub(crate) fn record(alloc: Global, row: &Row) -> Result<Rec, OutOfMemory> {
-    let mut record = Rec {
-        paths: Seq::new(alloc),
-        imms: immediates(alloc, row.1)?,
-    };
-    if !row.0.is_empty() {
-        record.paths.push(path_of(alloc, row.0)?)?;
+fn paths_of(alloc: Global, names: &[&str]) -> Result<Seq<Seq<Entry>>, OutOfMemory> {
+    let mut paths = Seq::new(alloc);
+    if !names.is_empty() {
+        paths.push(path_of(alloc, names)?)?;
     }
-    Ok(record)
+    Ok(paths)
+}
+
+pub(crate) fn record(alloc: Global, row: &Row) -> Result<Rec, OutOfMemory> {
+    let paths = paths_of(alloc, row.0)?;
+    Ok(Rec {
+        paths,
+        imms: immediates(alloc, row.1)?,
+    })
 }
 
 fn function(alloc: Global, name: &str) -> Result<Entry, OutOfMemory> {
@@ -133,13 +134,11 @@ fn attribute(alloc: Global, name: &str, kind: Kind, props: u32) -> Result<Attrib
 /// The immediate of a name and a text, which is one of its kind.
 fn immediate(alloc: Global, name: &str, text: &str) -> Result<Entry, OutOfMemory> {
     let kind = kind_of(text);
-    let Ok(value) = parse_value(alloc, kind, text) else {
-        return Err(OutOfMemory);
-    };
-    Ok(Entry {
-        attr: attribute(alloc, name, kind, 1)?,
-        value,
-    })
+    let attr = attribute(alloc, name, kind, 1)?;
+    match parse_value(alloc, kind, text) {
+        Ok(value) => Ok(Entry { attr, value }),
+        Err(_) => Err(OutOfMemory),
+    }
 }
 
 fn immediates(alloc: Global, pairs: &[(&str, &str)]) -> Result<Seq<Entry>, OutOfMemory> {
@@ -163,38 +162,55 @@ fn kind_of(text: &str) -> Kind {
     }
 }
 
-/// The rows, each with `;` behind it; of each the entries of its paths, and then its immediates.
-pub(crate) fn rows_text(alloc: Global, answer: &Rowset) -> Result<Text, OutOfMemory> {
-    let mut out = Text::new(alloc);
-    for row in answer.rows.rows.as_slice() {
-        row_text(row, &mut out)?;
-        out.push_str(";")?;
-    }
-    Ok(out)
-}
-
-fn row_text(row: &Rec, out: &mut Text) -> Result<(), OutOfMemory> {
-    for path in row.paths.as_slice() {
-        for entry in path.as_slice() {
-            out.push_str("/")?;
-            print_value(&entry.value, out)?;
-        }
-    }
-    for entry in row.imms.as_slice() {
-        out.push_str(" ")?;
-        out.push_str(entry.attr.name.as_str())?;
-        out.push_str("=")?;
+/// The values of a path, each behind a slash.
+fn put_path(path: &[Entry], out: &mut Text) -> Result<(), OutOfMemory> {
+    for entry in path {
+        out.push_str("/")?;
         print_value(&entry.value, out)?;
     }
     Ok(())
 }
 
+fn put_paths(paths: &[Seq<Entry>], out: &mut Text) -> Result<(), OutOfMemory> {
+    for path in paths {
+        put_path(path.as_slice(), out)?;
+    }
+    Ok(())
+}
+
+fn put_immediate(entry: &Entry, out: &mut Text) -> Result<(), OutOfMemory> {
+    out.push_str(" ")?;
+    out.push_str(entry.attr.name.as_str())?;
+    out.push_str("=")?;
+    print_value(&entry.value, out)
+}
+
+fn put_immediates(entries: &[Entry], out: &mut Text) -> Result<(), OutOfMemory> {
+    for entry in entries {
+        put_immediate(entry, out)?;
+    }
+    Ok(())
+}
+
+/// The entries of its paths, and then its immediates, with `;` behind them.
+fn put_row(row: &Rec, out: &mut Text) -> Result<(), OutOfMemory> {
+    put_paths(row.paths.as_slice(), out)?;
+    put_immediates(row.imms.as_slice(), out)?;
+    out.push_str(";")
+}
+
+fn put_rows(answer: &Rowset, out: &mut Text) -> Result<(), OutOfMemory> {
+    for row in answer.rows.rows.as_slice() {
+        put_row(row, out)?;
+    }
+    Ok(())
+}
+
 /// The headers of the columns, each behind a blank.
-pub(crate) fn columns_text(alloc: Global, answer: &Rowset) -> Result<Text, OutOfMemory> {
-    let mut out = Text::new(alloc);
+fn put_columns(answer: &Rowset, out: &mut Text) -> Result<(), OutOfMemory> {
     for column in answer.columns.as_slice() {
         out.push_str(" ")?;
         out.push_str(column.header.as_str())?;
     }
-    Ok(out)
+    Ok(())
 }

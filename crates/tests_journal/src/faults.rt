@@ -1,130 +1,147 @@
+//! Faults of journals, and of the scripts before them.
+
 use cal_journal::{BothEnd, JournalKind, read_both};
-use std::process::Abort;
-use std::test::Fail;
+use cal_value::OutOfMemory;
+use std::alloc::{AllocError, Global};
 
-/// What stands behind the line `journal script`, and the first fault of the input, whose script
-/// has one line.
-type Case = (&'static str, Option<(u64, JournalKind)>);
+/// What may stand behind the line `journal script` of a script of one line.
+const FINE: [&str; 7] = [
+    "end",
+    "end\n\n\n",
+    "op 0 1\nop 007 99999999999999999999\nstart 0 -\nend",
+    "start 0 18446744073709551615\nline 0 1 done 0 0\nend",
+    "start 0 -\nline 0 1 mismatch:7 0 -\nline 0 2 busy:1 0 -\nend",
+    "start 0 -\nline 0 1 notopen 0 -\nline 0 2 toodeep 0 -\nend",
+    "start 0 -\nline 0 1 slotsfull 0 -\nline 0 2 merged 0 -\nend",
+];
 
-fn check<R: Abort + AllocGlobal>(rt: &R, cases: &[Case]) -> Result<(), Fail> {
-    for (text, wanted) in cases {
-        let whole = format!(in rt.alloc(); "thread\njournal script\n{text}")?;
-        let fault = match read_both(rt.alloc(), whole.as_bytes()) {
-            Ok(_) => None,
-            Err(BothEnd::Journal { line, kind }) => Some((line, kind)),
-            Err(_) => Some((0, JournalKind::Reply)),
-        };
-        assert_eq!(rt; fault, *wanted, "{text}");
+/// The same that is faulty, with the line and the kind.
+const FAULTS: [(&str, u64, JournalKind); 21] = [
+    ("start 0 18446744073709551616\nend", 3, JournalKind::Form),
+    ("start 0 -\nop 0 1\nend", 4, JournalKind::Form),
+    ("line 0 1 done 0 -\nend", 3, JournalKind::Form),
+    ("journal script\nend", 3, JournalKind::Form),
+    ("#\nend", 3, JournalKind::Form),
+    (" \nend", 3, JournalKind::Form),
+    ("op 0\nend", 3, JournalKind::Form),
+    ("op 0 1 \nend", 3, JournalKind::Form),
+    ("op 0 -1\nend", 3, JournalKind::Form),
+    ("end \n", 3, JournalKind::Form),
+    ("start 0 -\nline 0 1 Done 0 -\nend", 4, JournalKind::Form),
+    ("start 0 -\nline 0 1 done:1 0 -\nend", 4, JournalKind::Form),
+    (
+        "start 0 -\nline 0 1 mismatch 0 -\nend",
+        4,
+        JournalKind::Form,
+    ),
+    ("start 0 -\nline 0 1 busy: 0 -\nend", 4, JournalKind::Form),
+    (
+        "start 0 -\nline 0 1 busy:1:2 0 -\nend",
+        4,
+        JournalKind::Form,
+    ),
+    ("start 0 -\nline 0 1 done 0\nend", 4, JournalKind::Form),
+    ("", 3, JournalKind::Cut),
+    ("\n", 4, JournalKind::Cut),
+    ("start 0 -", 4, JournalKind::Cut),
+    ("end\n\nx", 5, JournalKind::After),
+    ("end\nend", 4, JournalKind::After),
+];
+
+fn fine() -> &'static [&'static str] {
+    &FINE
+}
+
+fn faults() -> &'static [(&'static str, u64, JournalKind)] {
+    &FAULTS
+}
+
+fn input(alloc: Global, text: &str) -> Result<String, AllocError> {
+    let mut whole = String::from_str(alloc, "thread\njournal script\n")?;
+    whole.push_str(text)?;
+    Ok(whole)
+}
+
+fn is_read(alloc: Global, text: &str) -> Result<bool, AllocError> {
+    let whole = input(alloc, text)?;
+    Ok(read_both(alloc, whole.as_bytes()).is_ok())
+}
+
+fn has_fault(alloc: Global, bytes: &[u8], end: BothEnd) -> bool {
+    match read_both(alloc, bytes) {
+        Ok(_) => false,
+        Err(found) => found == end,
     }
-    Ok(())
+}
+
+fn falls(alloc: Global, text: &str, line: u64, kind: JournalKind) -> Result<bool, AllocError> {
+    let whole = input(alloc, text)?;
+    let end = BothEnd::Journal { line, kind };
+    Ok(has_fault(alloc, whole.as_bytes(), end))
+}
+
+fn wrong_text(alloc: Global) -> Result<Option<usize>, AllocError> {
+    let rows = fine();
+    for row in 0..rows.len() {
+        if !is_read(alloc, rows[row])? {
+            return Ok(Some(row));
+        }
+    }
+    Ok(None)
+}
+
+fn wrong_fault(alloc: Global) -> Result<Option<usize>, AllocError> {
+    let rows = faults();
+    for row in 0..rows.len() {
+        let (text, line, kind) = rows[row];
+        if !falls(alloc, text, line, kind)? {
+            return Ok(Some(row));
+        }
+    }
+    Ok(None)
 }
 
 #[test]
-fn lines_have_forms(rt: HostRuntime) -> Result<(), Fail> {
-    check(
-        &rt,
-        &[
-            ("end", None),
-            ("end\n\n\n", None),
-            ("op 0 1\nop 007 99999999999999999999\nstart 0 -\nend", None),
-            ("start 0 18446744073709551615\nline 0 1 done 0 0\nend", None),
-            (
-                "start 0 18446744073709551616\nend",
-                Some((3, JournalKind::Form)),
-            ),
-            ("start 0 -\nop 0 1\nend", Some((4, JournalKind::Form))),
-            ("line 0 1 done 0 -\nend", Some((3, JournalKind::Form))),
-            ("journal script\nend", Some((3, JournalKind::Form))),
-            ("#\nend", Some((3, JournalKind::Form))),
-            (" \nend", Some((3, JournalKind::Form))),
-            ("op 0\nend", Some((3, JournalKind::Form))),
-            ("op 0 1 \nend", Some((3, JournalKind::Form))),
-            ("op 0 -1\nend", Some((3, JournalKind::Form))),
-            ("end \n", Some((3, JournalKind::Form))),
-        ],
-    )
+fn lines_and_replies_have_forms(rt: HostRuntime) {
+    assert_eq!(rt; wrong_text(rt.alloc()), Ok(None), "the first wrong row");
 }
 
 #[test]
-fn replies_have_forms(rt: HostRuntime) -> Result<(), Fail> {
-    check(
-        &rt,
-        &[
-            (
-                "start 0 -\nline 0 1 mismatch:7 0 -\nline 0 2 busy:1 0 -\nend",
-                None,
-            ),
-            (
-                "start 0 -\nline 0 1 notopen 0 -\nline 0 2 toodeep 0 -\nend",
-                None,
-            ),
-            (
-                "start 0 -\nline 0 1 slotsfull 0 -\nline 0 2 merged 0 -\nend",
-                None,
-            ),
-            (
-                "start 0 -\nline 0 1 Done 0 -\nend",
-                Some((4, JournalKind::Form)),
-            ),
-            (
-                "start 0 -\nline 0 1 done:1 0 -\nend",
-                Some((4, JournalKind::Form)),
-            ),
-            (
-                "start 0 -\nline 0 1 mismatch 0 -\nend",
-                Some((4, JournalKind::Form)),
-            ),
-            (
-                "start 0 -\nline 0 1 busy: 0 -\nend",
-                Some((4, JournalKind::Form)),
-            ),
-            (
-                "start 0 -\nline 0 1 busy:1:2 0 -\nend",
-                Some((4, JournalKind::Form)),
-            ),
-            (
-                "start 0 -\nline 0 1 done 0\nend",
-                Some((4, JournalKind::Form)),
-            ),
-        ],
-    )
+fn the_first_fault_is_told(rt: HostRuntime) {
+    assert_eq!(rt; wrong_fault(rt.alloc()), Ok(None), "the first wrong row");
+}
+
+/// Whether the first fault of an input is told so.
+fn is_told(alloc: Global, bytes: &[u8], wanted: &str) -> Result<bool, OutOfMemory> {
+    let Err(end) = read_both(alloc, bytes) else {
+        return Ok(false);
+    };
+    Ok(format!(in alloc; "{end}")?.as_str() == wanted)
+}
+
+/// Inputs whose script is faulty, or whose journal is, and what is told.
+const TOLD: [(&[u8], &str); 4] = [
+    (b"tick 1\njournal\nnosuch\n", "line 1: Misplaced"),
+    (b"thread\njournal\n", "line 2: Form"),
+    (b"thread\njournals\n", "line 2: UnknownWord"),
+    (b"thread\njournal real\n\xff\n", "line 3: Form"),
+];
+
+fn told() -> &'static [(&'static [u8], &'static str)] {
+    &TOLD
+}
+
+fn wrong_told(alloc: Global) -> Result<Option<usize>, OutOfMemory> {
+    let rows = told();
+    for row in 0..rows.len() {
+        if !is_told(alloc, rows[row].0, rows[row].1)? {
+            return Ok(Some(row));
+        }
+    }
+    Ok(None)
 }
 
 #[test]
-fn journals_end(rt: HostRuntime) -> Result<(), Fail> {
-    check(
-        &rt,
-        &[
-            ("", Some((3, JournalKind::Cut))),
-            ("\n", Some((4, JournalKind::Cut))),
-            ("start 0 -", Some((4, JournalKind::Cut))),
-            ("end\n\nx", Some((5, JournalKind::After))),
-            ("end\nend", Some((4, JournalKind::After))),
-        ],
-    )
-}
-
-#[test]
-fn a_fault_of_the_script_goes_first(rt: HostRuntime) -> Result<(), Fail> {
-    let end = read_both(rt.alloc(), b"tick 1\njournal\nnosuch\n")
-        .err()
-        .ok_or("a fault")?;
-    let text = format!(in rt.alloc(); "{end}")?;
-    assert_eq!(rt; text.as_str(), "line 1: Misplaced");
-    let end = read_both(rt.alloc(), b"thread\njournal\n")
-        .err()
-        .ok_or("a fault")?;
-    let text = format!(in rt.alloc(); "{end}")?;
-    assert_eq!(rt; text.as_str(), "line 2: Form");
-    let end = read_both(rt.alloc(), b"thread\njournals\n")
-        .err()
-        .ok_or("a fault")?;
-    let text = format!(in rt.alloc(); "{end}")?;
-    assert_eq!(rt; text.as_str(), "line 2: UnknownWord");
-    let end = read_both(rt.alloc(), b"thread\njournal real\n\xff\n")
-        .err()
-        .ok_or("a fault")?;
-    let text = format!(in rt.alloc(); "{end}")?;
-    assert_eq!(rt; text.as_str(), "line 3: Form");
-    Ok(())
+fn a_fault_of_the_script_goes_first(rt: HostRuntime) {
+    assert_eq!(rt; wrong_told(rt.alloc()), Ok(None), "the first wrong row");
 }

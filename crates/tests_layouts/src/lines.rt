@@ -1,6 +1,6 @@
-use crate::answers::{Row, Value, answer};
-use cal_tabfmt::expand_text;
-use std::test::Fail;
+//! Plain lines.
+
+use crate::answers::{Case, Layout, Row, Value, check};
 
 const ANSWER: [Row<'_>; 3] = [
     (
@@ -25,9 +25,6 @@ const COLUMNS: [(&str, &str); 5] = [
     ("f", "function"),
 ];
 
-/// Rows, columns as headers and names, whether a row shows its own names, and the lines.
-type Case<'a> = (&'a [Row<'a>], &'a [(&'a str, &'a str)], bool, &'a str);
-
 const CASES: [Case<'_>; 4] = [
     (
         &ANSWER,
@@ -46,10 +43,6 @@ const CASES: [Case<'_>; 4] = [
 ];
 
 #[test]
-fn each_answer_has_its_lines(rt: HostRuntime) -> Result<(), Fail> {
-    for (rows, columns, all, text) in CASES {
-        let made = answer(rt.alloc(), rows, columns, all)?;
-        assert_eq!(rt; expand_text(rt.alloc(), &made)?.as_str(), text);
-    }
-    Ok(())
+fn each_answer_has_its_lines(rt: HostRuntime) {
+    check(&rt, rt.alloc(), Layout::Lines, &CASES);
 }

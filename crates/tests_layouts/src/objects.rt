@@ -1,6 +1,6 @@
-use crate::answers::{Row, Value, answer};
-use cal_jsonfmt::json_text;
-use std::test::Fail;
+//! JSON.
+
+use crate::answers::{Case, Layout, Row, Value, check};
 
 const ROWS: [Row<'_>; 5] = [
     (
@@ -50,25 +50,20 @@ const EXPECTED: &str = concat!(
     "{}]\n"
 );
 
-#[test]
-fn an_answer_is_an_array_of_objects(rt: HostRuntime) -> Result<(), Fail> {
-    let rows = answer(rt.alloc(), &ROWS, &COLUMNS, false)?;
-    assert_eq!(rt; json_text(rt.alloc(), &rows)?.as_str(), EXPECTED);
-    Ok(())
-}
+const ESCAPED: [Row<'_>; 1] = [(&[&[("function", 276, Value::Text("a,b=c\\d\ne"))]], &[])];
+
+const CASES: [Case<'_>; 3] = [
+    (&ROWS, &COLUMNS, false, EXPECTED),
+    (&[], &COLUMNS, true, "[]\n"),
+    (
+        &ESCAPED,
+        &[("path", "path")],
+        true,
+        "[{\"path\":\"a,b=c\\\\d\\ne\"}]\n",
+    ),
+];
 
 #[test]
-fn an_empty_answer_is_an_empty_array(rt: HostRuntime) -> Result<(), Fail> {
-    let none = answer(rt.alloc(), &[], &COLUMNS, true)?;
-    assert_eq!(rt; json_text(rt.alloc(), &none)?.as_str(), "[]\n");
-    Ok(())
-}
-
-#[test]
-fn a_path_is_a_string_with_its_escapes(rt: HostRuntime) -> Result<(), Fail> {
-    let row: Row<'_> = (&[&[("function", 276, Value::Text("a,b=c\\d\ne"))]], &[]);
-    let rows = answer(rt.alloc(), &[row], &[("path", "path")], true)?;
-    let text = json_text(rt.alloc(), &rows)?;
-    assert_eq!(rt; text.as_str(), "[{\"path\":\"a,b=c\\\\d\\ne\"}]\n");
-    Ok(())
+fn each_answer_is_an_array_of_objects(rt: HostRuntime) {
+    check(&rt, rt.alloc(), Layout::Json, &CASES);
 }

@@ -1,9 +1,6 @@
-use crate::answers::{Row, Value, answer};
-use cal_treefmt::tree_text;
-use std::test::Fail;
+//! Trees.
 
-/// Rows, columns as headers and names, and the tree.
-type Case<'a> = (&'a [Row<'a>], &'a [(&'a str, &'a str)], &'a str);
+use crate::answers::{Case, Layout, Row, Value, check};
 
 // the times of a profile: one without a hierarchy, and one at each node
 const PROFILE: [Row<'_>; 4] = [
@@ -68,12 +65,14 @@ const CASES: [Case<'_>; 4] = [
     (
         &PROFILE,
         &[("path", "path"), ("t", "t"), ("i", "i")],
+        true,
         "Path        t   i\n            0 288\nmain       48 288\n  steps    40 240\n    \
          solve 200 200\n",
     ),
     (
         &[],
         &[("path", "path"), ("t\n", "t"), ("u", "u")],
+        true,
         "Path t\\n u\n",
     ),
     (
@@ -86,17 +85,19 @@ const CASES: [Case<'_>; 4] = [
             ("level", "level"),
             ("u", "u"),
         ],
+        true,
         "Path  time x     u\n       -22\nmain     3\nmain         a\\nb\n  b      1\n  b\n\
          é\n  4\n    5    6 9\n",
     ),
-    (&NODES, &[], "Path\n\nmain\nmain\n  b\n  b\né\n  4\n    5\n"),
+    (
+        &NODES,
+        &[],
+        true,
+        "Path\n\nmain\nmain\n  b\n  b\né\n  4\n    5\n",
+    ),
 ];
 
 #[test]
-fn each_answer_has_its_tree(rt: HostRuntime) -> Result<(), Fail> {
-    for (rows, columns, text) in CASES {
-        let answer = answer(rt.alloc(), rows, columns, true)?;
-        assert_eq!(rt; tree_text(rt.alloc(), &answer)?.as_str(), text);
-    }
-    Ok(())
+fn each_answer_has_its_tree(rt: HostRuntime) {
+    check(&rt, rt.alloc(), Layout::Tree, &CASES);
 }

@@ -1,3 +1,4 @@
+//! What kernels come to.
 ghost use Rattle.std.specs.Prelude.{◌≡◌, ◌≤◌, ◌^◌, ◌<◌, length, All};
 ghost use Rattle.cal_agg.specs.Numbers.{IsSmall, IsWithin};
 ghost use Rattle.cal_agg.specs.Parts.{AreWithin, sum_over};
@@ -6,8 +7,9 @@ use cal_agg::Num::{Fixed, Whole};
 use cal_agg::{
     AggRow, Cell, Count, Greatest, Kernel, Least, Num, Sum, average, kernel_of, percent_total,
 };
+use cal_value::OutOfMemory;
+use std::alloc::Global;
 use std::process::Abort;
-use std::test::Fail;
 
 // the greatest magnitude that may be added
 const LIMIT: i128 = 77371252455336267181195264;
@@ -31,34 +33,31 @@ fn summed(rt: &impl Abort, numbers: &[Num]) -> Sum
 }
 
 // What the numbers come to: their sum, their least and greatest one, and their average.
+#[derive(Clone, Copy)]
 struct Results {
     sum: Option<Num>,
     ends: Option<(Num, Num)>,
     average: Option<Num>,
 }
 
-fn come_to(rt: &impl Abort, numbers: &[Num], results: Results) {
+fn has_sum(rt: &impl Abort, numbers: &[Num], results: &Results) -> bool {
+    let sum = summed(rt, numbers);
+    sum.value() == results.sum && average(&sum, numbers.len() as u64) == results.average
+}
+
+fn has_ends(rt: &impl Abort, numbers: &[Num], results: &Results) -> bool {
     check(rt, numbers);
-    let sum: Sum = kernel_of(numbers);
     let least: Least = kernel_of(numbers);
     let greatest: Greatest = kernel_of(numbers);
-    let Results {
-        sum: total,
-        ends,
-        average: mean,
-    } = results;
-    assert_eq!(rt; sum.value(), total, "sum of {numbers:?}");
-    assert_eq!(rt; least.value(), ends.map(|e| e.0), "least of {numbers:?}");
-    assert_eq!(rt;
-        greatest.value(),
-        ends.map(|e| e.1),
-        "greatest of {numbers:?}"
-    );
-    assert_eq!(rt;
-        average(&sum, numbers.len() as u64),
-        mean,
-        "average of {numbers:?}"
-    );
+    match results.ends {
+        Some((low, high)) => least.value() == Some(low) && greatest.value() == Some(high),
+        None => least.value().is_none() && greatest.value().is_none(),
+    }
+}
+
+fn come_to(rt: &impl Abort, numbers: &[Num], results: Results) {
+    assert!(rt; has_sum(rt, numbers, &results), "sum and average");
+    assert!(rt; has_ends(rt, numbers, &results), "ends");
 }
 
 #[test]
@@ -131,60 +130,61 @@ fn numbers_at_their_limit(rt: HostRuntime) {
     come_to(&rt, &[Whole(LIMIT), Whole(-LIMIT), Fixed(0)], results);
 }
 
+/// Four times the limit, and two numbers more.
+fn with_two(rt: &impl Abort, one: Num, other: Num) -> Sum
+    ensures { AreWithin 118 result }
+{
+    let a = Whole(LIMIT);
+    summed(rt, &[a, a, a, a, one, other])
+}
+
 // 2^118 is 332306998946228968225951765 wholes and 70086144 nano-units
 #[test]
 fn a_fixed_sum_of_2_to_118_is_there(rt: HostRuntime) {
-    let rest = 22821989124883899501170709;
-    let a = Whole(LIMIT);
-    let sum = summed(&rt, &[a, a, a, a, Whole(rest), Fixed(70086144)]);
-    let most = 332306998946228968225951765070086144;
-    assert_eq!(rt; sum.value(), Some(Fixed(most)));
-    let sum = summed(&rt, &[a, a, a, a, Whole(rest), Fixed(70086145)]);
-    assert_eq!(rt; sum.value(), None);
-    assert_eq!(rt; average(&sum, 6), None);
-    let sum = summed(&rt, &[a, a, a, a, Whole(rest), Whole(1)]);
-    assert_eq!(rt; sum.value(), Some(Whole(332306998946228968225951766)));
+    let rest = Whole(22821989124883899501170709);
+    let sum = with_two(&rt, rest, Fixed(70086144));
+    assert!(rt; sum.value() == Some(Fixed(332306998946228968225951765070086144)));
+    let sum = with_two(&rt, rest, Fixed(70086145));
+    assert!(rt; sum.value().is_none() && average(&sum, 6).is_none());
+    let sum = with_two(&rt, rest, Whole(1));
+    assert!(rt; sum.value() == Some(Whole(332306998946228968225951766)));
+}
+
+/// What the numbers of a group are of those of all.
+fn percentage(rt: &impl Abort, group: &[Num], all: &[Num]) -> Option<Num> {
+    percent_total(&summed(rt, group), &summed(rt, all))
 }
 
 #[test]
 fn percentages_round_towards_0(rt: HostRuntime) {
-    let group = summed(&rt, &[Whole(-2)]);
-    let all = summed(&rt, &[Whole(-2), Whole(5)]);
-    assert_eq!(rt; percent_total(&group, &all), Some(Whole(-66)));
-    let all = summed(&rt, &[Whole(-2), Fixed(5000000000)]);
-    assert_eq!(rt; percent_total(&group, &all), Some(Whole(-66)));
-    let none = summed(&rt, &[Whole(-2), Whole(2)]);
-    assert_eq!(rt; percent_total(&group, &none), None);
-    assert_eq!(rt; percent_total(&Sum::start(), &all), None);
-    assert_eq!(rt; percent_total(&group, &Sum::start()), None);
+    let group = [Whole(-2)];
+    assert!(rt; percentage(&rt, &group, &[Whole(-2), Whole(5)]) == Some(Whole(-66)));
+    let fixed = [Whole(-2), Fixed(5000000000)];
+    assert!(rt; percentage(&rt, &group, &fixed) == Some(Whole(-66)));
+    assert!(rt; percentage(&rt, &group, &[Whole(-2), Whole(2)]).is_none());
+    assert!(rt; percentage(&rt, &[], &fixed).is_none());
+    assert!(rt; percentage(&rt, &group, &[]).is_none());
 }
 
 #[test]
 fn a_percentage_of_too_large_a_measure_is_absent(rt: HostRuntime) {
-    let group = summed(
-        &rt,
-        &[
-            Whole(LIMIT),
-            Whole(LIMIT),
-            Whole(LIMIT),
-            Whole(LIMIT),
-            Whole(LIMIT),
-        ],
-    );
-    assert_eq!(rt; percent_total(&group, &group), Some(Whole(100)));
-    let all = summed(&rt, &[Fixed(1)]);
-    assert_eq!(rt; percent_total(&group, &all), None);
-    assert_eq!(rt; percent_total(&all, &group), None);
+    let a = Whole(LIMIT);
+    let group = [a, a, a, a, a];
+    assert!(rt; percentage(&rt, &group, &group) == Some(Whole(100)));
+    assert!(rt; percentage(&rt, &group, &[Fixed(1)]).is_none());
+    assert!(rt; percentage(&rt, &[Fixed(1)], &group).is_none());
+}
+
+fn rows_merge(alloc: Global) -> Result<bool, OutOfMemory> {
+    let other = AggRow::start(alloc, 2)?;
+    let mut one = AggRow::start(alloc, 2)?;
+    one.merge(&other);
+    Ok(one.cells.len() == 2 && one.count.value() == Some(Whole(0)))
 }
 
 #[test]
-fn a_row_merges_cell_by_cell(rt: HostRuntime) -> Result<(), Fail> {
-    let mut one = AggRow::start(rt.alloc(), 2)?;
-    let other = AggRow::start(rt.alloc(), 2)?;
-    one.merge(&other);
-    assert_eq!(rt; one.cells.len(), 2);
-    assert_eq!(rt; one.count.value(), Some(Whole(0)));
-    Ok(())
+fn a_row_merges_cell_by_cell(rt: HostRuntime) {
+    assert!(rt; rows_merge(rt.alloc()) == Ok(true));
 }
 
 #[test]

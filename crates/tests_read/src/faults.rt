@@ -1,5 +1,8 @@
-use crate::shown::{all_hold, is_true, reads_as, show};
-use cal_value::{OutOfMemory, Text};
+//! Each kind of fault.
+
+use crate::shown::{all_hold, fails_at, is_true, joined, reads_as, wrong_fault};
+use cal_read::StreamKind;
+use cal_value::OutOfMemory;
 use std::alloc::{AllocError, Global};
 
 // a stream with an attribute `a` (id 13) below properties 276 (id 12), a node of it (id 14), and an
@@ -11,91 +14,71 @@ const FRONT: &str = "__rec=node,id=12,attr=10,data=276,parent=3\n\
     __rec=node,id=16,attr=8,data=i,parent=15\n";
 
 /// The sixth line, and its fault: each kind alone, and two on one line in both orders.
-const FIELDS: [(&str, &str); 12] = [
-    ("a", "BadField"),
-    ("__rec=ctx,ref=14,ref=14", "BadField"),
-    ("__rec=ctx,k=1,\\k=2", "BadField"),
-    ("__rec=ctx,__rec=ctx", "BadField"),
-    ("ref=14,__rec=ctx", "NoRecord"),
-    ("__rec=ctx=ctx", "NoRecord"),
-    ("__rec=row", "NoRecord"),
-    ("__rec=node,attr=13,data=x", "MissingField"),
-    ("__rec=node,id=17,data=x", "MissingField"),
-    ("__rec=node,id=17,attr=13", "MissingField"),
-    ("__rec=node,id=17,attr=13,data=x=y", "MissingField"),
+const FAULTS: [(&str, StreamKind); 34] = [
+    ("a", StreamKind::BadField),
+    ("__rec=ctx,ref=14,ref=14", StreamKind::BadField),
+    ("__rec=ctx,k=1,\\k=2", StreamKind::BadField),
+    ("__rec=ctx,__rec=ctx", StreamKind::BadField),
+    ("ref=14,__rec=ctx", StreamKind::NoRecord),
+    ("__rec=ctx=ctx", StreamKind::NoRecord),
+    ("__rec=row", StreamKind::NoRecord),
+    ("__rec=node,attr=13,data=x", StreamKind::MissingField),
+    ("__rec=node,id=17,data=x", StreamKind::MissingField),
+    ("__rec=node,id=17,attr=13", StreamKind::MissingField),
+    (
+        "__rec=node,id=17,attr=13,data=x=y",
+        StreamKind::MissingField,
+    ),
     (
         "__rec=node,id=17,attr=13,data=x,parent=14=14",
-        "MissingField",
+        StreamKind::MissingField,
     ),
-];
-
-const NUMBERS: [(&str, &str); 11] = [
-    ("__rec=node,id=x,attr=13", "MissingField"),
-    ("__rec=ctx,attr=16", "Uneven"),
-    ("__rec=ctx,data=1", "Uneven"),
-    ("__rec=globals,attr=16=16,data=1", "Uneven"),
-    ("__rec=ctx,ref=x,attr=16", "Uneven"),
-    ("__rec=node,id=-1,attr=13,data=x", "BadNumber"),
+    ("__rec=node,id=x,attr=13", StreamKind::MissingField),
+    ("__rec=ctx,attr=16", StreamKind::Uneven),
+    ("__rec=ctx,data=1", StreamKind::Uneven),
+    ("__rec=globals,attr=16=16,data=1", StreamKind::Uneven),
+    ("__rec=ctx,ref=x,attr=16", StreamKind::Uneven),
+    ("__rec=node,id=-1,attr=13,data=x", StreamKind::BadNumber),
     (
         "__rec=node,id=18446744073709551616,attr=13,data=x",
-        "BadNumber",
+        StreamKind::BadNumber,
     ),
-    ("__rec=ctx,ref=", "BadNumber"),
-    ("__rec=ctx,ref=99=x", "BadNumber"),
-    ("__rec=ctx,ref=x=99", "BadNumber"),
-    ("__rec=ctx,ref=17", "UnknownNode"),
+    ("__rec=ctx,ref=", StreamKind::BadNumber),
+    ("__rec=ctx,ref=99=x", StreamKind::BadNumber),
+    ("__rec=ctx,ref=x=99", StreamKind::BadNumber),
+    ("__rec=ctx,ref=17", StreamKind::UnknownNode),
+    ("__rec=node,id=17,attr=17,data=x", StreamKind::UnknownNode),
+    (
+        "__rec=node,id=17,attr=14,data=x,parent=99",
+        StreamKind::UnknownNode,
+    ),
+    ("__rec=ctx,attr=14,data=x", StreamKind::NotAttribute),
+    ("__rec=ctx,attr=16=14,data=x=x", StreamKind::NotAttribute),
+    ("__rec=ctx,attr=16,data=x", StreamKind::BadValue),
+    (
+        "__rec=node,id=17,attr=10,data=4294967296",
+        StreamKind::BadValue,
+    ),
+    ("__rec=node,id=17,attr=10,data=-1", StreamKind::BadValue),
+    ("__rec=node,id=17,attr=8,data=b", StreamKind::NoKind),
+    ("__rec=node,id=14,attr=8,data=b", StreamKind::NoKind),
+    ("__rec=node,id=14,attr=13,data=y", StreamKind::Redefined),
+    ("__rec=node,id=3,attr=13,data=y", StreamKind::Redefined),
 ];
 
-const NODES: [(&str, &str); 11] = [
-    ("__rec=node,id=17,attr=17,data=x", "UnknownNode"),
-    ("__rec=node,id=17,attr=14,data=x,parent=99", "UnknownNode"),
-    ("__rec=ctx,attr=14,data=x", "NotAttribute"),
-    ("__rec=ctx,attr=16=14,data=x=x", "NotAttribute"),
-    ("__rec=ctx,attr=16,data=x", "BadValue"),
-    ("__rec=node,id=17,attr=10,data=4294967296", "BadValue"),
-    ("__rec=node,id=17,attr=10,data=-1", "BadValue"),
-    ("__rec=node,id=17,attr=8,data=b", "NoKind"),
-    ("__rec=node,id=14,attr=8,data=b", "NoKind"),
-    ("__rec=node,id=14,attr=13,data=y", "Redefined"),
-    ("__rec=node,id=3,attr=13,data=y", "Redefined"),
-];
-
-/// Whether this is wrong with a line behind the front.
-fn is_fault(alloc: Global, line: &str, kind: &str) -> Result<bool, OutOfMemory> {
-    let stream = format!(in alloc; "{FRONT}{line}\n")?;
-    let mut out = Text::new(alloc);
-    show(alloc, &mut out, stream.as_bytes())?;
-    Ok(out.as_str().strip_prefix("line 6: ") == Some(kind))
-}
-
-fn wrong_fault(alloc: Global, rows: &[(&str, &str)]) -> Result<Option<usize>, OutOfMemory> {
-    for row in 0..rows.len() {
-        if !is_fault(alloc, rows[row].0, rows[row].1)? {
-            return Ok(Some(row));
-        }
-    }
-    Ok(None)
+fn faults() -> &'static [(&'static str, StreamKind)] {
+    &FAULTS
 }
 
 #[test]
-fn faults_of_fields_come_in_order(rt: HostRuntime) {
-    all_hold(&rt, wrong_fault(rt.alloc(), &FIELDS));
-}
-
-#[test]
-fn faults_of_numbers_come_in_order(rt: HostRuntime) {
-    all_hold(&rt, wrong_fault(rt.alloc(), &NUMBERS));
-}
-
-#[test]
-fn faults_of_nodes_come_in_order(rt: HostRuntime) {
-    all_hold(&rt, wrong_fault(rt.alloc(), &NODES));
+fn faults_of_a_line_come_in_order(rt: HostRuntime) {
+    all_hold(&rt, wrong_fault(rt.alloc(), FRONT, faults()));
 }
 
 #[test]
 fn a_line_that_is_no_text_is_refused(rt: HostRuntime) {
     let stream = b"\n__rec=ctx\n\xff,\n";
-    is_true(&rt, reads_as(rt.alloc(), stream, "line 3: NotText"));
+    assert!(rt; fails_at(rt.alloc(), stream, 3, StreamKind::NotText));
 }
 
 /// A node below the one before.
@@ -106,24 +89,33 @@ fn put_level(alloc: Global, level: u32, stream: &mut String) -> Result<(), Alloc
     stream.push_str(line.as_str())
 }
 
-/// A stream of nodes one below another, so many.
-fn put_deep(alloc: Global, depth: u32, stream: &mut String) -> Result<(), AllocError> {
-    stream.push_str(FRONT)?;
-    stream.push_str("__rec=node,id=100,attr=13,data=x\n")?;
+fn put_levels(alloc: Global, depth: u32, stream: &mut String) -> Result<(), AllocError> {
     for level in 1..depth {
         put_level(alloc, level, stream)?;
     }
     Ok(())
 }
 
-fn deep_reads_as(alloc: Global, depth: u32, wanted: &str) -> Result<bool, OutOfMemory> {
-    let mut stream = String::new(alloc);
-    put_deep(alloc, depth, &mut stream)?;
-    reads_as(alloc, stream.as_bytes(), wanted)
+/// A stream of nodes one below another, so many.
+fn deep(alloc: Global, depth: u32) -> Result<String, AllocError> {
+    let mut stream = joined(alloc, &[FRONT, "__rec=node,id=100,attr=13,data=x\n"])?;
+    put_levels(alloc, depth, &mut stream)?;
+    Ok(stream)
+}
+
+fn is_read(alloc: Global, depth: u32) -> Result<bool, OutOfMemory> {
+    let stream = deep(alloc, depth)?;
+    reads_as(alloc, stream.as_bytes(), ";")
+}
+
+fn is_too_deep(alloc: Global, depth: u32, line: u64) -> Result<bool, OutOfMemory> {
+    let stream = deep(alloc, depth)?;
+    let kind = StreamKind::TooDeep;
+    Ok(fails_at(alloc, stream.as_bytes(), line, kind))
 }
 
 #[test]
 fn a_path_has_at_most_1024_entries(rt: HostRuntime) {
-    is_true(&rt, deep_reads_as(rt.alloc(), 1024, ";"));
-    is_true(&rt, deep_reads_as(rt.alloc(), 1025, "line 1030: TooDeep"));
+    is_true(&rt, is_read(rt.alloc(), 1024));
+    is_true(&rt, is_too_deep(rt.alloc(), 1025, 1030));
 }

@@ -1,4 +1,7 @@
-use crate::shown::{all_hold, wrong_row};
+//! Fields in any order, and nodes below others.
+
+use crate::shown::{all_hold, fails_at, wrong_row};
+use cal_read::StreamKind;
 
 /// A stream, and its records: of each row its paths with a bar behind each, and its immediates; the
 /// globals last.
@@ -38,14 +41,8 @@ const FIELDS: [(&str, &str); 8] = [
     ),
 ];
 
-const NODES: [(&str, &str); 6] = [
+const NODES: [(&str, &str); 5] = [
     // the kind is that of the nearest kind above, and so are the properties
-    (
-        "__rec=node,id=12,attr=9,data=int,parent=3\n__rec=node,id=13,attr=10,data=1,parent=12\n\
-         __rec=node,id=14,attr=8,data=u,parent=13\n__rec=node,id=15,attr=14,data=7\n\
-         __rec=node,id=16,attr=8,data=w,parent=14\n__rec=ctx,ref=15,attr=16=14,data=-2=+\n",
-        "line 6: BadValue",
-    ),
     (
         "__rec=node,id=12,attr=9,data=int,parent=3\n__rec=node,id=13,attr=10,data=1,parent=12\n\
          __rec=node,id=14,attr=8,data=u,parent=13\n__rec=node,id=15,attr=14,data=7\n\
@@ -69,12 +66,32 @@ const NODES: [(&str, &str); 6] = [
     ("__rec=globals\n", ";"),
 ];
 
+fn fields() -> &'static [(&'static str, &'static str)] {
+    &FIELDS
+}
+
+fn nodes() -> &'static [(&'static str, &'static str)] {
+    &NODES
+}
+
 #[test]
 fn fields_come_in_any_order(rt: HostRuntime) {
-    all_hold(&rt, wrong_row(rt.alloc(), &FIELDS));
+    all_hold(&rt, wrong_row(rt.alloc(), "", fields(), ""));
 }
 
 #[test]
 fn nodes_stand_below_others(rt: HostRuntime) {
-    all_hold(&rt, wrong_row(rt.alloc(), &NODES));
+    all_hold(&rt, wrong_row(rt.alloc(), "", nodes(), ""));
+}
+
+// a value that isn't of the kind above
+const UNLIKE: &str =
+    "__rec=node,id=12,attr=9,data=int,parent=3\n__rec=node,id=13,attr=10,data=1,parent=12\n\
+         __rec=node,id=14,attr=8,data=u,parent=13\n__rec=node,id=15,attr=14,data=7\n\
+         __rec=node,id=16,attr=8,data=w,parent=14\n__rec=ctx,ref=15,attr=16=14,data=-2=+\n";
+
+#[test]
+fn the_kind_above_decides(rt: HostRuntime) {
+    let bytes = UNLIKE.as_bytes();
+    assert!(rt; fails_at(rt.alloc(), bytes, 6, StreamKind::BadValue));
 }

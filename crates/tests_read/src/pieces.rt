@@ -1,10 +1,11 @@
+//! Streams in pieces.
 ghost use Rattle.cal_read.specs.Owned.{IsOwnedReady};
 ghost use Rattle.cal_read.specs.Reading.{IsReady};
 
-use crate::shown::{all_hold, is_true, reads_as, show_all, show_end};
+use crate::shown::{all_hold, are_shown, fails_at, is_true, reads_as};
 use cal_context::{Context, Taken};
 use cal_read::{Reader, StreamEnd, StreamKind, StreamReader, one_reading, readings_stay};
-use cal_value::{OutOfMemory, Rec, Seq, Text};
+use cal_value::{OutOfMemory, Rec, Seq};
 use std::alloc::Global;
 
 // a node for a unit, a blank line and globals
@@ -55,19 +56,16 @@ fn feed_bytes(reader: &mut Reader, bytes: &[u8], rows: &mut Seq<Rec>) -> Result<
     reader.finish(rows)
 }
 
-/// Whether the records, the globals last, or the fault are the stream's.
+/// Whether the records, the globals last, are the stream's.
 fn is_shown(
     alloc: Global,
     rows: &[Rec],
     read: Result<Rec, StreamEnd>,
 ) -> Result<bool, OutOfMemory> {
-    let mut out = Text::new(alloc);
-    let shown = match read {
-        Ok(globals) => show_all(&mut out, rows, &globals),
-        Err(end) => show_end(alloc, &mut out, end),
-    };
-    shown?;
-    Ok(out.as_str() == RECORDS)
+    match read {
+        Ok(globals) => are_shown(alloc, rows, &globals, RECORDS),
+        Err(_) => Ok(false),
+    }
 }
 
 fn is_read_in_two(alloc: Global, one: &[u8], two: &[u8]) -> Result<bool, OutOfMemory> {
@@ -109,36 +107,59 @@ fn a_stream_in_single_bytes(rt: HostRuntime) {
 }
 
 /// The places of a cut, and what is read up to it.
-const FRONTS: [(usize, &str); 7] = [
+const FRONTS: [(usize, &str); 3] = [
     (16, "cali.attribute.type=string,|;;"),
     (15, "cali.attribute.type=string,|;;"),
-    (14, "line 1: BadNumber"),
-    (5, "line 1: BadField"),
     (0, ";"),
-    (20, "line 2: BadField"),
-    (30, "line 2: BadNumber"),
+];
+
+/// The places of a cut, and the fault of what stands before it.
+const FAULTS: [(usize, u64, StreamKind); 4] = [
+    (14, 1, StreamKind::BadNumber),
+    (5, 1, StreamKind::BadField),
+    (20, 2, StreamKind::BadField),
+    (30, 2, StreamKind::BadNumber),
 ];
 
 fn fronts() -> &'static [(usize, &'static str)] {
     &FRONTS
 }
 
+fn faults() -> &'static [(usize, u64, StreamKind)] {
+    &FAULTS
+}
+
+fn front(length: usize) -> &'static [u8] {
+    b"__rec=ctx,ref=3\n__rec=ctx,ref="
+        .get(..length)
+        .unwrap_or(&[])
+}
+
 fn wrong_front(alloc: Global) -> Result<Option<usize>, OutOfMemory> {
     let rows = fronts();
     for row in 0..rows.len() {
-        let front = b"__rec=ctx,ref=3\n__rec=ctx,ref="
-            .get(..rows[row].0)
-            .unwrap_or(&[]);
-        if !reads_as(alloc, front, rows[row].1)? {
+        if !reads_as(alloc, front(rows[row].0), rows[row].1)? {
             return Ok(Some(row));
         }
     }
     Ok(None)
 }
 
+fn wrong_fault(alloc: Global) -> Option<usize> {
+    let rows = faults();
+    for row in 0..rows.len() {
+        let (length, line, kind) = rows[row];
+        if !fails_at(alloc, front(length), line, kind) {
+            return Some(row);
+        }
+    }
+    None
+}
+
 #[test]
 fn a_front_has_its_records_or_its_fault(rt: HostRuntime) {
     all_hold(&rt, wrong_front(rt.alloc()));
+    all_hold(&rt, Ok(wrong_fault(rt.alloc())));
 }
 
 const REFUSED: StreamEnd = StreamEnd::BadLine {

@@ -1,69 +1,117 @@
-use cal_read::{StreamEnd, read_records};
+//! What a stream says, as a text, and whether it is the wanted one.
+
+use cal_read::{StreamEnd, StreamKind, read_records};
 use cal_value::{Entry, OutOfMemory, Rec, Text, print_value};
-use std::alloc::Global;
+use std::alloc::{AllocError, Global};
 use std::process::Abort;
 
-/// `name=value` of each entry, with a comma behind it.
+/// `name=value` with a comma behind it.
+fn show_entry(out: &mut Text, entry: &Entry) -> Result<(), OutOfMemory> {
+    out.push_str(entry.attr.name.as_str())?;
+    out.push_str("=")?;
+    print_value(&entry.value, out)?;
+    out.push_str(",")
+}
+
 fn show_entries(out: &mut Text, entries: &[Entry]) -> Result<(), OutOfMemory> {
     for entry in entries {
-        out.push_str(entry.attr.name.as_str())?;
-        out.push_str("=")?;
-        print_value(&entry.value, out)?;
-        out.push_str(",")?;
+        show_entry(out, entry)?;
     }
     Ok(())
+}
+
+fn show_path(out: &mut Text, path: &[Entry]) -> Result<(), OutOfMemory> {
+    show_entries(out, path)?;
+    out.push_str("|")
 }
 
 /// Each path with a bar behind it, and then the immediates.
-pub(crate) fn show_record(out: &mut Text, record: &Rec) -> Result<(), OutOfMemory> {
+fn show_record(out: &mut Text, record: &Rec) -> Result<(), OutOfMemory> {
     for path in record.paths.as_slice() {
-        show_entries(out, path.as_slice())?;
-        out.push_str("|")?;
+        show_path(out, path.as_slice())?;
     }
     show_entries(out, record.imms.as_slice())?;
-    out.push_str(";")?;
-    Ok(())
+    out.push_str(";")
 }
 
 /// The rows, and then the globals.
-pub(crate) fn show_all(out: &mut Text, rows: &[Rec], globals: &Rec) -> Result<(), OutOfMemory> {
+fn show_all(out: &mut Text, rows: &[Rec], globals: &Rec) -> Result<(), OutOfMemory> {
     for row in rows {
         show_record(out, row)?;
     }
     show_record(out, globals)
 }
 
-/// The number of the line and the kind.
-pub(crate) fn show_end(alloc: Global, out: &mut Text, end: StreamEnd) -> Result<(), OutOfMemory> {
-    let StreamEnd::BadLine { line, kind } = end else {
-        return Err(OutOfMemory);
-    };
-    let text = format!(in alloc; "line {line}: {kind}")?;
-    out.push_str(text.as_str())
-}
-
-/// The records of a stream, the globals last, or its fault.
-pub(crate) fn show(alloc: Global, out: &mut Text, stream: &[u8]) -> Result<(), OutOfMemory> {
-    match read_records(alloc, stream) {
-        Ok(records) => show_all(out, records.rows.as_slice(), &records.globals),
-        Err(end) => show_end(alloc, out, end),
-    }
-}
-
-/// Whether a stream has these records, or this fault.
-pub(crate) fn reads_as(alloc: Global, stream: &[u8], wanted: &str) -> Result<bool, OutOfMemory> {
+/// Whether records, the globals last, are shown so.
+pub(crate) fn are_shown(
+    alloc: Global,
+    rows: &[Rec],
+    globals: &Rec,
+    wanted: &str,
+) -> Result<bool, OutOfMemory> {
     let mut out = Text::new(alloc);
-    show(alloc, &mut out, stream)?;
+    show_all(&mut out, rows, globals)?;
     Ok(out.as_str() == wanted)
 }
 
-/// The first row of a table whose stream has other records.
+/// Whether a stream has these records.
+pub(crate) fn reads_as(alloc: Global, stream: &[u8], wanted: &str) -> Result<bool, OutOfMemory> {
+    match read_records(alloc, stream) {
+        Ok(records) => are_shown(alloc, records.rows.as_slice(), &records.globals, wanted),
+        Err(_) => Ok(false),
+    }
+}
+
+/// Whether a stream has this fault.
+pub(crate) fn fails_at(alloc: Global, stream: &[u8], line: u64, kind: StreamKind) -> bool {
+    match read_records(alloc, stream) {
+        Ok(_) => false,
+        Err(end) => end == StreamEnd::BadLine { line, kind },
+    }
+}
+
+/// Parts, one behind another.
+pub(crate) fn joined(alloc: Global, parts: &[&str]) -> Result<String, AllocError> {
+    let mut text = String::new(alloc);
+    for part in parts {
+        text.push_str(part)?;
+    }
+    Ok(text)
+}
+
+fn says(alloc: Global, parts: &[&str], wanted: &str) -> Result<bool, OutOfMemory> {
+    let stream = joined(alloc, parts)?;
+    reads_as(alloc, stream.as_bytes(), wanted)
+}
+
+fn falls(alloc: Global, parts: &[&str], line: u64, kind: StreamKind) -> Result<bool, OutOfMemory> {
+    let stream = joined(alloc, parts)?;
+    Ok(fails_at(alloc, stream.as_bytes(), line, kind))
+}
+
+/// The first row of a table that has other records between these two texts.
 pub(crate) fn wrong_row(
     alloc: Global,
+    front: &str,
     rows: &[(&str, &str)],
+    back: &str,
 ) -> Result<Option<usize>, OutOfMemory> {
     for row in 0..rows.len() {
-        if !reads_as(alloc, rows[row].0.as_bytes(), rows[row].1)? {
+        if !says(alloc, &[front, rows[row].0, back], rows[row].1)? {
+            return Ok(Some(row));
+        }
+    }
+    Ok(None)
+}
+
+/// The first row of a table that has another fault than the sixth line's, behind this text.
+pub(crate) fn wrong_fault(
+    alloc: Global,
+    front: &str,
+    rows: &[(&str, StreamKind)],
+) -> Result<Option<usize>, OutOfMemory> {
+    for row in 0..rows.len() {
+        if !falls(alloc, &[front, rows[row].0, "\n"], 6, rows[row].1)? {
             return Ok(Some(row));
         }
     }
@@ -77,5 +125,5 @@ pub(crate) fn all_hold(rt: &impl Abort, wrong: Result<Option<usize>, OutOfMemory
 
 /// The answer is yes, and the memory was enough.
 pub(crate) fn is_true(rt: &impl Abort, answer: Result<bool, OutOfMemory>) {
-    assert_eq!(rt; answer, Ok(true));
+    assert!(rt; answer == Ok(true));
 }

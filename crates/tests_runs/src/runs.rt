@@ -1,11 +1,11 @@
 ghost use Rattle.std.specs.Prelude.{◌≡◌, [], IfOk};
 ghost use Rattle.cal_script.specs.Reading.{Means};
-ghost use Rattle.cal_valid.specs.Valid.{IsRunnable};
+ghost use Rattle.cal_script.specs.Valid.{IsRunnable};
 
 use cal_context::Context;
 use cal_journal::{JournalKind, read_both};
-use cal_records::run_serial;
-use cal_run::{CoreEnd, Numbers, PlainCounts, count_plain};
+use cal_lawful::{CoreEnd, run_serial};
+use cal_run::{Numbers, PlainCounts, count_plain};
 use cal_script::{JournalText, Script, read_script};
 use cal_summary::summarize;
 use cal_valid::valid_script_law;

@@ -1,7 +1,7 @@
-use cal_gen_script::generate_script;
+use cal_gen::generate_script;
 use cal_script::{Line, Script, Ticks};
 use cal_value::Variant;
-use std::process::Abort;
+use std::alloc::Global;
 
 /// The lines of two threads by the draws of seed 38.
 fn has_lines(script: &Script) -> bool {
@@ -51,26 +51,34 @@ fn has_values(script: &Script) -> bool {
         && *number == 716
 }
 
-/// The script is that of the draws, with what its header declares.
-fn check_script(rt: &impl Abort, script: &Script) {
-    assert!(rt; has_lines(script), "lines");
-    assert!(rt; has_values(script), "values");
-    assert_eq!(rt; script.attributes.len(), 2, "attributes");
-    assert_eq!(rt; script.channels.len(), 1, "channels");
+/// Whether the script is that of the draws, with what its header declares.
+fn is_drawn(script: &Script) -> bool {
+    has_lines(script)
+        && has_values(script)
+        && script.attributes.len() == 2
+        && script.channels.len() == 1
+}
+
+/// Whether a script of these numbers is generated, and is the wanted one.
+fn generates(alloc: Global, seed: u32, threads: u32, lines: u32) -> bool {
+    match generate_script(alloc, seed, threads, lines) {
+        Ok(script) => is_drawn(&script),
+        Err(_) => false,
+    }
+}
+
+/// Whether these numbers give no script.
+fn gives_none(alloc: Global, threads: u32, lines: u32) -> bool {
+    generate_script(alloc, 1, threads, lines).is_err()
 }
 
 #[test]
 fn a_script_is_generated_without_its_text(rt: HostRuntime) {
-    match generate_script(rt.alloc(), 38, 2, 6) {
-        Ok(script) => check_script(&rt, &script),
-        Err(_) => assert!(rt; false, "no script"),
-    }
+    assert!(rt; generates(rt.alloc(), 38, 2, 6));
 }
 
 #[test]
 fn sizes_past_the_limits_give_no_script(rt: HostRuntime) {
-    let threads = generate_script(rt.alloc(), 1, 65, 1);
-    assert!(rt; threads.is_err(), "a thread too many");
-    let lines = generate_script(rt.alloc(), 1, 64, 16_385);
-    assert!(rt; lines.is_err(), "64 lines too many");
+    assert!(rt; gives_none(rt.alloc(), 65, 1), "a thread too many");
+    assert!(rt; gives_none(rt.alloc(), 64, 16_385), "64 lines too many");
 }

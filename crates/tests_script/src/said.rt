@@ -2,7 +2,6 @@ use crate::drawn::fault_of;
 use cal_script::{Line, ProbeKind, Script, ScriptKind, Ticks, meaning_law, read_script};
 use cal_value::{Kind, OutOfMemory, Props, Variant};
 use std::alloc::Global;
-use std::process::Abort;
 
 const WHOLE: &str = "attribute f string 276\nattribute h string 512\nglobal h n\\n1\n\
     channel t region.count,trace,event,region.depth\nchannel p timer,aggregate\nkey path f\n\
@@ -72,20 +71,27 @@ fn has_profile(script: &Script) -> bool {
         && value.as_str() == "time.duration.ns"
 }
 
-/// The script above is plain data.
-fn check_whole(rt: &impl Abort, script: &Script) {
-    assert!(rt; has_lines(script) && has_values(script), "lines");
-    assert!(rt; has_attribute(script) && has_global(script), "attributes");
-    assert!(rt; has_trace(script) && has_profile(script), "channels");
+/// Whether bytes are the script above, which is plain data.
+fn says_whole(alloc: Global) -> bool {
+    match read_script(alloc, WHOLE.as_bytes()) {
+        Ok(script) => is_whole(&script),
+        Err(_) => false,
+    }
+}
+
+fn is_whole(script: &Script) -> bool {
+    has_lines(script)
+        && has_values(script)
+        && has_attribute(script)
+        && has_global(script)
+        && has_trace(script)
+        && has_profile(script)
 }
 
 #[test]
 fn a_script_is_plain_data(rt: HostRuntime) {
     meaning_law();
-    match read_script(rt.alloc(), WHOLE.as_bytes()) {
-        Ok(script) => check_whole(&rt, &script),
-        Err(_) => assert!(rt; false, "no script"),
-    }
+    assert!(rt; says_whole(rt.alloc()));
 }
 
 /// Kinds, values, and whether each is one of its kind.

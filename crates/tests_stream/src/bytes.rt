@@ -1,3 +1,5 @@
+//! Sources and sinks of bytes.
+
 use crate::table::all_hold;
 use cal_base::{Failed, MemSink, MemSource, ReadEnd, Sink, Source, StdSink, StdSource, read_all};
 use cal_value::{OutOfMemory, Seq};
@@ -15,8 +17,10 @@ fn source(alloc: Global, bytes: &[u8], failing: u64) -> Result<MemSource, AllocE
 /// Reads a source of these bytes, of which one call fails, up to four bytes. It says whether all came.
 fn read_four(alloc: Global, bytes: &[u8], failing: u64) -> Result<bool, ReadEnd> {
     let mut input = source(alloc, bytes, failing)?;
-    let read = read_all(alloc, &mut input, 4)?;
-    Ok(read.as_slice() == bytes)
+    match read_all(alloc, &mut input, 4) {
+        Ok(read) => Ok(read.as_slice() == bytes),
+        Err(end) => Err(end),
+    }
 }
 
 /// Bytes, the call that fails, and what comes of it. The first read gives the bytes, the second
@@ -47,17 +51,29 @@ fn wrong_read(alloc: Global) -> Option<usize> {
 
 #[test]
 fn reads_to_the_limit(rt: HostRuntime) {
-    all_hold(&rt, Ok(wrong_read(rt.alloc())));
+    all_hold(&rt, wrong_read(rt.alloc()));
 }
 
-/// Puts `abc` and `de` into a sink of so much room, of which one call fails, up to the first fault. It
-/// says how many of these five bytes the sink holds.
-fn put_two(alloc: Global, room: u64, failing: u64) -> Result<Option<usize>, OutOfMemory> {
+fn sink(alloc: Global, room: u64, failing: u64) -> Result<MemSink, OutOfMemory> {
     let failing = Seq::from_vec([failing].to_vec(alloc)?);
-    let mut sink = MemSink::new(alloc, room, failing)?;
+    MemSink::new(alloc, room, failing)
+}
+
+/// Puts `abc` and `de` into a sink, up to the first fault. It says whether the sink then holds so many
+/// of these five bytes.
+fn put_two(sink: &mut MemSink, count: usize) -> bool {
     let _ = sink.put(b"abc").is_ok() && sink.put(b"de").is_ok();
-    let held = sink.bytes();
-    Ok(b"abcde".starts_with(held).then_some(held.len()))
+    sink.bytes() == &b"abcde"[..count.min(5)]
+}
+
+fn holds(alloc: Global, room: u64, failing: u64, count: usize) -> bool {
+    match sink(alloc, room, failing) {
+        Ok(sink) => {
+            let mut sink = sink;
+            put_two(&mut sink, count)
+        }
+        Err(_) => false,
+    }
 }
 
 /// The room, the call that fails, and how many bytes the sink holds. There is no call 9.
@@ -78,14 +94,15 @@ fn rooms() -> &'static [(u64, u64, usize)] {
     &ROOMS
 }
 
-fn wrong_room(alloc: Global) -> Result<Option<usize>, OutOfMemory> {
+fn wrong_room(alloc: Global) -> Option<usize> {
     let rows = rooms();
     for row in 0..rows.len() {
-        if put_two(alloc, rows[row].0, rows[row].1)? != Some(rows[row].2) {
-            return Ok(Some(row));
+        let (room, failing, count) = rows[row];
+        if !holds(alloc, room, failing, count) {
+            return Some(row);
         }
     }
-    Ok(None)
+    None
 }
 
 #[test]
@@ -93,15 +110,17 @@ fn sinks_take_what_fits(rt: HostRuntime) {
     all_hold(&rt, wrong_room(rt.alloc()));
 }
 
-fn is_read_whole(alloc: Global, bytes: &[u8]) -> Result<bool, ReadEnd> {
+fn is_read_whole(alloc: Global, bytes: &[u8]) -> bool {
     let mut input = StdSource::new(bytes);
-    let read = read_all(alloc, &mut input, 100)?;
-    Ok(read.as_slice() == bytes)
+    match read_all(alloc, &mut input, 100) {
+        Ok(read) => read.as_slice() == bytes,
+        Err(_) => false,
+    }
 }
 
 #[test]
 fn reads_a_reader_of_std_to_its_end(rt: HostRuntime) {
-    assert!(rt; is_read_whole(rt.alloc(), b"all of it") == Ok(true));
+    assert!(rt; is_read_whole(rt.alloc(), b"all of it"));
 }
 
 /// Fails once with this error, and then gives a byte.
@@ -127,14 +146,33 @@ fn read_after(kind: ErrorKind) -> Result<usize, Failed> {
     input.read(&mut [0u8; 4])
 }
 
+/// Errors that end a read.
+const ENDING: [ErrorKind; 5] = [
+    ErrorKind::BrokenPipe,
+    ErrorKind::WouldBlock,
+    ErrorKind::TimedOut,
+    ErrorKind::UnexpectedEof,
+    ErrorKind::Other,
+];
+
+fn ending() -> &'static [ErrorKind] {
+    &ENDING
+}
+
+fn wrong_ending() -> Option<usize> {
+    let rows = ending();
+    for row in 0..rows.len() {
+        if read_after(rows[row]) != Err(Failed) {
+            return Some(row);
+        }
+    }
+    None
+}
+
 #[test]
 fn only_an_interrupted_read_is_tried_again(rt: HostRuntime) {
     assert!(rt; read_after(ErrorKind::Interrupted) == Ok(1));
-    assert!(rt; read_after(ErrorKind::BrokenPipe) == Err(Failed));
-    assert!(rt; read_after(ErrorKind::WouldBlock) == Err(Failed));
-    assert!(rt; read_after(ErrorKind::TimedOut) == Err(Failed));
-    assert!(rt; read_after(ErrorKind::UnexpectedEof) == Err(Failed));
-    assert!(rt; read_after(ErrorKind::Other) == Err(Failed));
+    all_hold(&rt, wrong_ending());
 }
 
 /// Takes a byte at a time, up to its room.

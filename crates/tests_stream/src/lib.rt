@@ -7,6 +7,8 @@
 #[cfg(test)]
 mod bytes;
 #[cfg(test)]
+mod clocks;
+#[cfg(test)]
 mod line;
 #[cfg(test)]
 mod table;

@@ -1,8 +1,10 @@
-use crate::table::{all_hold, is_true};
+//! Lines, their fields and their escapes.
+
+use crate::table::all_hold;
 use cal_line::{
-    Field, FieldEnd, FieldPieces, Piece, Splitter, ended_line, escape, escaped_spells_the_text,
-    lines_end_at_newlines, next_line, one_list_of_fields, one_text, split_fields, unescape,
-    written_fields_are_read,
+    Field, FieldEnd, FieldPieces, Fields, Piece, Splitter, ended_line, escape,
+    escaped_spells_the_text, lines_end_at_newlines, next_line, one_list_of_fields, one_text,
+    split_fields, unescape, written_fields_are_read,
 };
 use cal_value::{OutOfMemory, Text};
 use std::alloc::Global;
@@ -32,82 +34,90 @@ fn lines() -> &'static [(&'static str, &'static str)] {
     &LINES
 }
 
+fn put_value(value: &str, out: &mut Text) -> Result<(), OutOfMemory> {
+    out.push_str("[")?;
+    out.push_str(value)?;
+    out.push_str("]")
+}
+
 fn put_field(field: &Field, out: &mut Text) -> Result<(), OutOfMemory> {
     out.push_str(field.key.as_str())?;
     for value in field.values.as_slice() {
-        out.push_str("[")?;
-        out.push_str(value.as_str())?;
-        out.push_str("]")?;
+        put_value(value.as_str(), out)?;
     }
     Ok(())
 }
 
-fn copied(alloc: Global, line: &str, out: &mut Text) -> Result<(), FieldEnd> {
-    let fields = split_fields(alloc, line)?;
-    for field in fields.as_slice() {
+fn put_fields(fields: &[Field], out: &mut Text) -> Result<(), OutOfMemory> {
+    for field in fields {
         put_field(field, out)?;
     }
     Ok(())
 }
 
-/// Whether these fields of a line are the wanted ones, or the line is bad where it should be.
-fn are_wanted(read: Result<(), FieldEnd>, out: &str, wanted: &str) -> Result<bool, OutOfMemory> {
-    match read {
-        Ok(()) => Ok(out == wanted),
-        Err(FieldEnd::BadField) => Ok(wanted == "bad"),
-        Err(FieldEnd::OutOfMemory) => Err(OutOfMemory),
+fn are_shown(alloc: Global, fields: &[Field], wanted: &str) -> bool {
+    let mut out = Text::new(alloc);
+    put_fields(fields, &mut out).is_ok() && out.as_str() == wanted
+}
+
+fn is_copied(alloc: Global, line: &str, wanted: &str) -> bool {
+    match split_fields(alloc, line) {
+        Ok(fields) => are_shown(alloc, fields.as_slice(), wanted),
+        Err(end) => end == FieldEnd::BadField && wanted == "bad",
     }
 }
 
-fn is_copied(alloc: Global, line: &str, wanted: &str) -> Result<bool, OutOfMemory> {
-    let mut out = Text::new(alloc);
-    let read = copied(alloc, line, &mut out);
-    are_wanted(read, out.as_str(), wanted)
-}
-
-fn wrong_copy(alloc: Global) -> Result<Option<usize>, OutOfMemory> {
+fn wrong_copy(alloc: Global) -> Option<usize> {
     let rows = lines();
     for row in 0..rows.len() {
-        if !is_copied(alloc, rows[row].0, rows[row].1)? {
-            return Ok(Some(row));
+        if !is_copied(alloc, rows[row].0, rows[row].1) {
+            return Some(row);
         }
     }
-    Ok(None)
+    None
 }
 
-fn split(splitter: &mut Splitter, line: &str, out: &mut Text) -> Result<(), FieldEnd> {
-    let fields = splitter.split(line)?;
-    for place in 0..fields.len() {
-        let field = fields.get(place);
-        field.key().append_to(out)?;
-        for number in 0..field.value_count() {
-            out.push_str("[")?;
-            field.value(number).append_to(out)?;
-            out.push_str("]")?;
-        }
+fn put_piece(piece: &Piece, out: &mut Text) -> Result<(), OutOfMemory> {
+    out.push_str("[")?;
+    piece.append_to(out)?;
+    out.push_str("]")
+}
+
+fn put_pieces(field: &FieldPieces, out: &mut Text) -> Result<(), OutOfMemory> {
+    field.key().append_to(out)?;
+    for number in 0..field.value_count() {
+        put_piece(&field.value(number), out)?;
     }
     Ok(())
 }
 
-fn is_split(
-    alloc: Global,
-    splitter: &mut Splitter,
-    line: &str,
-    wanted: &str,
-) -> Result<bool, OutOfMemory> {
-    let mut out = Text::new(alloc);
-    let read = split(splitter, line, &mut out);
-    are_wanted(read, out.as_str(), wanted)
+fn put_split(fields: &Fields, out: &mut Text) -> Result<(), OutOfMemory> {
+    for place in 0..fields.len() {
+        put_pieces(&fields.get(place), out)?;
+    }
+    Ok(())
 }
 
-fn wrong_split(alloc: Global, splitter: &mut Splitter) -> Result<Option<usize>, OutOfMemory> {
+fn split_shown(alloc: Global, fields: &Fields, wanted: &str) -> bool {
+    let mut out = Text::new(alloc);
+    put_split(fields, &mut out).is_ok() && out.as_str() == wanted
+}
+
+fn is_split(alloc: Global, splitter: &mut Splitter, line: &str, wanted: &str) -> bool {
+    match splitter.split(line) {
+        Ok(fields) => split_shown(alloc, &fields, wanted),
+        Err(end) => end == FieldEnd::BadField && wanted == "bad",
+    }
+}
+
+fn wrong_split(alloc: Global, splitter: &mut Splitter) -> Option<usize> {
     let rows = lines();
     for row in 0..rows.len() {
-        if !is_split(alloc, splitter, rows[row].0, rows[row].1)? {
-            return Ok(Some(row));
+        if !is_split(alloc, splitter, rows[row].0, rows[row].1) {
+            return Some(row);
         }
     }
-    Ok(None)
+    None
 }
 
 #[test]
@@ -123,15 +133,19 @@ fn one_splitter_reads_line_after_line(rt: HostRuntime) {
 }
 
 /// Whether a piece is this text, and lies in the line just where it should.
-fn is_piece(alloc: Global, piece: &Piece, text: &str, lent: bool) -> Result<bool, OutOfMemory> {
-    match piece.text(alloc)? {
-        CowStr::Borrowed(found) => Ok(lent && found == text),
-        CowStr::Owned(found) => Ok(!lent && found.as_str() == text),
+fn is_piece(alloc: Global, piece: &Piece, text: &str, lent: bool) -> bool {
+    match piece.text(alloc) {
+        Ok(CowStr::Borrowed(found)) => lent && found == text,
+        Ok(CowStr::Owned(found)) => !lent && found.as_str() == text,
+        Err(_) => false,
     }
 }
 
-fn is_text(alloc: Global, piece: &Piece, text: &str) -> Result<bool, OutOfMemory> {
-    Ok(piece.to_text(alloc)?.as_str() == text)
+fn is_text(alloc: Global, piece: &Piece, text: &str) -> bool {
+    match piece.to_text(alloc) {
+        Ok(found) => found.as_str() == text,
+        Err(_) => false,
+    }
 }
 
 /// Values, and whether each lies in the line.
@@ -141,32 +155,35 @@ fn pieces() -> &'static [(&'static str, bool)] {
     &PIECES
 }
 
-fn wrong_piece(alloc: Global, field: FieldPieces) -> Result<Option<usize>, OutOfMemory> {
+fn wrong_piece(alloc: Global, field: &FieldPieces) -> Option<usize> {
     let rows = pieces();
-    for place in 0..field.value_count() {
+    for place in 0..field.value_count().min(rows.len()) {
         let value = field.value(place);
-        let Some((text, lent)) = rows.get(place) else {
-            return Ok(Some(place));
-        };
-        if !is_piece(alloc, &value, text, *lent)? || !is_text(alloc, &value, text)? {
-            return Ok(Some(place));
+        let (text, lent) = rows[place];
+        if !is_piece(alloc, &value, text, lent) || !is_text(alloc, &value, text) {
+            return Some(place);
         }
     }
-    Ok((field.value_count() != rows.len()).then_some(field.value_count()))
+    (field.value_count() != rows.len()).then_some(rows.len())
+}
+
+fn has_pieces(alloc: Global, fields: &Fields) -> bool {
+    fields.len() == 1
+        && is_piece(alloc, &fields.get(0).key(), "a,b", false)
+        && wrong_piece(alloc, &fields.get(0)).is_none()
+}
+
+fn stay_in_the_line(alloc: Global, splitter: &mut Splitter) -> bool {
+    match splitter.split("a\\,b=plain=\\n==é") {
+        Ok(fields) => has_pieces(alloc, &fields),
+        Err(_) => false,
+    }
 }
 
 #[test]
 fn a_text_without_an_escape_stays_in_the_line(rt: HostRuntime) {
     let mut splitter = Splitter::new(rt.alloc());
-    if let Ok(fields) = splitter.split("a\\,b=plain=\\n==é")
-        && fields.len() == 1
-    {
-        let field = fields.get(0);
-        is_true(&rt, is_piece(rt.alloc(), &field.key(), "a,b", false));
-        all_hold(&rt, wrong_piece(rt.alloc(), field));
-    } else {
-        is_true(&rt, Ok(false));
-    }
+    assert!(rt; stay_in_the_line(rt.alloc(), &mut splitter));
     drop(splitter);
 }
 
@@ -182,10 +199,11 @@ fn escapes() -> &'static [(&'static str, &'static str)] {
     &ESCAPES
 }
 
-fn is_escaped(alloc: Global, text: &str, wanted: &str) -> Result<bool, OutOfMemory> {
-    let mut out = Text::from_str(alloc, "x=")?;
-    escape(text, &mut out)?;
-    Ok(out.as_str().strip_prefix("x=") == Some(wanted))
+fn is_escaped(alloc: Global, text: &str, wanted: &str) -> bool {
+    let mut out = Text::new(alloc);
+    out.push_str("x=").is_ok()
+        && escape(text, &mut out).is_ok()
+        && out.as_str().strip_prefix("x=") == Some(wanted)
 }
 
 fn reads_as(alloc: Global, escaped: &str, text: &str) -> bool {
@@ -196,18 +214,21 @@ fn reads_as(alloc: Global, escaped: &str, text: &str) -> bool {
 }
 
 fn is_bad(alloc: Global, escaped: &str) -> bool {
-    matches!(unescape(alloc, escaped), Err(FieldEnd::BadField))
+    match unescape(alloc, escaped) {
+        Ok(_) => false,
+        Err(end) => end == FieldEnd::BadField,
+    }
 }
 
-fn wrong_escape(alloc: Global) -> Result<Option<usize>, OutOfMemory> {
+fn wrong_escape(alloc: Global) -> Option<usize> {
     let rows = escapes();
     for row in 0..rows.len() {
         let (text, escaped) = rows[row];
-        if !is_escaped(alloc, text, escaped)? || !reads_as(alloc, escaped, text) {
-            return Ok(Some(row));
+        if !is_escaped(alloc, text, escaped) || !reads_as(alloc, escaped, text) {
+            return Some(row);
         }
     }
-    Ok(None)
+    None
 }
 
 #[test]
@@ -242,20 +263,19 @@ fn inputs() -> &'static [(&'static [u8], &'static str)] {
     &INPUTS
 }
 
-fn has_lines(alloc: Global, input: &[u8], wanted: &str) -> Result<bool, OutOfMemory> {
+fn has_lines(alloc: Global, input: &[u8], wanted: &str) -> bool {
     let mut out = Text::new(alloc);
-    lines_shown(input, &mut out)?;
-    Ok(out.as_str() == wanted)
+    lines_shown(input, &mut out).is_ok() && out.as_str() == wanted
 }
 
-fn wrong_input(alloc: Global) -> Result<Option<usize>, OutOfMemory> {
+fn wrong_input(alloc: Global) -> Option<usize> {
     let rows = inputs();
     for row in 0..rows.len() {
-        if !has_lines(alloc, rows[row].0, rows[row].1)? {
-            return Ok(Some(row));
+        if !has_lines(alloc, rows[row].0, rows[row].1) {
+            return Some(row);
         }
     }
-    Ok(None)
+    None
 }
 
 #[test]

@@ -1,14 +1,14 @@
+//! Canonical texts.
 ghost use Rattle.std.specs.Prelude.{IfOk, OnOk};
 ghost use Rattle.cal_context.specs.Snapshots.{IsBelowRoot, IsIn};
 
-use crate::table::is_true;
+use crate::table::all_hold;
 use cal_base::MemSink;
 use cal_context::{Context, NodeNumber, Snapshot, Taker};
-use cal_read::{StreamEnd, read_records};
+use cal_read::read_records;
 use cal_value::{Attribute, Kind, OutOfMemory, Props, Records, Seq, Text, Variant};
 use cal_write::{WriteEnd, Writer, cali_text, write_records};
 use std::alloc::Global;
-use std::process::Abort;
 
 const DESCRIBED: &str = "\
 __rec=node,id=12,attr=10,data=276,parent=3
@@ -130,48 +130,49 @@ __rec=ctx,ref=15,attr=17=18,data=5=6
 __rec=ctx,ref=15,attr=18,data=7
 ";
 
-/// The records of a text, where it is one of a stream.
-fn records_of(alloc: Global, text: &str) -> Result<Option<Records>, OutOfMemory> {
-    match read_records(alloc, text.as_bytes()) {
-        Ok(records) => Ok(Some(records)),
-        Err(StreamEnd::OutOfMemory) => Err(OutOfMemory),
-        Err(StreamEnd::BadLine { .. }) => Ok(None),
-    }
-}
-
 /// Whether a text is the one that is written of these records.
-fn is_written(alloc: Global, records: &Records, text: &str) -> Result<bool, OutOfMemory> {
-    Ok(cali_text(alloc, records)?.as_str() == text)
+fn is_written(alloc: Global, records: &Records, text: &str) -> bool {
+    match cali_text(alloc, records) {
+        Ok(written) => written.as_str() == text,
+        Err(_) => false,
+    }
 }
 
 /// Whether a text is the one that is written of the records that it means.
-fn is_rewritten(alloc: Global, text: &str) -> Result<bool, OutOfMemory> {
-    match records_of(alloc, text)? {
-        Some(records) => is_written(alloc, &records, text),
-        None => Ok(false),
+fn is_rewritten(alloc: Global, text: &str) -> bool {
+    match read_records(alloc, text.as_bytes()) {
+        Ok(records) => is_written(alloc, &records, text),
+        Err(_) => false,
     }
 }
 
-/// Each text is the one that is written of the records that it means.
-fn check<R: Abort + AllocGlobal>(rt: &R, texts: &[&str]) {
-    for text in texts {
-        is_true(rt, is_rewritten(rt.alloc(), text));
+/// The first text that isn't the one that is written of the records that it means.
+fn wrong_text(alloc: Global, texts: &[&str]) -> Option<usize> {
+    for row in 0..texts.len() {
+        if !is_rewritten(alloc, texts[row]) {
+            return Some(row);
+        }
     }
+    None
 }
 
-#[test]
-fn worked_rows(rt: HostRuntime) {
-    check(&rt, &[MAIN, PROFILE, PHASES, LIMITS, EVENTS]);
-}
+/// Worked rows; kinds, escapes and records in turn; globals and built-in nodes.
+const TEXTS: [&str; 10] = [
+    MAIN,
+    PROFILE,
+    PHASES,
+    LIMITS,
+    EVENTS,
+    KINDS,
+    MIXED,
+    IN_TURN,
+    DESCRIBED,
+    OF_BUILT_IN,
+];
 
 #[test]
-fn kinds_escapes_and_turns(rt: HostRuntime) {
-    check(&rt, &[KINDS, MIXED, IN_TURN]);
-}
-
-#[test]
-fn globals_and_built_in_nodes(rt: HostRuntime) {
-    check(&rt, &[DESCRIBED, OF_BUILT_IN]);
+fn records_are_written_as_they_were_read(rt: HostRuntime) {
+    all_hold(&rt, wrong_text(rt.alloc(), &TEXTS));
 }
 
 fn function(alloc: Global) -> Result<Attribute, OutOfMemory> {
@@ -229,32 +230,51 @@ fn snapshots_by_number(rt: HostRuntime) {
     let held = is_by_number(rt.alloc(), &mut context, &mut snapshot);
     drop(snapshot);
     drop(context);
-    is_true(&rt, held);
+    assert!(rt; held == Ok(true));
 }
 
-/// Whether a sink of so much room ends so, and with this text.
+/// Whether a sink ends so, and with this text.
 fn is_put(
+    alloc: Global,
+    sink: &mut MemSink,
+    records: &Records,
+    end: Result<(), WriteEnd>,
+    text: &str,
+) -> bool {
+    write_records(alloc, sink, records) == end && sink.bytes() == text.as_bytes()
+}
+
+/// The same of a sink of so much room.
+fn is_put_into(
     alloc: Global,
     records: &Records,
     room: u64,
     end: Result<(), WriteEnd>,
     text: &str,
-) -> Result<bool, OutOfMemory> {
-    let mut sink = MemSink::new(alloc, room, Seq::new(alloc))?;
-    let written = write_records(alloc, &mut sink, records);
-    Ok(written == end && sink.bytes() == text.as_bytes())
+) -> bool {
+    match MemSink::new(alloc, room, Seq::new(alloc)) {
+        Ok(sink) => {
+            let mut sink = sink;
+            is_put(alloc, &mut sink, records, end, text)
+        }
+        Err(_) => false,
+    }
 }
 
-fn are_put(alloc: Global) -> Result<bool, OutOfMemory> {
-    let Some(records) = records_of(alloc, MAIN)? else {
-        return Ok(false);
-    };
-    let all = is_put(alloc, &records, 1000, Ok(()), MAIN)?;
+fn is_put_whole_or_in_front(alloc: Global, records: &Records) -> bool {
     let end = Err(WriteEnd::WriteFault);
-    Ok(all && is_put(alloc, &records, 20, end, "__rec=node,id=12,att")?)
+    is_put_into(alloc, records, 1000, Ok(()), MAIN)
+        && is_put_into(alloc, records, 20, end, "__rec=node,id=12,att")
+}
+
+fn are_put(alloc: Global) -> bool {
+    match read_records(alloc, MAIN.as_bytes()) {
+        Ok(records) => is_put_whole_or_in_front(alloc, &records),
+        Err(_) => false,
+    }
 }
 
 #[test]
 fn written_to_a_sink(rt: HostRuntime) {
-    is_true(&rt, are_put(rt.alloc()));
+    assert!(rt; are_put(rt.alloc()));
 }

@@ -1,7 +1,7 @@
 use Rattle.std.proofs.Common.{◌≡◌}
 use Rattle.std.specs.Prelude.{Result, Ok, Err}
-use Rattle.cal_input.specs.FirstFault.{after_lines}
-use Rattle.cal_input.proofs.FirstFaults.{falls_whole}
+use Rattle.cal_line.specs.FirstFault.{after_lines}
+use Rattle.cal_line.proofs.FirstFaults.{falls_whole}
 use Rattle.cal_line.specs.Lines.{lines_of}
 use Rattle.cal_read.specs.Stream.{Stream, no_lines, line_step}
 use Rattle.cal_read.specs.declared.kind.StreamKind.{StreamKind}

@@ -4,7 +4,7 @@ use Rattle.cal_context.proofs.CallerLemmas.{root_path}
 use Rattle.cal_context.specs.Tree.{path_at}
 use Rattle.cal_context.specs.declared.numbers.NodeNumber.{NodeNumber}
 use Rattle.cal_engine.specs.Making.{group_count, key_at}
-use Rattle.cal_records.specs.Groups.{is_result}
+use Rattle.cal_profile.specs.Groups.{is_result}
 use Rattle.cal_records.specs.Ranks.{key_entries, key_entry, lent_entries}
 use Rattle.cal_records.proofs.group_keys.group_keys.Goals as goal
 

@@ -1,7 +1,7 @@
 use Rattle.std.proofs.Common.{rules, ◌≡◌, [], ◌∷◌, ◌++◌, filter, map, not, reverse, sym, ap, ◌∙◌, arith}
 use Rattle.cal_context.specs.Tree.{path_at}
+use Rattle.cal_profile.specs.Groups.{is_result}
 use Rattle.cal_records.proofs.Ranking.{filtered-up, map-reversed}
-use Rattle.cal_records.specs.Groups.{is_result}
 use Rattle.cal_records.specs.Ranks.{key_entry}
 use Rattle.cal_records.proofs.group_keys.keys_of.Goals as goal
 

@@ -1,6 +1,6 @@
 use Rattle.std.proofs.Common.{◌≡◌, ◌<◌, ◌++◌, filter, length, map, not, reverse}
 use Rattle.cal_context.specs.Tree.{path_at}
-use Rattle.cal_records.specs.Groups.{is_result}
+use Rattle.cal_profile.specs.Groups.{is_result}
 use Rattle.cal_records.specs.Ranks.{key_entry}
 use Rattle.cal_records.proofs.group_keys.keys_of.Given as goal
 

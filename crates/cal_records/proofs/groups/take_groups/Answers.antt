@@ -2,8 +2,8 @@ use Rattle.std.proofs.Common.{◌≡◌, true, List, [], ◌++◌, sym, ap, subs
 use Rattle.std.specs.Prelude.{option_copied}
 use Rattle.std.proofs.lemmas.Bool.{cond-true}
 use Rattle.std.proofs.lemmas.Result.{on_ok_weaker}
+use Rattle.cal_profile.specs.Groups.{channel_query, group_records}
 use Rattle.cal_ql.specs.declared.query.Query.{Query}
-use Rattle.cal_records.specs.Groups.{channel_query, group_records}
 use Rattle.cal_records.specs.Records.{grouped}
 use Rattle.cal_records.specs.Told.{told}
 use Rattle.cal_run.specs.Runs.{snapshots}

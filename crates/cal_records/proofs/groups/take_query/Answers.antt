@@ -3,8 +3,8 @@ use Rattle.std.specs.Prelude.{option_copied}
 use Rattle.cal_engine.specs.Answers.{answer_of}
 use Rattle.cal_engine.specs.Making.{MakesRows}
 use Rattle.cal_engine.specs.Sorting.{sorted}
+use Rattle.cal_profile.specs.Groups.{rows_cmp}
 use Rattle.cal_ql.specs.declared.query.Agg.{Agg}
-use Rattle.cal_records.specs.Groups.{rows_cmp}
 use Rattle.cal_records.specs.Told.{told}
 use Rattle.cal_run.specs.Runs.{snapshots}
 use Rattle.cal_value.specs.declared.record.Rec.{Rec}

@@ -1,8 +1,8 @@
 use Rattle.std.proofs.Common.{[], sym, ap, ◌∙◌}
 use Rattle.std.proofs.lemmas.List.{take_all}
+use Rattle.cal_profile.specs.Groups.{aggs_of, value_aggs}
 use Rattle.cal_ql.specs.Once.{with_all_new}
 use Rattle.cal_records.proofs.QueryLemmas.{results-all, results-more}
-use Rattle.cal_records.specs.Groups.{aggs_of, value_aggs}
 use Rattle.cal_records.proofs.query.kept_aggs.Goals as goal
 
 pub loop-value-preserved : goal.loop-value-preserved

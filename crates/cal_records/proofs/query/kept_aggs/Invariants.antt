@@ -1,6 +1,6 @@
 use Rattle.std.proofs.Common.{◌≡◌, [], take}
+use Rattle.cal_profile.specs.Groups.{aggs_of}
 use Rattle.cal_ql.specs.Once.{with_all_new}
-use Rattle.cal_records.specs.Groups.{aggs_of}
 use Rattle.cal_records.specs.Kept.{AreNamed}
 use Rattle.cal_records.proofs.query.kept_aggs.Given as goal
 

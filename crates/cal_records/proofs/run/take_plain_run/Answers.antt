@@ -1,12 +1,13 @@
-use Rattle.std.proofs.Common.{◌<◌, ◌≤◌, List, length, get_or, ap, subst, ◌∙◌}
-use Rattle.std.specs.List.{flat_map}
+use Rattle.std.proofs.Common.{◌<◌, ◌≤◌, List, length, get_or, refl, ap, subst, ◌∙◌}
+use Rattle.std.specs.List.{flat_map, list_any}
 use Rattle.std.proofs.lemmas.List.{take_all}
 use Rattle.cal_context.proofs.CallerLemmas.{Grows-refl, Grows-trans}
 use Rattle.cal_context.specs.Taking.{TakesMore}
 use Rattle.cal_run.proofs.NumberLemmas.{AreNumbered-Grows}
 use Rattle.cal_records.specs.Records.{channel_rows}
 use Rattle.cal_run.specs.Plain.{plain}
-use Rattle.cal_records.proofs.TakingLemmas.{taken-more, takes-none}
+use Rattle.cal_records.specs.Told.{is_kept}
+use Rattle.cal_records.proofs.TakingLemmas.{counted-more, taken-more, takes-none}
 use Rattle.cal_script.specs.declared.script.Channel.{Channel}
 use Rattle.cal_records.proofs.run.take_plain_run.Goals as goal
 
@@ -16,6 +17,7 @@ loop-channel-init g c = record {
   grows = Grows-refl _;
   taken = takes-none (g.T.Taker.has_taken c.args.taker.now c.args.context.now);
   refused = tt;
+  counted = refl;
 }
 
 pub loop-channel-preserved : goal.loop-channel-preserved
@@ -37,7 +39,12 @@ loop-channel-preserved g c =
           (subst (λ (xs : List Channel). i < length xs) all c.loop-channel-test.true)
           (c.channel-item.is ∙ ap (λ (xs : List Channel). get_or xs i channel) all)
           old.taken next.taken;
-      refused = c.either-refused.ensures;
+      refused = c.either-refused.ensures.refused;
+      counted = counted-more is_kept c.args.script.now.channels i channel c.loop-channel.refused
+          c.in_ok-counted.counted c.either-refused.result
+          (subst (λ (xs : List Channel). i < length xs) all c.loop-channel-test.true)
+          (c.channel-item.is ∙ ap (λ (xs : List Channel). get_or xs i channel) all)
+          old.counted next.counted c.either-refused.ensures.counted;
     }
 
 pub returns-in_err-counted-clause-grows : goal.returns-in_err-counted-clause-grows
@@ -55,3 +62,10 @@ returns-clause-taken g c =
     (subst (λ (xs : List Channel). length xs ≤ i) c.as_slice-channel-items.ensures
     c.loop-channel-test.false))
     c.loop-channel.invariant.taken
+
+pub returns-clause-counted : goal.returns-clause-counted
+returns-clause-counted g c =
+    c.loop-channel.invariant.counted ∙ ap (list_any is_kept)
+    (take_all c.loop-channel.channel-index c.args.script.now.channels
+    (subst (λ (xs : List Channel). length xs ≤ c.loop-channel.channel-index)
+    c.as_slice-channel-items.ensures c.loop-channel-test.false))

@@ -1,9 +1,10 @@
-use Rattle.std.proofs.Common.{take}
-use Rattle.std.specs.List.{flat_map}
+use Rattle.std.proofs.Common.{◌≡◌, take}
+use Rattle.std.specs.Prelude.{is_some}
+use Rattle.std.specs.List.{flat_map, list_any}
 use Rattle.cal_context.specs.Taking.{TakesMore}
 use Rattle.cal_context.specs.Tree.{Grows}
 use Rattle.cal_records.specs.Records.{channel_rows}
-use Rattle.cal_records.specs.Told.{CountsRefused}
+use Rattle.cal_records.specs.Told.{CountsRefused, is_kept}
 use Rattle.cal_run.specs.Numbers.{AreNumbered}
 use Rattle.cal_run.specs.Plain.{plain}
 use Rattle.cal_records.proofs.run.take_plain_run.Given as goal
@@ -17,4 +18,5 @@ invariant-loop-channel g l = record {
       (g.T.Taker.has_taken l.taker l.context)
       (flat_map (channel_rows l.script (plain l.script)) (take l.channel-index l.script.channels));
   refused : CountsRefused l.script l.refused;
+  counted : is_some l.refused ≡ list_any is_kept (take l.channel-index l.script.channels);
 }

@@ -2,9 +2,9 @@ use Rattle.std.proofs.Common.{◌≡◌, List, map, ap, ◌∙◌}
 use Rattle.std.proofs.lemmas.Result.{IfOk-weaker}
 use Rattle.cal_engine.specs.Making.{MakesRows}
 use Rattle.cal_engine.specs.Sorting.{sorted}
+use Rattle.cal_profile.specs.Groups.{rows_cmp}
 use Rattle.cal_records.proofs.Ranking.{ordered_rows}
 use Rattle.cal_records.proofs.sorting.sorted_by_group.Goals as goal
-use Rattle.cal_records.specs.Groups.{rows_cmp}
 use Rattle.cal_records.specs.Ranks.{order_of}
 use Rattle.cal_rowset.specs.Answers.{nth_row}
 use Rattle.cal_value.specs.declared.record.Rec.{Rec}

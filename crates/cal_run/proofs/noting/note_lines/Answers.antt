@@ -4,7 +4,7 @@ use Rattle.cal_run.proofs.PlainLemmas.{start-plain}
 use Rattle.cal_run.specs.Lawful.{process_lines}
 use Rattle.cal_run.specs.Plain.{notes_from, plain_history}
 use Rattle.cal_run.specs.Steps.{at_start, state_after}
-use Rattle.cal_valid.specs.Valid.{IsPlaced}
+use Rattle.cal_script.specs.Valid.{IsPlaced}
 use Rattle.cal_run.proofs.noting.note_lines.Goals as goal
 
 pub loop-place-init : goal.loop-place-init

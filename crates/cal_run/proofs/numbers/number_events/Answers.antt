@@ -12,7 +12,7 @@ loop-attribute-preserved c =
     let grows = c.number_events_of.ensures.grows in
     record {
       numbered = subst (λ (ns : List EventNumbers).
-          AllZip (EventsStand c.number_events_of.new.context) ns
+          AllZip (EventsStand c.number_events_of.new.context.attributes) ns
           (take (c.loop-attribute.attribute-index + 1) c.args.attributes.now))
           (sym {A = List EventNumbers} c.in_ok-push.ensures.items)
           (events_more grows _ _ _ _ _ old.numbered c.in_ok-number_events_of.ensures.numbered

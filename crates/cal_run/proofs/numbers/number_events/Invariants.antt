@@ -7,6 +7,6 @@ use Rattle.cal_run.proofs.numbers.number_events.Given as goal
 -- the events of the attributes so far have their numbers
 abbrev pub invariant-loop-attribute : goal.invariant-loop-attribute
 invariant-loop-attribute l = record {
-  numbered : AllZip (EventsStand l.context) l.numbers.items (take l.attribute-index l.attributes);
+  numbered : AllZip (EventsStand l.context.attributes) l.numbers.items (take l.attribute-index l.attributes);
   grows : Grows l.fn.context l.context;
 }

@@ -3,7 +3,7 @@ use Rattle.std.specs.List.{All}
 use Rattle.cal_run.proofs.PlainLemmas.{history-long, start-process, threads-drop, threads-end}
 use Rattle.cal_run.proofs.PlainLemmas.{total-next, total-room}
 use Rattle.cal_run.specs.Plain.{plain_history, threads_from}
-use Rattle.cal_valid.specs.Valid.{IsPlaced}
+use Rattle.cal_script.specs.Valid.{IsPlaced}
 use Rattle.cal_run.proofs.plain.note_threads.Goals as goal
 
 pub loop-number-init : goal.loop-number-init

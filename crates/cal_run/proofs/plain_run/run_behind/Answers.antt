@@ -13,7 +13,7 @@ use Rattle.cal_run.specs.Lawful.{process_lines}
 use Rattle.cal_run.specs.Plain.{note_of, notes_from, plain_history}
 use Rattle.cal_run.specs.Refused.{is_refused, refused_of}
 use Rattle.cal_run.specs.Steps.{at_start, previous_after, state_after, taken_in}
-use Rattle.cal_valid.specs.Valid.{IsPlaced}
+use Rattle.cal_script.specs.Valid.{IsPlaced}
 use Rattle.cal_run.proofs.plain_run.run_behind.Goals as goal
 
 pub loop-place-init : goal.loop-place-init

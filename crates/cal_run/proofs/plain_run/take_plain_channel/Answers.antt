@@ -13,7 +13,7 @@ use Rattle.cal_run.specs.Behind.{taken_behind}
 use Rattle.cal_run.specs.Plain.{plain_history}
 use Rattle.cal_run.specs.Steps.{at_start}
 use Rattle.cal_script.specs.declared.journal.Placed.{Placed}
-use Rattle.cal_valid.specs.Valid.{IsPlaced}
+use Rattle.cal_script.specs.Valid.{IsPlaced}
 use Rattle.cal_run.proofs.plain_run.take_plain_channel.Goals as goal
 
 pub loop-number-init : goal.loop-number-init

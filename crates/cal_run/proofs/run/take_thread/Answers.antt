@@ -7,7 +7,7 @@ use Rattle.cal_run.proofs.NumberLemmas.{AreNumbered-Grows}
 use Rattle.cal_run.proofs.RunLemmas.{can_run, order-drop, seen_before-within, taken_from-drop}
 use Rattle.cal_run.proofs.RunLemmas.{taken_from-end}
 use Rattle.cal_run.specs.Steps.{at_start, previous_after, state_after, taken_in}
-use Rattle.cal_valid.specs.Valid.{IsPlaced}
+use Rattle.cal_script.specs.Valid.{IsPlaced}
 use Rattle.cal_run.proofs.run.take_thread.Goals as goal
 
 pub loop-place-init : goal.loop-place-init

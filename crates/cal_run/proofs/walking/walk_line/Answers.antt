@@ -1,5 +1,6 @@
 use Rattle.std.proofs.Common.{◌≡◌, ℕ, ◌+◌, List, ap, subst, sym, ◌∙◌}
 use Rattle.std.specs.Prelude.{Option}
+use Rattle.cal_context.proofs.CallerLemmas.{Grows-trans}
 use Rattle.cal_run.proofs.HeldLemmas.{Holds-Grows}
 use Rattle.cal_run.proofs.NumberLemmas.{AreNumbered-Grows}
 use Rattle.cal_run.proofs.PathLemmas.{AreHeld-Grows, holds-grown, own-board, own-places}
@@ -84,3 +85,6 @@ pub returns-clause-held : goal.returns-clause-held
 returns-clause-held c =
     on_ok-always c.hold_behind.result (AreHeld-Grows c.hold_behind.ensures.grows _ _
     c.in_ok-place_next.ensures.held)
+
+pub returns-clause-grows : goal.returns-clause-grows
+returns-clause-grows c = Grows-trans _ _ _ c.place_next.ensures.grows c.hold_behind.ensures.grows

@@ -16,7 +16,7 @@ use Rattle.cal_run.specs.Paths.{held_behind, held_from, own_operation}
 use Rattle.cal_run.specs.Plain.{note_of, notes_from, plain_history}
 use Rattle.cal_run.specs.Steps.{at_start, state_after}
 use Rattle.cal_run.specs.Walking.{every, has_trace, takers}
-use Rattle.cal_valid.specs.Valid.{IsPlaced}
+use Rattle.cal_script.specs.Valid.{IsPlaced}
 use Rattle.cal_value.specs.declared.variant.Variant.{Variant}
 use Rattle.cal_run.proofs.walking.walk_thread.Goals as goal
 

@@ -13,7 +13,7 @@ use Rattle.cal_run.specs.Plain.{plain_history, threads_from}
 use Rattle.cal_run.specs.Walking.{every, has_trace, held_to, taken_by}
 use Rattle.cal_script.specs.declared.journal.Placed.{Placed}
 use Rattle.cal_script.specs.declared.script.Line.{Line}
-use Rattle.cal_valid.specs.Valid.{IsPlaced}
+use Rattle.cal_script.specs.Valid.{IsPlaced}
 use Rattle.cal_run.proofs.walking.walk_threads.Goals as goal
 
 pub loop-number-init : goal.loop-number-init

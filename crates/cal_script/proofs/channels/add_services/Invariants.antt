@@ -1,5 +1,5 @@
 use Rattle.std.proofs.Common.{◌≡◌}
-use Rattle.cal_input.specs.FirstFault.{after_lines}
+use Rattle.cal_line.specs.FirstFault.{after_lines}
 use Rattle.cal_script.specs.Lines.{pieces}
 use Rattle.cal_script.specs.Parts.{with_service}
 use Rattle.cal_script.specs.Steps.{pieces_behind, rest_length}

@@ -1,7 +1,7 @@
 use Rattle.std.proofs.Common.{◌≡◌, ℕ, List, refl, sym, ◌∙◌}
 use Rattle.std.specs.Prelude.{Ok, Err}
-use Rattle.cal_input.specs.FirstFault.{after_lines}
-use Rattle.cal_input.proofs.FirstFaults.{one_first, falls_whole, makes}
+use Rattle.cal_line.specs.FirstFault.{after_lines}
+use Rattle.cal_line.proofs.FirstFaults.{one_first, falls_whole, makes}
 use Rattle.cal_script.specs.declared.script.Script.{Script}
 use Rattle.cal_script.specs.declared.kind.ScriptKind.{ScriptKind}
 use Rattle.cal_script.specs.Lines.{lines_of}

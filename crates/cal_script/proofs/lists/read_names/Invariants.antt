@@ -1,5 +1,5 @@
 use Rattle.std.proofs.Common.{◌≡◌, []}
-use Rattle.cal_input.specs.FirstFault.{after_lines}
+use Rattle.cal_line.specs.FirstFault.{after_lines}
 use Rattle.cal_script.specs.Lines.{pieces}
 use Rattle.cal_script.specs.Parts.{attribute_names, with_name}
 use Rattle.cal_script.specs.Registers.{IsNames}

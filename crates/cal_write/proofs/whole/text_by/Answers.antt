@@ -12,4 +12,4 @@ returns c =
     IfOk-weaker c.finish.result _ (λ text. text ≡ canonical_text c.args.records.now)
     (λ text ends. whole-text c.take_all.new.context c.take_all.new.writer c.args.records.now c.take_all.new.snapshot text
     c.in_ok-take_all.ensures.rows c.in_ok-take_all.ensures.globals ends)
-    c.finish.ensures
+    c.finish.ensures.text

@@ -27,18 +27,21 @@ returns-clause-numbered c =
     let g06 : Grows t0 t6 = Grows-trans t0 t1 t6 c.number_values.ensures.grows g16 in
     let script = c.args.script.now in
     record {
-      attributes = IsFront-trans script.attributes t0.attributes t6.attributes c.requires
-          g06.attributes;
+      named = record {
+        front = IsFront-trans script.attributes t0.attributes t6.attributes c.requires
+            g06.attributes;
+        events = subst (λ (xs : List Attribute). AllZip (EventsStand t6.attributes)
+            c.in_ok-events.events.items xs) c.as_slice.ensures
+            (AllZip-weaken (EventsStand t2.attributes) (EventsStand t6.attributes)
+            (EventsStand-Grows g26) c.in_ok-events.events.items c.as_slice.result.now
+            c.in_ok-events.ensures.numbered);
+        duration = IsNumber-Grows g36 c.in_ok-duration.duration _
+            c.in_ok-duration.ensures.numbered;
+        inclusive = IsNumber-Grows g46 c.in_ok-inclusive.inclusive _
+            c.in_ok-inclusive.ensures.numbered;
+        depth = IsNumber-Grows g56 c.in_ok-depth.depth _ c.in_ok-depth.ensures.numbered;
+        count = c.in_ok-count.ensures.numbered;
+      };
       values = ValuesStand-Grows g16 c.in_ok-values.values.items script.values
           c.in_ok-values.ensures.numbered;
-      events = subst (λ (xs : List Attribute). AllZip (EventsStand t6) c.in_ok-events.events.items
-          xs) c.as_slice.ensures
-          (AllZip-weaken (EventsStand t2) (EventsStand t6) (EventsStand-Grows g26)
-          c.in_ok-events.events.items c.as_slice.result.now
-          c.in_ok-events.ensures.numbered);
-      duration = IsNumber-Grows g36 c.in_ok-duration.duration _ c.in_ok-duration.ensures.numbered;
-      inclusive = IsNumber-Grows g46 c.in_ok-inclusive.inclusive _
-          c.in_ok-inclusive.ensures.numbered;
-      depth = IsNumber-Grows g56 c.in_ok-depth.depth _ c.in_ok-depth.ensures.numbered;
-      count = c.in_ok-count.ensures.numbered;
     }

@@ -20,7 +20,7 @@ add_nodes-requires c =
     let Within : NodeNumber → Type 0 = λ n. n.0 < length t.paths in
     All-weaker (IsBelowRoot t) Within (λ n is. is.within) _
     (subst (All (IsBelowRoot t)) (sym nodes)
-    (board-below t c.args.script.now c.requires.numbered.attributes board c.requires.holds.0
+    (board-below t c.args.script.now c.requires.numbered.named.front board c.requires.holds.0
     c.requires.holds.1 c.has_few_slots.ensures.references))
 
 pub returns : goal.returns
@@ -33,6 +33,6 @@ returns c =
     on_ok_weaker c.add_nodes.result (λ adds b holds.
     subst (HoldsPaths t t c.args.self.now.nodes c.add_nodes.new.held)
     (ap (map (path_at t)) nodes
-    ∙ board-paths t c.args.script.now c.requires.numbered.attributes board b holds
+    ∙ board-paths t c.args.script.now c.requires.numbered.named.front board b holds
     c.has_few_slots.ensures.references) adds)
     c.add_nodes.ensures

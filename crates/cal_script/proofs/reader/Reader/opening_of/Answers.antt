@@ -1,6 +1,6 @@
 use Rattle.std.proofs.Common.{◌≤◌, Ok, sym, ◌∙◌, ap, subst}
 use Rattle.std.specs.Prelude.{Result}
-use Rattle.cal_input.specs.FirstFault.{◌>>=◌}
+use Rattle.cal_line.specs.FirstFault.{◌>>=◌}
 use Rattle.cal_value.specs.declared.variant.Variant.{Variant}
 use Rattle.cal_script.specs.Reader.{state_of}
 use Rattle.cal_script.specs.State.{opening}

@@ -1,0 +1,10 @@
+pub mod Lists
+pub mod Totals
+pub mod Counts
+pub mod Acts
+pub mod Moves
+pub mod Takes
+pub mod Gives
+pub mod Seats
+pub mod Closes
+pub mod Joined

@@ -1,0 +1,10 @@
+pub mod Accounts
+pub mod Merges
+pub mod Contents
+pub mod Views
+pub mod Rule
+pub mod Steps
+pub mod Seats
+pub mod Turns
+pub mod Flushes
+pub mod Closing

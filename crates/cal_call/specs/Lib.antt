@@ -1,0 +1,11 @@
+pub mod GenWords
+pub mod Words
+pub mod Tasks
+pub mod Faults
+pub mod Refusals
+pub mod Runs
+pub mod Inputs
+pub mod Causes
+pub mod Ends
+pub mod Used
+pub mod Written

@@ -1,0 +1,51 @@
+//! What `--help` and `--version` tell.
+ghost use Rattle.std.specs.Prelude.{◌≡◌, map, string_bytes};
+ghost use Rattle.std.specs.Option.{option_copied};
+ghost use Rattle.cal_call.specs.Words.{told_about};
+
+/// What `--help` tells.
+pub const HELP: &str = "\
+caliper: runs annotation scripts and queries their .cali streams, in whole numbers
+
+usage: caliper COMMAND < INPUT > OUTPUT
+
+    serial      reads a script and a journal behind it, or none, and writes the .cali text of the
+                run; without a journal its threads run one after another
+    query [--q=TEXT] [--globals=off|join]
+                reads a .cali stream, and writes the answer of the query TEXT over its rows, a line
+                for each; with join the globals stand at the end of each row that the query sees
+    gen --seed=N --threads=N --lines=N [--print=script|summary]
+                writes the script of a seed, with so many threads of so many lines, to try a program
+                on, or with summary how large its run is; it reads no input. At most 64 threads and
+                1048576 lines in all
+    --help      this text
+    --version   the version, and what it is proved with
+
+A fault is told on standard error, and by the status. The guide is the README of the repository;
+docs/FORMATS.md there has the scripts, the journals, the streams and the faults, docs/RUNS.md the
+runs, docs/CALQL.md the queries.
+";
+
+/// What `--version` tells: the version, and the logic by which the proofs were checked. Kits of the
+/// toolchain with other names may share it.
+pub const VERSION: &str = "\
+caliper 0.1.0
+proved with Rattle, logic dac8208d650f15bf
+";
+
+/// The text for people that the only word asks for, if it asks for one.
+pub fn about(words: &[String]) -> Option<&'static str>
+    ensures { option_copied result
+        ≡ told_about HELP.now VERSION.now (map string_bytes words.now) }
+{
+    let [word] = words else {
+        return None;
+    };
+    if word.as_str() == "--help" {
+        return Some(HELP);
+    }
+    if word.as_str() == "--version" {
+        return Some(VERSION);
+    }
+    None
+}

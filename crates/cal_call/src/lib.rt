@@ -1,0 +1,39 @@
+//! The top call of the program `caliper`: `run` and `serve`, the words of a command line, and the
+//! faults and texts that a person meets; a file for each command.
+//!
+//! What stands on `run` is the promise of the whole program: with status 0 or 1 the output has
+//! grown by exactly the text that the command makes of its input, as `serial` the records of the
+//! run that a script and its journal give, and every other status has its cause. The program itself
+//! lends it the standard streams; what these hold, and where they lead, no contract can say.
+#![tactic(auto)]
+
+mod asking;
+mod command_line;
+mod commands;
+mod counting;
+mod fault;
+mod gen_words;
+mod generating;
+mod help;
+mod journal;
+mod outcome;
+mod query;
+mod report;
+mod running;
+mod serial;
+mod showing;
+mod summarizing;
+mod used;
+mod words;
+mod words_end;
+
+pub use command_line::serve;
+pub use commands::{INPUT_LIMIT, run};
+pub use fault::{Fault, InputKind};
+pub use help::{HELP, VERSION, about};
+pub use outcome::Outcome;
+pub use report::put_fault;
+pub use running::run_text;
+pub use used::UsedJournal;
+pub use words::{Command, Print, read_words};
+pub use words_end::WordsEnd;

@@ -1,3 +1,0 @@
-mod Turns
-mod Kept
-mod Read

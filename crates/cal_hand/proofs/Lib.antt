@@ -1,0 +1,3 @@
+pub mod HandLemmas
+pub mod BoardLemmas
+pub mod LastLemmas

@@ -1,0 +1,20 @@
+use Rattle.cal_hand.proofs.BoardLemmas.{answers_by_table, holds_still, tells_why}
+use Rattle.cal_words.specs.declared.op.OpCode.TheVariants as code
+use Rattle.cal_hand.proofs.by_hand.set_by.Goals as goal
+
+pub returns-clause-table : goal.returns-clause-table
+returns-clause-table g c =
+    answers_by_table c.args.hand.now c.set.new.maker c.set.ensures.onward c.args.board.now
+    c.set.new.self code.Set c.args.attr c.set.result c.set.ensures.steps c.set.ensures.does
+
+pub returns-clause-full : goal.returns-clause-full
+returns-clause-full g c room plain =
+    tells_why c.args.hand.now c.set.new.maker c.set.ensures.onward c.args.board.now c.set.new.self
+    code.Set c.args.attr c.requires.seat c.requires.stands.0 c.requires.stands.1
+    c.has_few_slots.ensures.within plain c.set.result c.set.ensures.accepted c.set.ensures.err
+    (c.set.ensures.refused room)
+
+pub returns-clause-holds : goal.returns-clause-holds
+returns-clause-holds g c =
+    holds_still c.args.hand.now c.set.new.maker c.set.ensures.onward c.args.board.now c.set.new.self
+    code.Set c.args.attr c.set.result c.requires.stands c.set.ensures.steps c.set.ensures.err

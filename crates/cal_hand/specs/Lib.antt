@@ -1,0 +1,5 @@
+pub mod Nodes
+pub mod Hands
+pub mod Boards
+pub mod Changes
+pub mod Lasts

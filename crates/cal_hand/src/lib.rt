@@ -1,0 +1,20 @@
+//! Blackboards over the shared tree: a tree seat as a maker of nodes, and a board that has all its
+//! room from the start.
+//!
+//! A thread that runs opens values by `begin` and `set` on boards that grow, and a refused node is
+//! want of memory there. A `SharedBoard` takes no memory for its lines, so it tells a full tree
+//! with its numbers. The layers above use what a line does to the board and to the seat: it
+//! publishes the node that it puts into a slot, or nothing.
+#![tactic(auto)]
+
+mod by_hand;
+mod change;
+mod hand;
+mod last;
+mod opening;
+mod shared_board;
+
+pub use change::{Change, operate};
+pub use hand::Hand;
+pub use opening::{begin, set};
+pub use shared_board::SharedBoard;

@@ -1,7 +1,0 @@
-use Rattle.std.proofs.Common.{◌≡◌, ◌++◌, drop}
-use Rattle.cal_run.specs.Broken.{starts_of}
-use Rattle.cal_run.proofs.shape.row_starts.Given as goal
-
--- the rows so far, and those of the threads that are left, are all
-abbrev pub invariant-loop-thread : goal.invariant-loop-thread
-invariant-loop-thread l = l.starts.items ++ starts_of (drop l.thread l.notes) ≡ starts_of l.notes

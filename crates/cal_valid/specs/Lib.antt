@@ -1,4 +1,0 @@
-pub mod Counts
-pub mod Valid
-pub mod Texts
-pub mod GeneratedScript
