@@ -85,12 +85,6 @@ module _ {S : Type 0} where
     visits_then u v w place l None (other, b) = (other, learns_then u v w l b)
     visits_then u v w place l (Some answer) b = answers_then u v w l answer b
 
-    pub answers_later : (v w : View S) (answer : Put) → Answers ask v w answer → IsLater v w
-    answers_later v w (Placed place false) (is, l) = learns_later v w l
-    answers_later v w (Placed place true) (is, l, empty) = learns_later (publishing ask.words place v) w l
-    answers_later v w RowsFull (all, l) = learns_later v w l
-    answers_later v w (ArenaFull used need) lacks = learns_later (noting lacks.place v) w lacks.learns
-
     -- the draft was published
     pub published_here : (v w : View S) (place distance start found : ℕ) → w ≡ offered place (slot_for (length ask.words) start) found (record v { draft = ask.words }) → found ≡ 0 → start < 2 ^ 32 → IsReached ask v place distance → WasEmpty ask.plan v place → Answers ask v w (Placed place true)
     published_here v w place distance start found is none small reached empty =
