@@ -168,6 +168,7 @@ module _ (P Q : Opened Variant → Type 0) where
         by reply.Done = changed_on c v opens
         by (reply.Mismatch top) = on
         by reply.NotOpen = on
+        by (reply.TreeFull full) = on
         by reply.TooDeep = on
         by reply.SlotsFull = on
 

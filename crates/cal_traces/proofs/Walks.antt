@@ -41,6 +41,7 @@ done_reply : (r : boards.BoardReply) → is_accepted (Some (as_reply r)) ≡ tru
 done_reply board.Done h = refl
 done_reply (board.Mismatch top) h = absurd cc
 done_reply board.NotOpen h = absurd cc
+done_reply (board.TreeFull full) h = absurd cc
 done_reply board.TooDeep h = absurd cc
 done_reply board.SlotsFull h = absurd cc
 
