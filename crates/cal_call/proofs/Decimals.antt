@@ -44,15 +44,6 @@ uint_read text r parsed plain =
     read_by (length text) (digits_value 10 text) (list_all (λ c. is_digit c 10) text) r
     (parse_plain own 64 text r parsed plain)
 
--- a plus is no digit
-pub uint_plus : (text : List ℕ) → get_or text 0 0 ≡ 43 → uint_of text ≡ None
-uint_plus [] plus = refl
-uint_plus (c ∷ cs) plus =
-    let digits = list_all (λ c. is_digit c 10) (c ∷ cs) in
-    let none : digits ≡ false = rw plus refl in
-    sym (read_by {E = ℕ} (length (c ∷ cs)) (digits_value 10 (c ∷ cs)) digits (Err 0)
-    (λ h. absurd (false≢true (sym none ∙ h.0))))
-
 -- a text whose first byte was tested
 pub no_plus : (text : List ℕ) (tested : Bool) → tested ≡ (get_or text 0 0 == 43) → tested ≡ false
     → get_or text 0 0 ≢ 43

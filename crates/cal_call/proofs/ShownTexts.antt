@@ -35,9 +35,3 @@ module _ (task : Task) (input output : Change) (journal : Journal) (text : List 
       → Shows text output answer → Answers (Ok task) input output journal answer
   shown_answers None none shown = (written shown, none)
   shown_answers (Some f) none shown = failed f shown
-
-  -- some lines were
-  pub refused_answers : (lines : ℕ) → lines ≡ refused_lines journal → 0 < lines
-      → Shows text output None
-      → Answers (Ok task) input output journal (Some (fault.LinesRefused lines))
-  refused_answers lines counted some shown = (written shown, counted, some)

@@ -186,15 +186,6 @@ put_long {A} old x new n parts now fresh h long is = by (placed old x new n h)
         length-push [] y = refl
         length-push (z ∷ zs) y = ap suc (length-push zs y)
 
--- the same of as many places as one more may need
-pub place_long : {A : Type 0} (old : List A) (x : A) (new : List A) (n : ℕ) (parts now : List (List Gathered))
-    → Interns old x new n → length parts ≡ length old → length now ≡ max (length parts) (n + 1) → length now ≡ length new
-place_long {A} old x new n parts now h long is = by (placed old x new n h)
-  where
-    by : IsPlaced old x new n → length now ≡ length new
-    by (inl p) = let kept = ap length p.1 in omega (arith, is, long, p.0, kept)
-    by (inr p) = let more = ap length p.1 ∙ length-append old (x ∷ []) in omega (arith, is, long, p.0, more)
-
 -- what holds where a call succeeds
 pub when_ok : {T E : Type 0} (P : Type 0) (r : Result T E) → is_err r ≡ false → OnOk r P → P
 when_ok P (Ok v) e h = h

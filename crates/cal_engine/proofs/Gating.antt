@@ -18,9 +18,6 @@ use Rattle.cal_engine.specs.Gates.{AreSmallBefore, IsSmallAt}
 abbrev has_small : Entry → Type 0
 has_small e = IsSmall e.value
 
-pub small_root : (t : Tree) (n : NodeNumber) → n.0 < length t.paths → path_at t n ≡ [] → IsSmallAt t n
-small_root t n within none = record { within = within; small = subst (All has_small) (sym none) (All-nil has_small) }
-
 pub small_child : (t : Tree) (l : Link) (n : NodeNumber) → IsLinked t l n → IsSmall (value_at t l.value) → AreSmallBefore t n.0 → IsSmallAt t n
 small_child t l n linked small before = record {
   within = linked.child.within;

@@ -125,16 +125,6 @@ key_of_snapshot t mid own s names sieves ns is nodes key e f grows choices paths
     (subst (λ ms. ArePaths mid nodes (filter has_entries (map (λ x. in_paths x (joined (map (path_at t) ms))) sieves))) e paths)
     (subst (λ js. Leads own (joined (map (λ x. beside_paths x (map (entry_of t) js)) sieves)) key.imms) f imms) same
 
-pub key_of_nodes : (t : Tree) (s : Snapshot) (key : GroupKey) → IsContext t → IsIn t s → key.paths ≡ s.nodes.items → key.imms ≡ record { 0 = 0 }
-    → IsKeyOf t (group_of None (meaning t s)) key
-key_of_nodes t s key context is_in same none = record {
-  within = record {
-    paths = subst (All (IsBelowRoot t)) (sym same) is_in.nodes;
-    imms = subst (λ (n : NodeNumber). n.0 < length t.paths) (sym none) (root_within context);
-  };
-  is = λ i. record { paths = map (path_at t) (same i); imms = (ap (path_at t) none ∙ root_path context) i };
-}
-
 -- ---- keys are alike where their groups are
 
 nodes_alike : (t : Tree) → IsContext t → (ns ms : List NodeNumber) → All (IsBelowRoot t) ns → All (IsBelowRoot t) ms → map (path_at t) ns ≡ map (path_at t) ms → ns ≡ ms

@@ -105,9 +105,6 @@ node_put t u mid v nodes link node parent number a linked are at first numbered 
           ∙ sym linked.child.path;
     }
 
-pub root_put : (t u : Tree) (node : NodeNumber) → IsContext u → path_at t node ≡ [] → Leads u (path_at t node) (record { 0 = 0 })
-root_put t u node context none = subst (λ p. Leads u p (record { 0 = 0 })) (sym none) (leads-none u context)
-
 -- one node more by its number
 pub nodes_next : (t u : Tree) (nodes : List NodeNumber) (moved : List (Option NodeNumber)) (n : ℕ) (node number : NodeNumber) (before after : List NodeNumber)
     → n < length nodes → node ≡ get_or nodes n node → AreMovedNodes t u moved → slice_get moved node.0 ≡ Some (Some number)

@@ -22,9 +22,6 @@ use Rattle.cal_engine.proofs.Reaching.{leads-none}
 abbrev is_nested : Entry → Type 0
 is_nested e = is_of_hierarchy e.attr ≡ true
 
-pub nested_root : (t : Tree) (n : NodeNumber) → n.0 < length t.paths → path_at t n ≡ [] → IsNestedAt t n
-nested_root t n within none = record { within = within; nested = subst (All is_nested) (sym none) (All-nil is_nested) }
-
 pub nested_child : (t : Tree) (l : Link) (n : NodeNumber) → IsLinked t l n → is_of_hierarchy (attribute_at t l.attribute) ≡ true
     → AreNestedBefore t n.0 → IsNestedAt t n
 nested_child t l n linked nested before = record {

@@ -10,12 +10,6 @@ use Rattle.cal_engine.specs.Parts.{Gathered, merged_part, merged_parts, part_ove
 use Rattle.cal_engine.specs.PartLists.{merged_at, merged_first, merged_from}
 use Rattle.cal_engine.proofs.Adding.{merged_more, merged_none}
 
--- nothing comes or goes
-pub length-merged_at : (ps : List Gathered) (n : ℕ) (f : Gathered) → length (merged_at ps n f) ≡ length ps
-length-merged_at [] n f = refl
-length-merged_at (p ∷ ps) zero f = refl
-length-merged_at (p ∷ ps) (suc n) f = ap suc (length-merged_at ps n f)
-
 -- the part that is there is read and written
 pub at_set : (ps : List Gathered) (n : ℕ) (own new fresh : Gathered) → n < length ps → own ≡ get_or ps n own
     → new ≡ merged_part own fresh → slice_set ps n new ≡ merged_at ps n fresh

@@ -68,38 +68,11 @@ pub leads-below : (t : Tree) → IsContext t → (n : NodeNumber) → (n.0 ≡ 0
 leads-below t context n other h =
     other (context.paths n.0 0 [] h.within (leads-none t context).within (h.is ∙ sym (leads-none t context).is))
 
--- a path behind another
-pub joined_root : (t : Tree) → IsContext t → (one two : List Entry) (n m : NodeNumber) → n.0 ≡ 0 → Leads t one n → Leads t two m → Leads t (one ++ two) m
-joined_root t context one two n m zero_is h g = subst (λ p. Leads t (p ++ two) m) (sym (leads-root t context one n zero_is h)) g
-
 pub joined_path : (old new : Tree) (one two path : List Entry) (m n : NodeNumber) → path ≡ path_at old m → Leads old two m → Leads new (one ++ path) n
     → Leads new (one ++ two) n
 joined_path old new one two path m n is h g = subst (λ p. Leads new (one ++ p) n) (is ∙ h.is) g
 
-pub path_root : (t : Tree) → IsContext t → (n : NodeNumber) → n.0 ≡ 0 → [] ≡ path_at t n
-path_root t context n zero_is = sym (ap (λ k. get_or t.paths k []) zero_is ∙ (leads-none t context).is)
-
-last_of_one : (xs : List (List Entry)) (x y : List Entry) → y ∷ [] ≡ xs ++ x ∷ [] → x ≡ y
-last_of_one [] x y e = cc
-last_of_one (z ∷ []) x y e = cc
-last_of_one (z ∷ w ∷ xs) x y e = cc
-
--- the path of a snapshot's one node
-pub path_alone : (t : Tree) (nodes : List NodeNumber) (n : NodeNumber) (paths rest : List (List Entry)) (path : List Entry)
-    → nodes ≡ n ∷ [] → paths ≡ map (path_at t) nodes → paths ≡ rest ++ path ∷ [] → path ≡ path_at t n
-path_alone t nodes n paths rest path one are popped = last_of_one rest path (path_at t n) (sym (ap (map (path_at t)) one) ∙ sym are ∙ popped)
-
-pub path_not_none : (t : Tree) (nodes : List NodeNumber) (n : NodeNumber) (paths : List (List Entry))
-    → nodes ≡ n ∷ [] → paths ≡ map (path_at t) nodes → paths ≡ [] → ⊥
-path_not_none t nodes n paths one are none = not_empty (sym (ap (map (path_at t)) one) ∙ sym are ∙ none)
-  where
-    not_empty : path_at t n ∷ [] ≡ [] → ⊥
-    not_empty e = cc
-
 -- ---- the ways to groups
-
-pub ways-none : (t : Tree) → AreWays t [] []
-ways-none t = record { within = λ k d l. absurd (omega (arith, l)); paths = refl }
 
 pub ways-more : (old new : Tree) (keys : List Rec) (i : ℕ) (key : Rec) (nodes : List NodeNumber) (n : NodeNumber) (way : List Entry) → Grows old new
     → i < length keys → key ≡ get_or keys i key → AreWays old (take i keys) nodes → way ≡ trail key → Leads new way n

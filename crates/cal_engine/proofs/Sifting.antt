@@ -35,12 +35,6 @@ pub filter_other : (p : Entry → Bool) (es : List Entry) (e : Entry) → p e �
 filter_other p es e isnt = filter-append p es (e ∷ []) ∙ ap (λ b. filter p es ++ (if b then e ∷ [] else [])) isnt ∙ append-nil (filter p es)
 
 module _ (t own : Tree) (s : Sieve) where
-  -- nothing is taken at the root
-  pub sifted_root : IsContext own → (n : NodeNumber) → n.0 < length t.paths → path_at t n ≡ [] → IsSifted t own s n root
-  sifted_root context n within none = record {
-    within = within;
-    leads = subst (λ p. Leads own (in_paths s p) root) (sym none) (leads-none own context);
-  }
 
   module _ (l : Link) (n : NodeNumber) (linked : IsLinked t l n) where
     abbrev last : Entry
@@ -306,10 +300,6 @@ ready_stays t {own} {new} grows names sieves h = record {
   choices = h.choices;
   sift = All-weaker (SiftsAll t own) (Sifts t new) (λ s k. Sifts-Grows t grows s k.knows) sieves h.sift;
 }
-
--- no names have no sieves
-pub no_sieves : (t own : Tree) → AreSieves t own [] []
-no_sieves t own = record { choices = refl; sift = All-nil (Sifts t own) }
 
 -- sieves that know as much as a context has, and the other way
 pub sieves_covered : (t own : Tree) (n : Counts) → Covers t n → (names : List (List ℕ)) (sieves : List Sieve) → All (SiftsSoMany n) sieves

@@ -43,45 +43,11 @@ single-interns old n new number key is h =
     subst (λ k. Interns (map single_key old) k (map single_key new) number) (sym is)
     (interns_map Any single_key alike old n new number (any old) tt h)
 
--- the key of a number
-pub nth_key-read : (keys : List GroupKey) (number : ℕ) (key : GroupKey) → number < length keys → key ≡ get_or keys number key → nth_key keys number ≡ key
-nth_key-read keys number key l e = sym (e ∙ read keys number l)
-  where
-    read : (ks : List GroupKey) (k : ℕ) → k < length ks → get_or ks k key ≡ nth_key ks k
-    read [] k l = absurd (omega arith)
-    read (x ∷ xs) zero l = refl
-    read (x ∷ xs) (suc k) l = read xs k (omega arith)
-
-pub nth_key-single : (ns : List NodeNumber) (number : ℕ) (n : NodeNumber) → number < length ns → n ≡ get_or ns number n
-    → nth_key (map single_key ns) number ≡ single_key n
-nth_key-single ns number n l e = get_or-map single_key ns number n _ l ∙ ap single_key (sym e)
-
-pub nth_key-past : (keys : List GroupKey) (number : ℕ) → length keys ≤ number → nth_key keys number ≡ record { paths = []; imms = record { 0 = 0 } }
-nth_key-past keys number l = get_or_past keys number _ l
-
-pub single-past : (ns : List NodeNumber) (number : ℕ) → length ns ≤ number → nth_key (map single_key ns) number ≡ record { paths = []; imms = record { 0 = 0 } }
-single-past ns number l = nth_key-past (map single_key ns) number (omega (arith, l, length-map ns single_key))
-
 -- a single key has no immediates
 pub single-imms : (ns : List NodeNumber) (number : ℕ) → (nth_key (map single_key ns) number).imms ≡ record { 0 = 0 }
 single-imms [] number = refl
 single-imms (n ∷ ns) zero = refl
 single-imms (n ∷ ns) (suc number) = single-imms ns number
-
--- the path of a node below the root, and of the root
-pub single-path : (n : NodeNumber) → (n.0 ≡ 0 → ⊥) → (single_key n).paths ≡ n ∷ []
-single-path n other = by (n.0 == 0) refl
-  where
-    by : (b : Bool) → (n.0 == 0) ≡ b → (if b then [] else n ∷ []) ≡ n ∷ []
-    by true e = absurd (other ((Decides-eqb n.0 0).0 e))
-    by false e = refl
-
-pub single-root : (n : NodeNumber) → n.0 ≡ 0 → (single_key n).paths ≡ []
-single-root n zero_is = by (n.0 == 0) refl
-  where
-    by : (b : Bool) → (n.0 == 0) ≡ b → (if b then [] else n ∷ []) ≡ []
-    by true e = refl
-    by false e = absurd (true≢false (sym ((Decides-eqb n.0 0).1 zero_is) ∙ e))
 
 -- one node more, of nodes that are apart
 pub single-next : (ns : List NodeNumber) (i : ℕ) (n : NodeNumber) (old new : List GroupKey) (number : ℕ) → AreApart ns → i < length ns → n ≡ get_or ns i n

@@ -121,12 +121,6 @@ pub room_by_nodes : (names : Option (List (List ℕ))) (t own : Tree) → is_som
 room_by_nodes None t own e = refl
 room_by_nodes (Some names) t own e = absurd (true≢false e)
 
--- the key of a record, without GROUP BY and with it
-pub key_found_by_nodes : (t own : Tree) (names : Option (List (List ℕ))) (r : Rec) (key : GroupKey) → is_some names ≡ false
-    → IsKeyOf t (group_of None r) key → IsKeyOf (room_of names t own) (group_of names r) key
-key_found_by_nodes t own None r key e h = h
-key_found_by_nodes t own (Some names) r key e h = absurd (true≢false e)
-
 pub key_found_by_names : (t mid own : Tree) (names : Option (List (List ℕ))) (r : Rec) (sieves : List Sieve) (key : GroupKey) → is_some names ≡ true
     → AreReadySieves t mid (names_in names) sieves
     → ((ns : List (List ℕ)) → AreReadySieves t mid ns sieves → IsKeyOf own (group_of (Some ns) r) key)

@@ -51,19 +51,6 @@ parts_where-more test (y ∷ ys) (q ∷ qs) (suc i) x p l m e f =
 
 -- ---- one node more
 
-replicated : {A : Type 0} (count n : ℕ) (x d : A) → n < count → get_or (replicate count x) n d ≡ x
-replicated zero n x d l = absurd (omega arith)
-replicated (suc count) zero x d l = refl
-replicated (suc count) (suc n) x d l = replicated count n x d (omega arith)
-
-pub totals_none : (t : Tree) (nodes : List NodeNumber) (parts : List (List Gathered)) (none : List Gathered) (totals : List (List Gathered)) (count : ℕ)
-    → totals ≡ replicate count none → count ≡ length t.paths → length (replicate count none) ≡ count
-    → AreTotals t (take 0 nodes) (take 0 parts) none totals
-totals_none t nodes parts none totals count is counted long = record {
-  long = ap length is ∙ long ∙ counted;
-  at = λ n d l. ap (λ ts. get_or ts n.0 d) is ∙ replicated count n.0 none d (omega (arith, l, counted));
-}
-
 pub totals_more : (t : Tree) (nodes : List NodeNumber) (parts : List (List Gathered)) (none : List Gathered) (before now : List (List Gathered))
     (i : ℕ) (node : NodeNumber) (added : List Gathered)
     → i < length nodes → i < length parts → node ≡ get_or nodes i node → added ≡ get_or parts i added

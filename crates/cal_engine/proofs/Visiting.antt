@@ -64,17 +64,6 @@ All-front : {A : Type 0} (P : A → Type 0) (xs ys : List A) → All P (xs ++ ys
 All-front P xs ys all k d l = subst P (get_or_append_left xs ys d k l) (all k d (omega (arith, l, length-append xs ys)))
 
 module _ (Q : Attribute → Type 0) (t : Tree) where
-  -- at first no node is met
-  pub met_none : (v : Visits) → v.met.items ≡ replicate (length t.paths) false → MetWith Q t v
-  met_none v is = record {
-    long = ap length is ∙ length-replicate (length t.paths) false;
-    met = λ n met. absurd (true≢false (sym met ∙ ap (λ bs. get_or bs n.0 false) is ∙ get_or-replicate_same (length t.paths) n.0));
-  }
-    where
-      get_or-replicate_same : (count i : ℕ) → get_or (replicate count false) i false ≡ false
-      get_or-replicate_same zero i = refl
-      get_or-replicate_same (suc count) zero = refl
-      get_or-replicate_same (suc count) (suc i) = get_or-replicate_same count i
 
   module _ (old new : Visits) (node top : NodeNumber) (visit : IsVisit t old node new top) (met : MetWith Q t old) where
     -- what holds on the paths of nodes that were met holds up to where the way up ended

@@ -30,16 +30,6 @@ appended t s s' x name nodes imms is =
     ∙ ap (λ e. map (entry_of t) s.imms.items ++ e ∷ []) entry in
     λ i. record { paths = map (path_at t) (nodes i); imms = entries i }
 
--- and lies in the context
-pub appended_within : (t : Tree) (s s' : Snapshot) (x : Immediate)
-    → s'.nodes.items ≡ s.nodes.items → s'.imms.items ≡ s.imms.items ++ x ∷ []
-    → x.attribute.0 < length t.attributes → IsIn t s → IsIn t s'
-appended_within t s s' x nodes imms known h = record {
-  nodes = rw nodes h.nodes;
-  imms = rw imms (All-push (λ (i : Immediate). i.attribute.0 < length t.attributes) s.imms.items x
-      h.imms known);
-}
-
 -- one definition more
 pub with_lets_next : (lets : List Let) (i : ℕ) (l : Let) (r : Rec)
     → take (suc i) lets ≡ take i lets ++ l ∷ []

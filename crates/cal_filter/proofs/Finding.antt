@@ -57,21 +57,6 @@ module _ (t : Tree) (s : Sought) where
         ∙ map-append (entry_of t) (take i imms) _
         ∙ ap (λ y. map (entry_of t) (take i imms) ++ entry_of t y ∷ []) (sym read)
 
-    -- an immediate that is sought
-    pub immediate_here : seeks s (entry_of t x) ≡ true
-        → last_sought s (map (entry_of t) (take (i + 1) imms))
-        ≡ option_map (entry_of t) (slice_get imms i)
-    immediate_here is =
-        ap (last_sought s) one_more ∙ sought_end s (map (entry_of t) (take i imms)) (entry_of t x) is
-        ∙ sym (ap (option_map (entry_of t)) (slice_get-get_or imms i x short ∙ ap Some (sym read)))
-
-    -- one that isn't
-    pub immediate_other : seeks s (entry_of t x) ≡ false
-        → last_sought s (map (entry_of t) (take (i + 1) imms))
-        ≡ last_sought s (map (entry_of t) (take i imms))
-    immediate_other isnt =
-        ap (last_sought s) one_more ∙ other_end s (map (entry_of t) (take i imms)) (entry_of t x) isnt
-
   -- nothing is found where no immediate is sought
   pub immediates_none : (imms : List Immediate) → ((i : ℕ) (x : Immediate) → i < length imms → seeks s (entry_of t (slice_index_or imms i x)) ≡ false)
       → last_sought s (map (entry_of t) imms) ≡ None

@@ -41,11 +41,6 @@ some_value : (o : Option Entry) → is_some (option_map (λ e. e.value) o) ≡ i
 some_value None = refl
 some_value (Some e) = refl
 
--- whether something is there hangs on no reference
-pub some_copied : {X : Type 0} (o : Option (Bor X)) → is_some (option_copied o) ≡ is_some o
-some_copied None = refl
-some_copied (Some x) = refl
-
 -- `!=` with a negation turns an answer round
 pub differs : (a b : Bool) → not (beq a b) ≡ (if b then not a else a)
 differs true true = refl

@@ -101,32 +101,11 @@ flat_means t s r paths imms none at_nodes others h = record {
   };
 }
 
--- entries from a place on, one more
-pub dropped_next : (es : List Entry) (t : Tree) (imms : List Immediate) (from i : ℕ) (x : Immediate)
-    → i < length imms → x ≡ get_or imms i x → from ≤ i
-    → es ++ map (entry_of t) (drop from (take (i + 1) imms))
-    ≡ (es ++ map (entry_of t) (drop from (take i imms))) ++ entry_of t x ∷ []
-dropped_next es t imms from i x short read over =
-    let long : from ≤ length (take i imms) = simp length-take (omega arith) in
-    ap (λ xs. es ++ map (entry_of t) xs)
-    (ap (drop from) (take_more imms i x short ∙ ap (λ y. take i imms ++ y ∷ []) (sym read))
-    ∙ drop-append-le from (take i imms) (x ∷ []) long)
-    ∙ ap (λ xs. es ++ xs) (map-append (entry_of t) (drop from (take i imms)) (x ∷ []))
-    ∙ sym (append_assoc es (map (entry_of t) (drop from (take i imms))) (entry_of t x ∷ []))
-
 drop_all : {A : Type 0} (xs : List A) (n : ℕ) → length xs ≤ n → drop n xs ≡ []
 drop_all [] zero h = refl
 drop_all [] (suc n) h = refl
 drop_all (x ∷ xs) zero h = absurd (omega arith)
 drop_all (x ∷ xs) (suc n) h = drop_all xs n (omega arith)
-
-pub dropped_none : (t : Tree) (imms : List Immediate) (from i : ℕ) → i < from
-    → map (entry_of t) (drop from (take (i + 1) imms)) ≡ map (entry_of t) (drop from (take i imms))
-dropped_none t imms from i below =
-    let short : length (take (i + 1) imms) ≤ from = simp length-take (omega arith) in
-    let shorter : length (take i imms) ≤ from = simp length-take (omega arith) in
-    ap (map (entry_of t))
-    (drop_all (take (i + 1) imms) from short ∙ sym (drop_all (take i imms) from shorter))
 
 -- the entries that LET added to a snapshot are those that it adds to the record
 module _ (t : Tree) (q : Query) (r : Rec) (s s' : Snapshot) (keeps : Bool)

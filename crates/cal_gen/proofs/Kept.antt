@@ -8,10 +8,6 @@ use Rattle.cal_value.specs.declared.variant.Variant.TheVariants as variant
 use Rattle.cal_script.specs.Values.{value_in}
 use Rattle.cal_gen.specs.Places.{AreFirst, value_at}
 
--- nothing is kept yet
-pub first_none : AreFirst 0 []
-first_none = record { number = refl; values = λ place below. absurd (omega arith) }
-
 -- one value more
 pub first_more : (count : ℕ) (kept : List Variant) (value : Variant) → value ≡ value_at count → AreFirst count kept
     → AreFirst (count + 1) (kept ++ value ∷ [])

@@ -25,19 +25,13 @@ use Rattle.cal_journal.specs.declared.ends.BothEnd as ends
 use Rattle.cal_journal.specs.declared.ends.BothEnd.TheVariants as end
 use Rattle.cal_journal.specs.Reading.{State, begin_at, journal_of, line_after}
 use Rattle.cal_journal.specs.Both.{HasFaultBehind, HasScriptFault, IsFront, IsJournalRefusal, IsRefusalOf, MeansBoth, SaysJournalBehind, begins, end_at, script_length}
-use Rattle.cal_journal.proofs.Lines.{IsPart, part_on, part_falls, part_ends, part_begins, fault_in_front}
+use Rattle.cal_journal.proofs.Lines.{IsPart, part_on, part_falls, part_ends, fault_in_front}
 
 -- So many lines are read, and the rest has the others.
 pub record IsJournalRun (before : ℕ) (bytes : List ℕ) (pending : Pending) (rest : List ℕ) : Type 0 where
   pub le : before ≤ pending.line
   pub part : IsPart line_after (begin_at before) (lines_of bytes) (pending.line - before) (state_of pending) rest
   pub room : pending.line + length rest ≤ before + length bytes
-
-pub run_begins : (before : ℕ) (bytes : List ℕ) (pending : Pending) → state_of pending ≡ begin_at before → IsJournalRun before bytes pending bytes
-run_begins before bytes pending is =
-    let line : pending.line ≡ before = ap (λ (s : State). s.line) is in
-    let none : pending.line - before ≡ 0 = omega arith in
-    record { le = omega arith; part = rw (none, is) (part_begins line_after (begin_at before) bytes); room = omega arith }
 
 module _ (before : ℕ) (bytes : List ℕ) (pending : Pending) (rest : List ℕ) (run : IsJournalRun before bytes pending rest) where
   pub run_on : (first after : List ℕ) (now : Pending) → lines_of rest ≡ first ∷ lines_of after → length after < length rest → now.line ≡ pending.line + 1
@@ -165,18 +159,3 @@ told_at : (line : ℕ) (kind : JournalKind) (k m : ℕ) (ls ms : List (List ℕ)
 told_at line kind k m ls ms place left told =
     let at : HasFaultBehind m ls line kind = (let P : List (List ℕ) → Type 0 = λ lines. HasFaultBehind m lines line kind in subst P (sym left) told) in
     let P : ℕ → Type 0 = λ before. HasFaultBehind before ls line kind in subst P (sym place) at
-
-pub both_said : (bytes : List ℕ) (script : Script) (line : ℕ) (rest : List ℕ) (text : Option JournalText) → IsFront bytes script line rest
-    → SaysJournalBehind line (lines_of rest) text → MeansBoth bytes (script, text)
-both_said bytes script line rest text front says = record {
-  script = front.said;
-  journal = said_at text _ line _ (lines_of rest) front.place front.left says;
-}
-
--- a refusal of the journal behind a script that stands
-pub both_told : (bytes : List ℕ) (script : Script) (line : ℕ) (rest : List ℕ) (told : ends.BothEnd) → IsFront bytes script line rest
-    → IsJournalRefusal line (lines_of rest) told → IsRefusalOf bytes told
-both_told bytes script line rest (end.Script at kind) front told = absurd told
-both_told bytes script line rest (end.Journal at kind) front told =
-    ((front.said.0, front.said.1), told_at at kind _ line _ (lines_of rest) front.place front.left told)
-both_told bytes script line rest end.OutOfMemory front told = tt

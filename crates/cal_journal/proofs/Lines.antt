@@ -44,9 +44,6 @@ module _ {S K : Type 0} (step : S → List ℕ → Result S K) (start : S) where
         let all : take count lines ≡ lines = sym (append-nil (take count lines)) ∙ ap (λ (x : List (List ℕ)). take count lines ++ x) (sym (part.left ∙ nothing)) ∙ take-append-drop count lines in
         (sym (ap (after_lines step start) all) ∙ part.said, (let short : length (lines_of rest) ≡ 0 = ap length nothing in omega (arith, part.counted)))
 
-  pub part_begins : (bytes : List ℕ) → IsPart (lines_of bytes) 0 start bytes
-  part_begins bytes = record { said = refl; left = refl; counted = omega arith }
-
   -- a first fault within a front of the lines is one of the front
   pub fault_in_front : (lines : List (List ℕ)) (line count : ℕ) (kind : K) → line ≤ count → IsFirstFault step start lines line kind → IsFirstFault step start (take count lines) line kind
   fault_in_front lines line count kind le fault = record {

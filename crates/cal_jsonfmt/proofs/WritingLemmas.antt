@@ -116,9 +116,6 @@ some_more : (texts : List (List ℕ)) (text : List ℕ) → is_some_list (texts 
 some_more [] text = refl
 some_more (t ∷ ts) text = refl
 
-pub WritesEach-none : (start : Written) → ends_value start.tokens ≡ false → WritesEach start start []
-WritesEach-none start is = record { before = refl; printed = sym (append-nil (print start.tokens)); ended = is }
-
 pub WritesEach-more : (start now new : Written) (texts : List (List ℕ)) (text : List ℕ) → WritesEach start now texts → WritesValue now new text → WritesEach start new (texts ++ text ∷ [])
 WritesEach-more start now new texts text each value = record {
   before = value.before ∙ each.before;
@@ -155,10 +152,6 @@ WritesValue-object old start now new members opened each closed =
     bracketed old start now new 123 125 (map member_json members)
     (Writes-same old start _ _ false (ap (λ c. c ++ 123 ∷ []) (with_comma (ends_value old.tokens))) (Writes-token old start begin_object opened)) each
     (Writes-same now new _ _ true (ap (λ c. c ++ 125 ∷ []) (without_comma (ends_value now.tokens))) (Writes-token now new end_object closed))
-
--- a bracket has just opened
-pub opened-ended : (old start : Written) (t : Token) → HasToken old start t → ends t ≡ false → ends_value start.tokens ≡ false
-opened-ended old start t is opens = (Writes-token old start t is).ended ∙ opens
 
 -- the whole text, behind nothing
 pub WritesValue-alone : (old new : Written) (text : List ℕ) → old.before ≡ [] → old.tokens ≡ [] → WritesValue old new text → new.before ++ print new.tokens ≡ text

@@ -14,7 +14,7 @@ use Rattle.cal_once.specs.Steps.{WasEmpty}
 use Rattle.cal_once.specs.Puts.{Ask, Answers, AllHoldOthers, IsReached, MayOffer, MayPut, PassesOthers, Visits, ask_for, place_at}
 use Rattle.cal_once.proofs.Seen.{Saw_left, Saw_right, Saw_placed}
 use Rattle.cal_once.proofs.Regions.{arena_inside, size-slot_for}
-use Rattle.cal_once.proofs.Learning.{learns_then, learns_later, knows_later, other_later, parent_later}
+use Rattle.cal_once.proofs.Learning.{learns_then, knows_later, other_later, parent_later}
 
 -- each place is at some distance from a home
 distance_to : (shape : Shape) (home place : ℕ) → home < shape.slots → place < shape.slots → (distance : ℕ) × (distance < shape.slots) × (place ≡ probe shape home distance)
@@ -84,12 +84,6 @@ module _ {S : Type 0} where
     pub visits_then : (u v w : View S) (place : ℕ) → Learns u v → (found : Option Put) → Visits ask v w place found → Visits ask u w place found
     visits_then u v w place l None (other, b) = (other, learns_then u v w l b)
     visits_then u v w place l (Some answer) b = answers_then u v w l answer b
-
-    pub answers_later : (v w : View S) (answer : Put) → Answers ask v w answer → IsLater v w
-    answers_later v w (Placed place false) (is, l) = learns_later v w l
-    answers_later v w (Placed place true) (is, l, empty) = learns_later (publishing ask.words place v) w l
-    answers_later v w RowsFull (all, l) = learns_later v w l
-    answers_later v w (ArenaFull used need) lacks = learns_later (noting lacks.place v) w lacks.learns
 
     -- the draft was published
     pub published_here : (v w : View S) (place distance start found : ℕ) → w ≡ offered place (slot_for (length ask.words) start) found (record v { draft = ask.words }) → found ≡ 0 → start < 2 ^ 32 → IsReached ask v place distance → WasEmpty ask.plan v place → Answers ask v w (Placed place true)

@@ -18,9 +18,6 @@ module _ {S : Type 0} where
     more = λ i x h. b.more i x (a.more i x h);
   }
 
-  pub learns_later : (v w : View S) → Learns v w → IsLater v w
-  learns_later v w l = (ap (λ (z : View S). z.plan) l.same, ap (λ (z : View S). z.number) l.same, ap (λ (z : View S). z.others) l.same, l.more)
-
   -- a load of a filled slot
   pub looked_filled : (noted : Bool) (place found : ℕ) (v : View S) → found ≢ 0 → looked noted place found v ≡ record v { seen = (place + 1, found) ∷ v.seen }
   looked_filled noted place found v ne = ap (λ (b : Bool). let w : View S = record v {

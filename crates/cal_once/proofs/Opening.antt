@@ -40,7 +40,3 @@ module _ {S : Type 0} (law : RecSort S) where
       first_only : (number : ℕ) (v : View S) → get_elem? (first_seat plan ∷ []) number ≡ some v → (v.plan ≡ None) ⊎ Sits plan (replicate (word_count plan.shape) 0) (λ n. record { used = 0; published = [] }) number v
       first_only zero v at = let same : first_seat plan ≡ v = cc in inr (subst (λ (x : View S). Sits plan (replicate (word_count plan.shape) 0) (λ n. record { used = 0; published = [] }) 0 x) same record { plan_is = refl; number_is = refl; used_is = refl; published_is = refl; room = omega arith; draft = λ k h. absurd (omega arith); seen = λ i x saw. absurd saw })
       first_only (suc n) v at = absurd cc
-
-  -- what the first seat of a new table knows is sound
-  pub first_sound : (plan : Plan S) → IsShape plan.shape → IsSound law plan (first_seat plan)
-  first_sound plan shape = sound_in law plan (opening (replicate (word_count plan.shape) 0) [] (first_seat plan)) (opens plan shape) 0 (first_seat plan) refl refl

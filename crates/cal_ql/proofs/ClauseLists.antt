@@ -51,23 +51,6 @@ Remains-fails (ends.BadQuery place kind) clauses (token p t rest) total more fai
     let one = within_token remains.most clauses p t rest remains.enough in
     sym remains.all ∙ rw (one.1, failed) refl
 
-pub Remains-more : (clauses next : Clauses) (ts rest : Tokens) (total : Result Clauses Fault) → clause_at clauses ts ≡ Ok (next, rest) → count rest < count ts → Remains clauses ts total → Remains next rest total
-Remains-more clauses next (end p) rest total found nearer remains = absurd (omega arith)
-Remains-more clauses next (broken fault) rest total found nearer remains = absurd (omega arith)
-Remains-more clauses next (token p t behind) rest total found nearer remains =
-    let one = within_token remains.most clauses p t behind remains.enough in
-    let same : clauses_within (suc one.0) clauses (token p t behind) ≡ clauses_within one.0 next rest = rw found refl in
-    record {
-      most = one.0;
-      enough = omega (arith, remains.enough, one.1);
-      all = sym same ∙ ap (λ (k : ℕ). clauses_within k clauses (token p t behind)) (sym one.1) ∙ remains.all;
-    }
-
-pub Remains-done : (clauses : Clauses) (ts : Tokens) (total : Result Clauses Fault) → is_end ts ≡ true → Remains clauses ts total → total ≡ Ok clauses
-Remains-done clauses (end p) total ended remains = sym remains.all
-Remains-done clauses (broken fault) total ended remains = absurd cc
-Remains-done clauses (token p t rest) total ended remains = absurd cc
-
 -- a keyword that begins no clause
 pub no_clause : (clauses : Clauses) (here ts : Tokens) (k : keywords.Keyword) → (k ≡ keyword.Let → ⊥) → (k ≡ keyword.Select → ⊥) → (k ≡ keyword.Aggregate → ⊥) → (k ≡ keyword.Where → ⊥) → (k ≡ keyword.Group → ⊥) → (k ≡ keyword.Order → ⊥) → (k ≡ keyword.Format → ⊥)
     → clause_behind clauses here k ts ≡ Err (refused ExpectedClause here)

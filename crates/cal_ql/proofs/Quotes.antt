@@ -40,10 +40,6 @@ unquoted-char rest c other =
       | inr high ↦ unquoted-run (encode c) rest (high_run (encode c) (high_bytes c high))
     ]
 
--- a backslash is kept for the character behind it
-pub unquoted-backslash : (rest : List ℕ) → unquoted (encode 92 ++ rest) ≡ unquoted (unread true rest)
-unquoted-backslash rest = rw (encode_ascii 92 (omega arith)) refl
-
 taken_high : (bytes rest : List ℕ) → 0 < length bytes → AllByRecursion (λ byte. 128 ≤ byte) bytes → unquoted (92 ∷ (bytes ++ rest)) ≡ bytes ++ unquoted rest
 taken_high [] rest some high = absurd (omega arith)
 taken_high (byte ∷ bytes) rest some high = ap (λ (xs : List ℕ). byte ∷ xs) (unquoted-run bytes rest (high_run bytes high.1))

@@ -157,9 +157,6 @@ name_read name =
 
 -- ---- numbers
 
-AllWord : List ℕ → Type 0
-AllWord = AllByRecursion (λ byte. is_word_byte byte ≡ true)
-
 word_len : (text rest : List ℕ) → AllByRecursion (λ byte. is_word_byte byte ≡ true) text
     → prefix_len is_word_byte (text ++ 32 ∷ rest) ≡ length text
 word_len [] rest all = refl

@@ -20,19 +20,6 @@ stops_reading read.ReadFault limit input stops = stops
 stops_reading read.TooLong limit input stops = stops
 stops_reading read.OutOfMemory limit input stops = stops
 
--- memory ran out when all had been read
-pub stops_later : (limit : ℕ) (input : Change) (bytes : List ℕ) → ReadsAll limit input bytes
-    → StopsRows end.OutOfMemory limit input
-stops_later limit input bytes reads = (bytes, reads.within, reads.taken)
-
-pub stops_at_end : (e : ends.RowsEnd) (limit : ℕ) (input : Change) (bytes : List ℕ)
-    → ReadsAll limit input bytes → FallsAt e bytes → StopsRows e limit input
-stops_at_end (end.BadLine line kind) limit input bytes reads falls =
-    record { bytes = bytes; reads = reads; fault = falls }
-stops_at_end end.ReadFault limit input bytes reads falls = absurd falls
-stops_at_end end.TooLong limit input bytes reads falls = absurd falls
-stops_at_end end.OutOfMemory limit input bytes reads falls = stops_later limit input bytes reads
-
 pub falls_as_read : (e : streams.StreamEnd) (bytes : List ℕ) → IsRefusalOf (lines_of bytes) e
     → FallsAt (end_of_stream e) bytes
 falls_as_read (stream.BadLine line kind) bytes refused = refused

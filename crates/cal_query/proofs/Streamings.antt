@@ -58,16 +58,6 @@ module _ {T : Type 0} (has_taken : T → Tree → List Rec → Type 0) where
       λ more. falls_on (front ++ piece) more bad.line bad.kind (faulty front stands.0)
   falls_now (Some fault) old bad front piece none faulty stands = absurd cc
 
-pub ready_on : {T : Type 0} (fault : Option BadLine) (new : Streaming T)
-    → is_some fault ≡ false → IsReady new.reader new.context → MayBeFed fault new
-ready_on None new none ready = ready
-ready_on (Some fault) new none ready = tt
-
-pub ready_first : {T : Type 0} (fault : Option BadLine) (s : Streaming T)
-    → is_some fault ≡ false → MayBeFed fault s → IsReady s.reader s.context
-ready_first None s none may = may
-ready_first (Some fault) s none may = absurd cc
-
 module _ {T : Type 0} (has_taken : T → Tree → List Rec → Type 0) where
   -- at the end a fault is that of the bytes
   pub falls_last : (fault : Option BadLine) (s : Streaming T) (bad : BadLine) (bytes : List ℕ)

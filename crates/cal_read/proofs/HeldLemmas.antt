@@ -70,15 +70,6 @@ module _ {old new : Tree} (grows : Grows old new) where
   pub AreHeld-Grows : (nodes : Nodes) (named : List Named) → AreHeld old nodes named → AreHeld new nodes named
   AreHeld-Grows nodes named h = λ id. IsHeldIf-Grows (held_at nodes id) (node_at named id) (h id)
 
-  pub IsToBe-Grows : (ids : NodeIds) (site : sites.Site) (v : Variant) (n : Node) → site.attribute.0 < length old.attributes → IsToBe old ids site v n → IsToBe new ids site v n
-  IsToBe-Grows ids site v n within h = record {
-    above = IsAt-Grows site.above n.above h.above;
-    attribute = h.attribute ∙ sym (attribute_at-Grows grows site.attribute within);
-    id = h.id;
-    value = h.value;
-    parent = h.parent;
-  }
-
 -- ---- one more node
 
 pub AreHeld-insert : (t : Tree) (old new : Nodes) (named : List Named) (id : ℕ) (h : Held) (n : Node) → AreHeld t old named → IsHeld t h n
@@ -149,14 +140,6 @@ module _ (t child grown : Tree) (ids : NodeIds) (site : sites.Site) (v : Variant
 
       named : (if ids.attribute == 8 then attribute_named (text_in v) site.above.kind site.above.props else None) ≡ attribute_of n
       named = λ j. if (sym be.id j) == 8 then attribute_named (text_in (sym be.value j)) (be.above.kind j) (be.above.props j) else None
-
--- ---- the value of a node that is held
-
-pub held_value : (t : Tree) (h : Held) (n : Node) (l : Link) → IsHeld t h n → IsLinked t l h.place.node → value_at t l.value ≡ n.own.entry.value
-held_value t h n l is linked =
-    let same : path_at t l.parent ++ record { attr = attribute_at t l.attribute; value = value_at t l.value } ∷ [] ≡ map (λ s. s.entry) n.above ++ n.own.entry ∷ [] =
-    sym linked.child.path ∙ is.at.path ∙ map-append (λ s. s.entry) n.above (n.own ∷ []) in
-    ap (λ e. e.value) (same_from_push (path_at t l.parent) (map (λ s. s.entry) n.above) (record { attr = attribute_at t l.attribute; value = value_at t l.value }) n.own.entry same).1
 
 -- ---- an attribute that was added
 

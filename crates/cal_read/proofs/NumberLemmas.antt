@@ -55,37 +55,10 @@ number_is (c ∷ cs) n some digits is = grind (arith, digits, is)
 
 -- ---- as values
 
-no_numeral : (b : Bool) (v n : ℕ) → (if b && false then Some v else None) ≡ Some n → ⊥
-no_numeral true v n e = cc
-no_numeral false v n e = cc
-
-no_minus : (c : ℕ) (cs : List ℕ) (n : ℕ) → 45 ≡ c → number_of 10 (c ∷ cs) ≡ Some n → ⊥
-no_minus c cs n minus is =
-    no_numeral (not (length (45 ∷ cs) == 0)) (digits_value 10 (45 ∷ cs)) n (subst (λ b. number_of 10 (b ∷ cs) ≡ Some n) (sym minus) is)
-
-int_unsigned : (text : List ℕ) (n : ℕ) → number_of 10 text ≡ Some n → n ≤ 2000000000000000000 → int_of text ≡ Some (pos n)
-int_unsigned [] n is small = cc
-int_unsigned (c ∷ cs) n is small =
-    let unsigned : eqb 45 c ≡ false = ne_eqb 45 c (λ minus. no_minus c cs n minus is) in
-    let fits : at_most (2 ^ 86) (number_of 10 (c ∷ cs)) ≡ Some n = ap (at_most (2 ^ 86)) is ∙ at_most-fits (2 ^ 86) n (omega arith) in
-    cond-false (starts_with nat_eq (c ∷ cs) (codes "-")) _ _ (ap (λ b. b && true) unsigned) ∙ ap (option_map pos) fits
-
 uint_short : (text : List ℕ) (n : ℕ) → number_of 10 text ≡ Some n → n ≤ 2000000000000000000 → uint_of text ≡ Some n
 uint_short text n is small = ap (at_most 18446744073709551615) is ∙ at_most-fits 18446744073709551615 n (omega arith)
-
-pub int_value : (line : List ℕ) (start end n : ℕ) → IsNumberAt line start end n → IsValueAt kind.Int line start end (value.Int (pos n))
-int_value line start end n h = record { plain = h.plain; is = ap (option_map value.Int) (int_unsigned (between start end line) n h.is h.small) }
-
-pub uint_value : (line : List ℕ) (start end n : ℕ) → IsNumberAt line start end n → IsValueAt kind.Uint line start end (value.Uint n)
-uint_value line start end n h = record { plain = h.plain; is = ap (option_map value.Uint) (uint_short (between start end line) n h.is h.small) }
 
 -- ---- as ids
 
 pub id_is : (line : List ℕ) (start end n : ℕ) → IsNumberAt line start end n → id_of (between start end line) ≡ Ok n
 id_is line start end n h = ap (or_fault fault.BadNumber) (uint_short (between start end line) n h.is h.small)
-
-pub id_whole : (text : List ℕ) (end n : ℕ) → IsNumberAt text 0 end n → end ≡ length text → id_of text ≡ Ok n
-id_whole text end n h all = ap id_of (sym (take_all text end all) ∙ sym (between_from_start text end)) ∙ id_is text 0 end n h
-  where
-    take_all : (text : List ℕ) (end : ℕ) → end ≡ length text → take end text ≡ text
-    take_all text end all = grind (arith, common_steps)

@@ -50,19 +50,6 @@ module _ (r : StreamReader) (t : Tree) (bytes : List ℕ) (h : HasRead r t bytes
   pub rows_read : rows_before bytes ≡ h.stream.rows
   rows_read = ap rows_of_lines (cut-ended bytes h.lines r.begun.items h.cut) ∙ ap rows_made h.made
 
-  -- more of the line that has begun
-  pub read_begun : (new : StreamReader) (part : List ℕ) → HasNoNewline part → new.refused ≡ r.refused → new.lines ≡ r.lines → new.stream ≡ r.stream
-      → new.begun.items ≡ r.begun.items ++ part → HasRead new t (bytes ++ part)
-  read_begun new part none refused lines stream begun = record {
-    sound = refused ∙ h.sound;
-    lines = h.lines;
-    cut = subst (IsCut (bytes ++ part) h.lines) (sym begun) (cut-begin bytes h.lines r.begun.items h.cut part none);
-    counted = lines ∙ h.counted;
-    stream = h.stream;
-    made = h.made;
-    stands = subst (λ s. Stands t s h.stream) (sym stream) h.stands;
-  }
-
   pub rows_begun : (part : List ℕ) → HasNoNewline part → rows_before (bytes ++ part) ≡ rows_before bytes
   rows_begun part none =
       ap rows_of_lines (cut-ended (bytes ++ part) h.lines (r.begun.items ++ part) (cut-begin bytes h.lines r.begun.items h.cut part none)
@@ -195,9 +182,6 @@ TakesUpTo-none had has a b same keeps = record {
 
 pub ready_read : (r : StreamReader) (t : Tree) (bytes : List ℕ) → HasRead r t bytes → IsReady r t
 ready_read r t bytes h = subst (λ o. IsReadyIf o r t) (sym h.sound) (bytes, h)
-
-pub ready_refused : (r : StreamReader) (t : Tree) (refusal : ends.StreamEnd) → r.refused ≡ Some refusal → IsReady r t
-ready_refused r t refusal is = subst (λ o. IsReadyIf o r t) (sym is) tt
 
 pub has_read : (r : StreamReader) (t : Tree) → IsReady r t → r.refused ≡ None → (bytes : List ℕ) × HasRead r t bytes
 has_read r t ready none = subst (λ o. IsReadyIf o r t) none ready

@@ -63,11 +63,6 @@ module _ (named : List Named) (refs ids : List ℕ) (texts : List (List ℕ)) wh
         filled t snapshot at within (Err end.OutOfMemory) h = tt
 
 module _ (named : List Named) (fields : List Field) where
-  pub uneven : length (values_of (codes "attr") fields) ≢ length (values_of (codes "data") fields) → record_of named fields ≡ Err kind.Uneven
-  uneven ne =
-      ap (λ b. if b
-      then (each id_of (values_of (codes "ref") fields) >>= (λ refs. each id_of (values_of (codes "attr") fields) >>= (λ columns. record_of_ids named refs columns (values_of (codes "data") fields))))
-      else Err kind.Uneven) (ne_eqb (length (values_of (codes "attr") fields)) (length (values_of (codes "data") fields)) ne)
 
   module _ (even : length (values_of (codes "attr") fields) ≡ length (values_of (codes "data") fields)) where
     evenly : record_of named fields
@@ -76,14 +71,6 @@ module _ (named : List Named) (fields : List Field) where
         ap (λ b. if b
         then (each id_of (values_of (codes "ref") fields) >>= (λ refs. each id_of (values_of (codes "attr") fields) >>= (λ columns. record_of_ids named refs columns (values_of (codes "data") fields))))
         else Err kind.Uneven) ((Decides-eqb (length (values_of (codes "attr") fields)) (length (values_of (codes "data") fields))).1 even)
-
-    pub ref_fault : (k : StreamKind) → each id_of (values_of (codes "ref") fields) ≡ Err k → record_of named fields ≡ Err k
-    ref_fault k e = evenly ∙ ap (λ o. o >>= (λ refs. each id_of (values_of (codes "attr") fields) >>= (λ columns. record_of_ids named refs columns (values_of (codes "data") fields)))) e
-
-    pub attr_fault : (refs : List ℕ) (k : StreamKind) → each id_of (values_of (codes "ref") fields) ≡ Ok refs → each id_of (values_of (codes "attr") fields) ≡ Err k → record_of named fields ≡ Err k
-    attr_fault refs k is e =
-        evenly ∙ ap (λ o. o >>= (λ rs. each id_of (values_of (codes "attr") fields) >>= (λ columns. record_of_ids named rs columns (values_of (codes "data") fields)))) is
-        ∙ ap (λ o. o >>= (λ columns. record_of_ids named refs columns (values_of (codes "data") fields))) e
 
     pub by_ids : (refs ids : List ℕ) → each id_of (values_of (codes "ref") fields) ≡ Ok refs → each id_of (values_of (codes "attr") fields) ≡ Ok ids
         → record_of named fields ≡ record_of_ids named refs ids (values_of (codes "data") fields)

@@ -51,9 +51,6 @@ module _ (t : Tree) (c : Nodes) (named : List Named) (are : AreHeld t c named) w
       let it = if_held t (held_at c id) (node_at named id) h (are id) (sym is) in
       (it.0, known_some named id it.0 it.1, it.2)
 
-  pub known_not : (id : ℕ) → None ≡ held_at c id → known named id ≡ Err kind.UnknownNode
-  known_not id is = known_none named id (if_none t (held_at c id) (node_at named id) (are id) (sym is))
-
   module _ (ids : NodeIds) (h : Held) (is : Some h ≡ held_at c ids.attribute) where
     joins : (n : Node) → known named ids.attribute ≡ Ok n → site_of named ids
         ≡ (if_there (known named) ids.parent >>= (λ p. as_attribute n >>= (λ a. Ok (record { attribute = a; above = steps_down p }))))
@@ -69,13 +66,6 @@ module _ (t : Tree) (c : Nodes) (named : List Named) (are : AreHeld t c named) w
               ∙ ap (λ r. r >>= (λ b. Ok (record { attribute = b; above = steps_down p }))) a.1,
           record { known = a.0; attribute = refl; above = at },
         )
-
-    pub site_no_attribute : (p : Option Node) → h.number ≡ None → if_there (known named) ids.parent ≡ Ok p → site_of named ids ≡ Err kind.NotAttribute
-    site_no_attribute p has there =
-        let it = known_held ids.attribute h is in
-        joins it.0 it.1 ∙ ap (λ r. r >>= (λ q. as_attribute it.0 >>= (λ b. Ok (record { attribute = b; above = steps_down q })))) there
-        ∙ ap (λ r. r >>= (λ b. Ok (record { attribute = b; above = steps_down p })))
-        (attribute_is_none t (attribute_of it.0) (subst (λ o. IsNumberOf t o (attribute_of it.0)) has it.2.number))
 
   -- an id that is there already, with the same content
   pub put_same : (ids : NodeIds) (v : Variant) (old : Held) (n : Node) → Some old ≡ held_at c ids.id → n.own.attribute ≡ ids.attribute → n.own.entry.value ≡ v → n.parent ≡ ids.parent

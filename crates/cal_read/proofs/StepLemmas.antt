@@ -22,16 +22,6 @@ pub refusal_passes : {A B C D : Type 0} (P : A → B → Type 0) (Q : C → D �
     → (r : Result C ends.LineEnd) → IsErr r × IsErrAnd r (λ y. y ≡ e) → AnswersFor {A = C} Q r other
 refusal_passes {C = C} P Q e one other falls is r h = subst (λ x. AnswersFor Q x other) (sym (passed e r h)) (same_refusal {C = C} P Q e one other falls is)
 
--- of a step that answers the very thing
-pub answer_passes : {A C D : Type 0} (Q : C → D → Type 0) (e : ends.LineEnd) (one : Result A StreamKind) (other : Result D StreamKind)
-    → ((k : StreamKind) → one ≡ Err k → other ≡ Err k) → Answers {A = A} (Err e) one
-    → (r : Result C ends.LineEnd) → IsErr r × IsErrAnd r (λ y. y ≡ e) → AnswersFor {A = C} Q r other
-answer_passes {A} {C} Q e one other falls is r h = subst (λ x. AnswersFor Q x other) (sym (passed e r h)) (by e is)
-  where
-    by : (f : ends.LineEnd) → Answers {A = A} (Err f) one → AnswersFor {A = C} Q (Err f) other
-    by (end.Bad k) g = falls k g
-    by end.OutOfMemory g = tt
-
 -- a refusal of this kind
 pub bad_refusal : {A B : Type 0} (P : A → B → Type 0) (e : ends.LineEnd) (k : StreamKind) (given : Result B StreamKind) → e ≡ end.Bad k → AnswersFor {A = A} P (Err e) given → given ≡ Err k
 bad_refusal {A} P e k given is h = subst (λ x. AnswersFor {A = A} P (Err x) given) is h

@@ -37,14 +37,8 @@ module _ (s : streams.Stream) (fields : List Field) where
   pub row_made : (r : Rec) → record_of s.nodes fields ≡ Ok r → step_by_sort s fields OfRow ≡ Ok (record s { rows = s.rows ++ r ∷ [] })
   row_made r e = ap (λ o. o >>= (λ row. Ok (record s { rows = s.rows ++ row ∷ [] }))) e
 
-  pub row_faulty : (k : StreamKind) → record_of s.nodes fields ≡ Err k → step_by_sort s fields OfRow ≡ Err k
-  row_faulty k e = ap (λ o. o >>= (λ row. Ok (record s { rows = s.rows ++ row ∷ [] }))) e
-
   pub globals_made : (r : Rec) → record_of s.nodes fields ≡ Ok r → step_by_sort s fields OfGlobals ≡ Ok (record s { globals = with_record s.globals r })
   globals_made r e = ap (λ o. o >>= (λ more. Ok (record s { globals = with_record s.globals more }))) e
-
-  pub globals_faulty : (k : StreamKind) → record_of s.nodes fields ≡ Err k → step_by_sort s fields OfGlobals ≡ Err k
-  globals_faulty k e = ap (λ o. o >>= (λ more. Ok (record s { globals = with_record s.globals more }))) e
 
   pub nodes_made : (nodes : List Named) → node_step s.nodes fields ≡ Ok nodes → step_by_sort s fields OfNode ≡ Ok (record s { nodes = nodes })
   nodes_made nodes e = ap (λ o. o >>= (λ more. Ok (record s { nodes = more }))) e
@@ -57,21 +51,10 @@ module _ (s : streams.Stream) (fields : List Field) where
       ap (λ b. if b then Err kind.BadField else (sort_of fields >>= (λ o. step_by_sort s fields o))) once
       ∙ ap (λ o. o >>= (λ p. step_by_sort s fields p)) e
 
-  pub fields_unsorted : (k : StreamKind) → repeats_key fields ≡ false → sort_of fields ≡ Err k → step_by_fields s fields ≡ Err k
-  fields_unsorted k once e =
-      ap (λ b. if b then Err kind.BadField else (sort_of fields >>= (λ o. step_by_sort s fields o))) once
-      ∙ ap (λ o. o >>= (λ p. step_by_sort s fields p)) e
-
-  pub fields_repeat : repeats_key fields ≡ true → step_by_fields s fields ≡ Err kind.BadField
-  fields_repeat twice = ap (λ b. if b then Err kind.BadField else (sort_of fields >>= (λ o. step_by_sort s fields o))) twice
-
 -- ---- a line
 
 pub list_made : (s : streams.Stream) (line : List ℕ) (fields : List Field) → fields_of line ≡ Some fields → step_by_list s line ≡ step_by_fields s fields
 list_made s line fields e = ap (λ o. or_fault kind.BadField o >>= (λ f. step_by_fields s f)) e
-
-pub list_faulty : (s : streams.Stream) (line : List ℕ) → fields_of line ≡ None → step_by_list s line ≡ Err kind.BadField
-list_faulty s line e = ap (λ o. or_fault kind.BadField o >>= (λ f. step_by_fields s f)) e
 
 pub line_text : (s : streams.Stream) (line : List ℕ) → IsUtf8 line → line_step s line ≡ step_by_text s line
 line_text s line is = ap (λ b. if not b then Err kind.NotText else step_by_text s line) (is_utf8-from_IsUtf8 line is)
@@ -139,14 +122,6 @@ pub node_line_taken : (t u : Tree) → Grows t u → (old new : Stream) (had has
 node_line_taken t u grows old new had has s fields stands same keeps once sorted r h =
     subst (λ (o : Result streams.Stream StreamKind). AnswersFor (λ _. TakesLine u new had has s) r o) (sym (fields_sorted s fields OfNode once sorted))
     (nodes_taken t u grows old new had has s fields stands same keeps r h)
-
-pub globals_taken : (t : Tree) (new : Stream) (had has : List Rec → Type 0) (s : streams.Stream) (fields : List Field)
-    → ((rs : List Rec) → had rs → has rs) → (r : Result (Unit {0}) ends.LineEnd)
-    → AnswersFor (λ _ after. Stands t new after × (after.rows ≡ s.rows)) r (step_by_sort s fields OfGlobals)
-    → AnswersFor (λ _. TakesLine t new had has s) r (step_by_sort s fields OfGlobals)
-globals_taken t new had has s fields keeps (Ok x) h = (h.0, h.1, record { stands = h.2.0; taken = TakesUpTo-none had has s.rows h.0.rows h.2.1 keeps })
-globals_taken t new had has s fields keeps (Err (end.Bad k)) h = h
-globals_taken t new had has s fields keeps (Err end.OutOfMemory) h = tt
 
 pub blank_taken : (t : Tree) (held : Stream) (had : List Rec → Type 0) (s : streams.Stream) (line : List ℕ) → Stands t held s → length line ≡ 0
     → (x : streams.Stream) × (step_by_text s line ≡ Ok x) × TakesLine t held had had s x

@@ -19,19 +19,12 @@ use Rattle.cal_read.specs.declared.nodes.Nodes.{Nodes}
 use Rattle.cal_read.proofs.ColumnLemmas.{attribute_is, ends_push, known_some}
 use Rattle.cal_read.proofs.EachLemmas.{each-push}
 use Rattle.cal_read.proofs.HeldLemmas.{if_held}
-use Rattle.cal_read.proofs.UsualLemmas.{ids_more, ids_none, some_values}
+use Rattle.cal_read.proofs.UsualLemmas.{ids_more, some_values}
 
 -- ---- ids of nodes
 
 no_ends : (nodes : Nodes) (ends : List NodeNumber) → ends ≡ [] → EndsAre nodes [] ends
 no_ends nodes ends none = λ t named are. record { found = []; known = refl; are = rw none (record { below = All-nil (IsBelowRoot t); paths = refl }) }
-
-pub ends_none : (nodes : Nodes) (line : List ℕ) (start : ℕ) (ends : List NodeNumber) → start ≤ length line → ends ≡ [] → ReadsEnds nodes line start start ends
-ends_none nodes line start ends within none = record {
-  ids = [];
-  read = ids_none line start [] within refl;
-  are = no_ends nodes ends none;
-}
 
 module _ (nodes : Nodes) (line : List ℕ) (start place end id : ℕ) where
   pub ends_more : (ends new : List NodeNumber) (node : NodeNumber) → ReadsEnds nodes line start place ends → place < length line → get_or line place 0 ≡ 61 → IsPlain line (place + 1) end

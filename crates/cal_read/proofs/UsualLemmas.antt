@@ -87,9 +87,6 @@ some_values line start end texts within are apart none =
 
 -- ---- ids
 
-pub ids_none : (line : List ℕ) (start : ℕ) (ids : List ℕ) → start ≤ length line → ids ≡ [] → ReadsIds line start start ids
-ids_none line start ids within none = record { texts = []; values = values_none line start within; read = ap Ok (sym none) }
-
 pub ids_more : (line : List ℕ) (start place end : ℕ) (ids new : List ℕ) (id : ℕ) → ReadsIds line start place ids → place < length line → get_or line place 0 ≡ 61 → IsPlain line (place + 1) end
     → id_of (between (place + 1) end line) ≡ Ok id → new ≡ ids ++ id ∷ [] → ReadsIds line start end new
 ids_more line start place end ids new id so_far within sign plain is items = record {

@@ -37,51 +37,6 @@ taken_path-alike t a b named node = taken-alike a b (path_at t a.node) named ∙
 pub path_at-root : (t : Tree) → IsContext t → (n : NodeNumber) → n.0 ≡ 0 → path_at t n ≡ []
 path_at-root t is n root = ap (λ (k : ℕ). slice_index_or t.paths k []) root ∙ root_path is
 
--- cells of no row
-pub stands-start : (t : Tree) (s : ShownRow) → IsContext t → KnowsAttributes t s → IsTrail s.cells [] → s.node.0 ≡ 0 → s.depth ≡ 0 → StandsIn t s
-stands-start t s is knows trail root none =
-    let empty = path_at-root t is s.node root in
-    record {
-      knows = knows;
-      within = omega (arith, root, root_within is);
-      more = [];
-      trail = subst (λ (path : List Entry). IsTrail s.cells (taken s path ++ [])) (sym empty) trail;
-      depth = none ∙ ap (λ (path : List Entry). length (taken s path)) (sym empty);
-    }
-
--- cells that have given up all, and cells that have given up all but the path of their node
-pub stands-root : (t : Tree) (s : ShownRow) → IsContext t → KnowsAttributes t s → IsTrail s.cells [] → s.node.0 ≡ 0 → s.depth ≡ 0 → Shows s.hierarchy [] → StandsAt t s
-stands-root t s is knows trail root none shows =
-    let empty = path_at-root t is s.node root in
-    record {
-      knows = knows;
-      within = omega (arith, root, root_within is);
-      trail = subst (λ (path : List Entry). IsTrail s.cells (taken s path)) (sym empty) trail;
-      depth = none ∙ ap (λ (path : List Entry). length (taken s path)) (sym empty);
-      root = λ shown. root;
-      hierarchy = shows;
-    }
-
-pub stands-kept : (t : Tree) (s new : ShownRow) → StandsIn t s → IsAlike s new → new.node ≡ s.node → new.depth ≡ s.depth
-    → ((entries : List Entry) → IsTrail s.cells entries → IsTrail new.cells (take s.depth entries)) → s.shows_path ≡ false → Shows new.hierarchy [] → StandsAt t new
-stands-kept t s new stands alike node depth kept hidden shows = record {
-  knows = rw (alike.names, alike.attributes) stands.knows;
-  within = rw node stands.within;
-  trail = subst (IsTrail new.cells) same has;
-  depth = depth ∙ stands.depth ∙ ap length same;
-  root = λ shown. (let told : true ≡ false = sym shown ∙ alike.shows_path ∙ hidden in cc);
-  hierarchy = shows;
-}
-  where
-    path : List Entry
-    path = taken s (path_at t s.node)
-
-    has : IsTrail new.cells path
-    has = subst (IsTrail new.cells) (ap (λ (k : ℕ). take k (path ++ stands.more)) stands.depth ∙ take-append_seam path stands.more) (kept (path ++ stands.more) stands.trail)
-
-    same : path ≡ taken new (path_at t new.node)
-    same = taken_path-alike t s new alike.names node
-
 -- cells that have gone on to another node
 pub filled-go : (t : Tree) (s up down : ShownRow) (met to : NodeNumber) (links : List Link) (depth : ℕ) → IsContext t → StandsAt t s
     → names up.cells ≡ names s.cells → up.attributes.items ≡ s.attributes.items → up.shows_path ≡ s.shows_path → up.hierarchy ≡ s.hierarchy
@@ -151,12 +106,6 @@ filled-more t a b xs us ys vs filled adds = record {
 
     both : taken a xs ++ taken a ys ≡ taken b (xs ++ ys)
     both = sym (filter-append (λ (e : Entry). is_known (names a.cells) e.attr.name) xs ys) ∙ taken-alike a b (xs ++ ys) adds.alike.names
-
--- the same of paths
-pub filled-path : (t : Tree) (a b : ShownRow) (xs ys zs : List Entry) → IsFilledWith t a xs → AddsPath t a b ys → xs ++ ys ≡ zs → IsFilledWith t b zs
-filled-path t a b xs ys zs filled adds is =
-    subst (IsFilledWith t b) is
-    (subst (IsFilled t b (xs ++ ys)) (sym (filter-append (λ (e : Entry). is_of_hierarchy e.attr) xs ys)) (filled-more t a b xs (nested xs) ys (nested ys) filled adds))
 
 -- filled cells show a row
 pub filled-shows : (t : Tree) (old new : ShownRow) (columns : List Column) (row : Rec) → IsFilled t new (flat row) (hierarchy row) → IsAlike old new → IsFor old columns → ShowsRow new columns row

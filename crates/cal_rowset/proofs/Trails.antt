@@ -141,17 +141,6 @@ GoesBack-new names new steps cells more used back learned =
     subst (λ (s : List Step). GoesBack new s (filling more used [])) (sym (GoesBack-start names steps cells used back))
     (learned (GoesBack-holds names steps (filling cells used []) back), refl)
 
--- a trail of no name
-pub HoldsIn-none : HoldsIn [] [] [] []
-HoldsIn-none = record {
-  counted = refl;
-  apart = λ i j d l m same. absurd (omega (arith, l));
-  shows = λ place l. absurd (omega (arith, l));
-  used_names = refl;
-  within = All-nil (λ place. place < 0);
-  idle = λ place l. absurd (omega (arith, l));
-}
-
 -- a trail that has taken an entry
 module _ (old new : Cells) (es : List Entry) (e : Entry) (place : ℕ) (trail : IsTrail old es) (at : slice_get old.names place ≡ Some e.attr.name) where
   here : place < length old.cells.items

@@ -78,14 +78,6 @@ AreLeft-behind kept mark next text texts left place start =
       utf8 = All-rest text texts left.utf8;
     }
 
--- the part between two places
-pub part_between : (front part rest : List ℕ) (start end : ℕ) → start ≡ length front → end ≡ length front + length part → take (end - start) (drop start (front ++ (part ++ rest))) ≡ part
-part_between front part rest start end is_start is_end =
-    let counted : end - start ≡ length part = omega (arith, is_start, is_end) in
-    ap₂ (λ (n m : ℕ). take n (drop m (front ++ (part ++ rest)))) counted is_start
-    ∙ ap (take (length part)) (drop-append_seam front (part ++ rest))
-    ∙ take-append_seam part rest
-
 pub boundary_behind : (text front part rest : List ℕ) (end : ℕ) → text ≡ front ++ (part ++ rest) → end ≡ length front + length part → IsUtf8 rest → IsCharBoundary text end
 boundary_behind text front part rest end is counted utf8 =
     subst (λ (n : ℕ). IsCharBoundary text n) (length-append front part ∙ sym counted)

@@ -102,10 +102,6 @@ headers-more columns k column before line text within is so_far same =
     ∙ ap (λ (c : Column). map shown (take k columns ++ c ∷ [])) is
     ∙ ap (map shown) (sym (take_more columns k column within)))
 
--- the text of a row in a column
-pub row_line-at : (row : Rec) (columns : List Column) (k : ℕ) (text : List ℕ) → k < length columns → text ≡ cell_text row (nth_column columns k) → text ≡ get_or (row_line columns row) k text
-row_line-at row columns k text within is = is ∙ sym (get_or-map (cell_text row) columns k (record { header = []; name = [] }) text within)
-
 -- a column's texts are those at its place
 column_texts : (front rest : List Column) (column : Column) (rows : List Rec) (k : ℕ) → length front ≡ k
     → map (λ line. nth_text line k) (map (row_line (front ++ column ∷ rest)) rows) ≡ map (λ row. cell_text row column) rows
@@ -148,7 +144,3 @@ rows-more made columns rows k within =
 pub table_lines-some : (columns : List Column) (rows : List Rec) → length columns ≢ 0 → table_lines columns rows ≡ grid (map (is_right rows) columns) (header_line columns ∷ map (row_line columns) rows)
 table_lines-some [] rows some = absurd (some refl)
 table_lines-some (column ∷ columns) rows some = refl
-
-pub table_lines-none : (columns : List Column) (rows : List Rec) → length columns ≡ 0 → [] ≡ table_lines columns rows
-table_lines-none [] rows none = refl
-table_lines-none (column ∷ columns) rows none = absurd (omega (arith, none))

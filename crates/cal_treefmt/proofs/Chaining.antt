@@ -64,11 +64,3 @@ module _ (keys : List NodeNumber) where
     next_of k from l (inr h) =
         subst (IsNext keys (suc k) (key_at keys k)) (sym (get_or-set_other next place k (get_or first key None) None (λ e. h (sym e))))
         (chains.next k (omega (arith, from, h)) l)
-
-    pub AreChains-more : AreChains keys place count (set first key (Some place)) (set next place (get_or first key None))
-    AreChains-more = record {
-      keys_counted = length-set first key (Some place) ∙ chains.keys_counted;
-      places_counted = length-set next place (get_or first key None) ∙ chains.places_counted;
-      first = λ k l. first_of k l (same_or_other key k);
-      next = λ k from l. next_of k from l (same_or_other place k);
-    }

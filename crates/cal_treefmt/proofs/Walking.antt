@@ -215,9 +215,6 @@ Walks-path a b c from mid to paths i path within is h g =
     ∙ ap joined (ap (λ p. take i paths ++ p ∷ []) is ∙ sym (take_more paths i path within))))
     (Walks-trans a b c from mid to (filter nested (joined (take i paths))) (filter nested path) h g)
 
-pub Walks-nested : (old new : Tree) (from to : NodeNumber) (e : Entry) → is_of_hierarchy e.attr ≡ true → Walks old new from (e ∷ []) to → Walks old new from (filter nested (e ∷ [])) to
-Walks-nested old new from to e is walks = subst (λ (es : List Entry). Walks old new from es to) (ap (λ b. if b then e ∷ [] else []) (sym is)) walks
-
 pub Walks-other : (t : Tree) (from : NodeNumber) (e : Entry) → from.0 < length t.paths → is_of_hierarchy e.attr ≡ false → Walks t t from (filter nested (e ∷ [])) from
 Walks-other t from e within is = subst (λ (es : List Entry). Walks t t from es from) (ap (λ b. if b then e ∷ [] else []) (sym is)) (Walks-none t from within)
 

@@ -139,15 +139,6 @@ known-root known from n way is = by (from.0 == 0) refl
 
 -- ---- climbing
 
--- a way is known, or there is none to go
-pub up-known : (o : Option NodeNumber) (P : Type 0) → is_some o ≡ true → MatchOption o P (λ way. ⊤)
-up-known None P e = cc
-up-known (Some way) P e = tt
-
-pub up-root : (o : Option NodeNumber) (P : Type 0) → P → MatchOption o P (λ way. ⊤)
-up-root None P p = p
-up-root (Some way) P p = tt
-
 pub LeadsTo-none : (t : Tree) (n : NodeNumber) (left : List NodeNumber) → left ≡ [] → LeadsTo t n left n
 LeadsTo-none t n left none = subst (λ (ns : List NodeNumber). LeadsTo t n ns n) (sym none) refl
 
@@ -161,11 +152,6 @@ LeadsTo-first t from n to left old is leads =
     subst (λ (ns : List NodeNumber). Descends t from ns to) (reverse-append left (n ∷ []))
     (subst (λ (ns : List NodeNumber). LeadsTo t from ns to) is leads)
 
-pub IsAbove-linked : (t : Tree) (link : Link) (n above : NodeNumber) → above ≡ link.parent → IsLinked t link n → IsAbove t above n
-IsAbove-linked t link n above is linked = subst (λ (m : NodeNumber). IsAbove t m n) (sym is) (record {
-  earlier = linked.child.later;
-  within = linked.child.within;
-  path = (record { attr = attribute_at t link.attribute; value = value_at t link.value }, linked.child.path);
 })
 
 -- ---- descending
@@ -197,20 +183,6 @@ descending-start t nodes w from up to at context within up_within ways left is_u
 -- the node to which the last entry of a node leads
 abbrev pub LeadsOwn : Tree → Tree → Tree → NodeNumber → NodeNumber → NodeNumber → Type 0
 LeadsOwn t old new n from to = (path : List Entry) (e : Entry) → path_at t n ≡ path ++ e ∷ [] → Walks old new from (filter nested (e ∷ [])) to
-
-pub own-linked : (t old new : Tree) (link : Link) (n from to : NodeNumber) → IsLinked t link n
-    → Walks old new from (filter nested (record { attr = attribute_at t link.attribute; value = value_at t link.value } ∷ [])) to → LeadsOwn t old new n from to
-own-linked t old new link n from to linked walks = λ path e is.
-    let entry : Entry = record { attr = attribute_at t link.attribute; value = value_at t link.value } in
-    let same = same_from_push (path_at t link.parent) path entry e (sym linked.child.path ∙ is) in
-    subst (λ (f : Entry). Walks old new from (filter nested (f ∷ [])) to) same.1 walks
-
-pub own-root : (t nodes : Tree) (n from : NodeNumber) → path_at t n ≡ [] → LeadsOwn t nodes nodes n from from
-own-root t nodes n from top = λ path e is. absurd (no_end path e (sym top ∙ is))
-  where
-    no_end : (path : List Entry) (e : Entry) → [] ≡ path ++ e ∷ [] → ⊥
-    no_end [] e h = cc
-    no_end (f ∷ path) e h = cc
 
 module _ (t first nodes new : Tree) (w learned : Ways) (from to at next after : NodeNumber) (left : List NodeNumber) (context : IsContext first)
     (descending : IsDescending t first nodes w from to at) (popped : w.left.items ≡ left ++ next ∷ []) where

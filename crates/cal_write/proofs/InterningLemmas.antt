@@ -73,11 +73,6 @@ reached-more old new path i e up n within is reached step = record {
 pub no-paths : (old : Tree) (nodes : List NodeNumber) → AddsPaths old old [] nodes nodes
 no-paths old nodes done h = subst (λ ps. AreNodesOf old ps nodes) (sym (append-nil done)) h
 
-pub path-left-out : (old : Tree) (path : List Entry) (nodes : List NodeNumber) → length path ≡ 0 → AddsPaths old old (path ∷ []) nodes nodes
-path-left-out old [] nodes none done h =
-    record { within = h.within; are = h.are ∙ sym (filter-append has_entry done ([] ∷ []) ∙ append-nil (filter has_entry done)) }
-path-left-out old (e ∷ path) nodes none done h = absurd (omega (arith, none))
-
 pub path-put : (old new : Tree) (path : List Entry) (nodes : List NodeNumber) (n : NodeNumber) → Grows old new → 0 < length path → IsReached new path n
     → AddsPaths old new (path ∷ []) nodes (nodes ++ n ∷ [])
 path-put old new [] nodes n grows some reached done h = absurd (omega (arith, some))

@@ -153,15 +153,6 @@ node-known t w n id h = record {
     stays : (s : Written) → IsKept t w s → after s (needed_below [] (path_at t n)) ≡ s
     stays s k = after-known s (needed_below [] (path_at t n)) (closed-there s.nodes k.stream.closed (path_at t n) (k.nodes n id h).at.there)
 
-pub node-root : (t : Tree) (w : NodeWriter) (n : NodeNumber) → path_at t n ≡ [] → NeedsNode t w w n None
-node-root t w n root = record {
-  kept = λ s k. subst (IsKept t w) (sym (stays s)) k;
-  at = λ s k. subst (λ (v : Written). IsParent v.nodes (path_at t n) None) (sym (stays s)) (subst (λ p. IsParent s.nodes p None) (sym root) (record { there = tt; is = refl }));
-}
-  where
-    stays : (s : Written) → after s (needed_below [] (path_at t n)) ≡ s
-    stays s = ap (λ p. after s (needed_below [] p)) root ∙ after-known s [] tt
-
 module _ (t : Tree) (context : IsContext t) (old mid new : NodeWriter) (l : Link) (n : NodeNumber) (parent : Option ℕ) (attribute id : ℕ) (linked : IsLinked t l n)
     (unknown : memo_at old.nodes n.0 ≡ None) (needs : NeedsAttribute t old mid l.attribute attribute) (same : mid.nodes ≡ old.nodes)
     (adds : AddsEntry mid.stream new.stream parent attribute (record { attr = attribute_at t l.attribute; value = value_at t l.value }) id)

@@ -109,20 +109,3 @@ globals-measured t context old new snap in_it some counts same rows had =
     let now = counts.bytes (nodes rows) had.kept in
     let whole = ap length text in
     measure_one new.so_far _ (same ∙ had.rows) (omega (arith, long, before, now, whole))
-
--- globals without one
-pub no-globals-measured : (t : Tree) → IsContext t → (m : Measurer) (snap : Snapshot)
-    → IsIn t snap → ((length snap.nodes.items == 0) && (length snap.imms.items == 0)) ≡ true
-    → MeasuresWith (HasMeasured m t) (meaning t snap) m.so_far
-no-globals-measured t context m snap in_it none rows had =
-    let g = meaning t snap in
-    let nothing : ((length (ends g) == 0) && (length g.imms == 0)) ≡ true
-    = (λ j. ends-length t context snap.nodes.items in_it.nodes j
-    && (length-map snap.imms.items (entry_of t) j == 0)) ∙ none in
-    let text : canonical_text (record { rows = rows; globals = g }) ≡ rows_text built_in rows =
-    ap (λ (b : Bool). rows_text built_in rows
-    ++ (if b then [] else record_text (codes "globals") (nodes rows) g)) nothing
-    ∙ append-nil (rows_text built_in rows) in
-    let before = had.bytes in
-    let whole = ap length text in
-    measure_one m.so_far _ had.rows (omega (arith, before, whole))
