@@ -198,7 +198,7 @@ top_closed b a o done is = by (o.attribute == a.number) refl
     by true e = eqb-true o.attribute a.number e
     by false e =
         let refused : reply.Mismatch o.attribute ≡ reply.Done =
-            sym (ap (λ t. if t then reply.Done else reply.Mismatch o.attribute) e) ∙ replied in
+        sym (ap (λ t. if t then reply.Done else reply.Mismatch o.attribute) e) ∙ replied in
         absurd cc
 
 -- and there is one
@@ -206,7 +206,7 @@ pub nothing_closed : (b : Blackboard Variant) (a : AttrRef) → reply_to b code.
     → last_at b a ≡ None → ⊥
 nothing_closed b a done is =
     let refused : reply.NotOpen ≡ reply.Done =
-        ap (λ t. end_reply t a.number) (sym (tops a.as_value is)) ∙ done in
+    ap (λ t. end_reply t a.number) (sym (tops a.as_value is)) ∙ done in
     cc
   where
     tops : (v : Bool)
