@@ -25,7 +25,7 @@ use Rattle.cal_journal.specs.declared.ends.BothEnd as ends
 use Rattle.cal_journal.specs.declared.ends.BothEnd.TheVariants as end
 use Rattle.cal_journal.specs.Reading.{State, begin_at, journal_of, line_after}
 use Rattle.cal_journal.specs.Both.{HasFaultBehind, HasScriptFault, IsFront, IsJournalRefusal, IsRefusalOf, MeansBoth, SaysJournalBehind, begins, end_at, script_length}
-use Rattle.cal_journal.proofs.Lines.{IsPart, part_on, part_falls, part_ends, part_begins, fault_in_front}
+use Rattle.cal_journal.proofs.Lines.{IsPart, part_on, part_falls, part_ends, fault_in_front}
 
 -- So many lines are read, and the rest has the others.
 pub record IsJournalRun (before : ℕ) (bytes : List ℕ) (pending : Pending) (rest : List ℕ) : Type 0 where

@@ -14,7 +14,7 @@ use Rattle.cal_once.specs.Steps.{WasEmpty}
 use Rattle.cal_once.specs.Puts.{Ask, Answers, AllHoldOthers, IsReached, MayOffer, MayPut, PassesOthers, Visits, ask_for, place_at}
 use Rattle.cal_once.proofs.Seen.{Saw_left, Saw_right, Saw_placed}
 use Rattle.cal_once.proofs.Regions.{arena_inside, size-slot_for}
-use Rattle.cal_once.proofs.Learning.{learns_then, learns_later, knows_later, other_later, parent_later}
+use Rattle.cal_once.proofs.Learning.{learns_then, knows_later, other_later, parent_later}
 
 -- each place is at some distance from a home
 distance_to : (shape : Shape) (home place : ℕ) → home < shape.slots → place < shape.slots → (distance : ℕ) × (distance < shape.slots) × (place ≡ probe shape home distance)

@@ -19,7 +19,7 @@ use Rattle.cal_read.specs.declared.nodes.Nodes.{Nodes}
 use Rattle.cal_read.proofs.ColumnLemmas.{attribute_is, ends_push, known_some}
 use Rattle.cal_read.proofs.EachLemmas.{each-push}
 use Rattle.cal_read.proofs.HeldLemmas.{if_held}
-use Rattle.cal_read.proofs.UsualLemmas.{ids_more, ids_none, some_values}
+use Rattle.cal_read.proofs.UsualLemmas.{ids_more, some_values}
 
 -- ---- ids of nodes
 

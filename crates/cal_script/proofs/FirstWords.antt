@@ -9,7 +9,7 @@ use Rattle.cal_value.specs.declared.attribute.Attribute.{Attribute}
 use Rattle.cal_script.specs.Names.{is_name, is_name_byte, is_reserved, is_attribute_name}
 use Rattle.cal_script.specs.Lines.{words_of, is_word, one_word, word_and_rest}
 use Rattle.cal_script.specs.Reader.{AreNamed}
-use Rattle.cal_script.proofs.Cuts.{HasNone, pieces_of_one, pieces_of_two, word_and_rest_of}
+use Rattle.cal_script.proofs.Cuts.{HasNone, pieces_of_one, word_and_rest_of}
 
 -- the parts of a name's test
 name_parts : (name : List ℕ) → is_name name ≡ true → (1 ≤ length name) × (list_all is_name_byte name ≡ true)
