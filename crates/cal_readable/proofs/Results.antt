@@ -132,26 +132,18 @@ pub results-readable : (script : Script) (runnable : IsRunnable script) (channel
     (rs : List Rec) → AllByRecursion (IsSeen script runnable) rs → length rs ≤ 1048576
     → (group : Rec) → AllByRecursion IsReadableEntry (results (channel_query channel) rs group)
 results-readable script runnable channel rs seen few group =
-    all-filter_map IsSmall IsReadableEntry entry_of entries (channel_query channel).aggs
-    (aggs-small script runnable names rs seen few group channel)
+    all-filter_map
+    (λ (agg : Agg). IsSmallResult (kernel_result (channel_query channel).group rs group agg))
+    IsReadableEntry
+    (λ (agg : Agg). option_map (λ n. result_entry agg.name (value_of_number n))
+    (kernel_result (channel_query channel).group rs group agg))
+    (λ agg. entries agg.name (kernel_result (channel_query channel).group rs group agg))
+    (channel_query channel).aggs
+    (aggs-small script runnable (channel_query channel).group rs seen few group channel)
   where
-    names : Option (List (List ℕ))
-    names = (channel_query channel).group
-
-    IsSmall : Agg → Type 0
-    IsSmall agg = IsSmallResult (kernel_result names rs group agg)
-
-    entry_of : Agg → Option Entry
-    entry_of agg = option_map (λ n. result_entry agg.name (value_of_number n))
-        (kernel_result names rs group agg)
-
-    entries : (agg : Agg) → IsSmall agg → (e : Entry) → entry_of agg ≡ Some e → IsReadableEntry e
-    entries agg small e = by (kernel_result names rs group agg) small
-      where
-        by : (o : Option Num) → IsSmallResult o
-            → option_map (λ n. result_entry agg.name (value_of_number n)) o ≡ Some e
-            → IsReadableEntry e
-        by None small is = absurd cc
-        by (Some n) small is =
-            let same : result_entry agg.name (value_of_number n) ≡ e = cc in
-            subst IsReadableEntry same (result-readable agg.name n small)
+    entries : (name : List ℕ) (o : Option Num) → IsSmallResult o → (e : Entry)
+        → option_map (λ n. result_entry name (value_of_number n)) o ≡ Some e → IsReadableEntry e
+    entries name None small e is = absurd cc
+    entries name (Some n) small e is =
+        let same : result_entry name (value_of_number n) ≡ e = cc in
+        subst IsReadableEntry same (result-readable name n small)
