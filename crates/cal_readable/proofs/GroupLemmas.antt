@@ -1,15 +1,12 @@
 -- The groups of the snapshots of a run can be read again: a name takes at most 256 entries of their
 -- paths.
 use Rattle.std.proofs.Common.{◌≡◌, ℕ, ◌+◌, ◌<◌, ◌≤◌, ◌∙◌, Bool, true, false, not, ◌&&◌, List, []}
-use Rattle.std.proofs.Common.{◌∷◌, ◌++◌, filter, get_or, length, refl, sym, ap, subst, arith}
+use Rattle.std.proofs.Common.{◌∷◌, filter, length, refl, sym, ap, arith}
 use Rattle.std.proofs.Common.{true≢false}
 use Rattle.std.specs.Prelude.{Option, None, Some, if◌then◌else◌}
 use Rattle.std.specs.List.{AllByRecursion}
-use Rattle.std.proofs.lemmas.Bool.{and_parts}
-use Rattle.std.proofs.lemmas.List.{get_or_default}
 use Rattle.std.proofs.lemmas.List.Elements.{All-from_recursion, recursion_from_All}
 use Rattle.cal_board.specs.Blackboard.{slot_number}
-use Rattle.cal_context.specs.Tree.{no_attribute}
 use Rattle.cal_engine.specs.Groups.{group_of, has_entries, taken, takes}
 use Rattle.cal_profile.proofs.KeptKeys.{taken_name, takes_path}
 use Rattle.cal_profile.proofs.Lists.{all-filter, all_weaker, filter-swap}
@@ -25,11 +22,10 @@ use Rattle.cal_script.specs.Valid.{IsRunnable}
 use Rattle.cal_script.specs.declared.script.Script.{Script}
 use Rattle.cal_stream.specs.Readable.{IsReadableEntry, IsReadablePath, IsReadableRecord}
 use Rattle.cal_value.specs.Flat.{joined}
-use Rattle.cal_value.specs.Props.{is_nested, is_reference}
+use Rattle.cal_value.specs.Props.{is_reference}
 use Rattle.cal_value.specs.declared.attribute.Attribute.{Attribute}
 use Rattle.cal_value.specs.declared.attribute.Entry.{Entry}
 use Rattle.cal_value.specs.declared.record.Rec.{Rec}
-use Rattle.cal_value.specs.declared.variant.Variant.{Variant}
 
 module _ (script : Script) (runnable : IsRunnable script) where
   -- a test of entries of one slot keeps 256 of these at most
@@ -78,9 +74,9 @@ module _ (script : Script) (runnable : IsRunnable script) where
       plain other (e ∷ kept) all same =
           let there = all.0.0.declared in
           let named = ap (λ (x : Attribute). x.name) (at-place script runnable e.attr there)
-              ∙ taken_name true name e other all.0.1 in
+          ∙ taken_name true name e other all.0.1 in
           let most = few (takes true name) (slot_number (attr_ref script there.0))
-              (own-slot name other there.0 there.1 named) in
+          (own-slot name other there.0 there.1 named) in
           let equal = ap length same in
           omega (arith, most, equal)
 

@@ -1,5 +1,5 @@
 -- The attributes of one name that the snapshots of a run show have one kind.
-use Rattle.std.proofs.Common.{◌≡◌, ◌<◌, ◌≤◌, ◌∙◌, ℕ, Bool, true, false, List, [], ◌∷◌, ◌++◌}
+use Rattle.std.proofs.Common.{◌≡◌, ◌<◌, ◌∙◌, ℕ, true, false, List}
 use Rattle.std.proofs.Common.{drop, length, refl, sym, ap, subst, arith, true≢false, inl, inr}
 use Rattle.std.specs.Prelude.{◌⊎◌, not, slice_index_or}
 use Rattle.std.specs.List.{list_all}
@@ -71,9 +71,9 @@ module _ (script : Script) (runnable : IsRunnable script) where
   pub place-once : (i j : ℕ) → i < length script.attributes → j < length script.attributes
       → (attribute_of script i).name ≡ (attribute_of script j).name → i ≡ j
   place-once i j below within named = elim (cases_lt i j) [
-    inl before ↦ absurd (runnable.declared.apart i j no_attribute before within named)
+    | inl before ↦ absurd (runnable.declared.apart i j no_attribute before within named)
     | inr behind ↦ elim (cases_lt j i) [
-      inl after ↦ absurd (runnable.declared.apart j i no_attribute after below (sym named))
+      | inl after ↦ absurd (runnable.declared.apart j i no_attribute after below (sym named))
       | inr before ↦ omega (arith, before, behind)
     ]
   ]
@@ -129,7 +129,7 @@ module _ (script : Script) (runnable : IsRunnable script) where
   event-service a b event service named =
       let begins : byte 0 b.name ≡ 101 = sym (ap (byte 0) named) ∙ event-begins a event in
       elim (service-first b service) [
-        inl t ↦ omega (arith, begins, t)
+        | inl t ↦ omega (arith, begins, t)
         | inr r ↦ omega (arith, begins, r)
       ]
 
@@ -176,9 +176,9 @@ module _ (script : Script) (runnable : IsRunnable script) where
       elim strange [ inl s ↦ omega (arith, begins, s) | inr m ↦ omega (arith, begins, m) ]
   shown-no-result a (inr (inr service)) name hash strange named =
       let begins : (byte 0 name ≡ 116) ⊎ (byte 0 name ≡ 114) =
-          subst (λ (n : List ℕ). (byte 0 n ≡ 116) ⊎ (byte 0 n ≡ 114)) named
-          (service-first a service) in
+      subst (λ (n : List ℕ). (byte 0 n ≡ 116) ⊎ (byte 0 n ≡ 114)) named
+      (service-first a service) in
       elim strange [
-        inl s ↦ elim begins [ inl t ↦ omega (arith, s, t) | inr r ↦ omega (arith, s, r) ]
+        | inl s ↦ elim begins [ inl t ↦ omega (arith, s, t) | inr r ↦ omega (arith, s, r) ]
         | inr m ↦ elim begins [ inl t ↦ omega (arith, m, t) | inr r ↦ omega (arith, m, r) ]
       ]

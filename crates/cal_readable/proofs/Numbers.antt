@@ -1,9 +1,9 @@
 -- The numbers that the snapshots of a run bring to the kernels of a channel.
-use Rattle.std.proofs.Common.{◌≡◌, ℕ, ◌*◌, ◌+◌, ◌≤◌, ◌^◌, ◌∙◌, pos, negsuc, Bool, true, false}
+use Rattle.std.proofs.Common.{◌≡◌, ℕ, ◌+◌, ◌≤◌, ◌∙◌, pos, negsuc, Bool, true, false}
 use Rattle.std.proofs.Common.{List, [], ◌∷◌, ◌++◌, filter, length, refl, sym, ap, subst, arith}
 use Rattle.std.proofs.Common.{inl, inr, true≢false}
 use Rattle.std.specs.Prelude.{Option, None, Some, codes, flat_map, if◌then◌else◌, ◌&&◌}
-use Rattle.std.specs.Prelude.{option_and_then, unwrap_or, unsigned_abs}
+use Rattle.std.specs.Prelude.{option_and_then, unwrap_or}
 use Rattle.std.specs.List.{AllByRecursion, cons_option, filter_map, last_or}
 use Rattle.std.proofs.lemmas.Bool.{leb-true}
 use Rattle.std.proofs.lemmas.List.{length-append}

@@ -1,8 +1,8 @@
 -- The records of a run can be read again.
-use Rattle.std.proofs.Common.{◌≡◌, ℕ, ◌≤◌, ◌∙◌, Bool, true, false, not, List, [], ◌∷◌, ◌++◌}
-use Rattle.std.proofs.Common.{filter, length, map, refl, sym, ap, subst, arith}
+use Rattle.std.proofs.Common.{◌≤◌, Bool, true, false, List, [], ◌∷◌, ◌++◌}
+use Rattle.std.proofs.Common.{filter, length, map, sym, ap, subst, arith}
 use Rattle.std.specs.Prelude.{flat_map, if◌then◌else◌}
-use Rattle.std.specs.List.{All, AllByRecursion, filter_map}
+use Rattle.std.specs.List.{AllByRecursion, filter_map}
 use Rattle.std.proofs.lemmas.List.Elements.{All-from_recursion, recursion_from_All}
 use Rattle.cal_engine.specs.Answers.{answer_of}
 use Rattle.cal_engine.specs.Groups.{group_of, groups_of, is_group}
@@ -18,7 +18,7 @@ use Rattle.cal_run.specs.Runs.{snapshots}
 use Rattle.cal_run.proofs.EntryLemmas.{snapshots-are, snapshots-few}
 use Rattle.cal_readable.proofs.EntryLemmas.{global-plain, said-readable, snapshot-readable}
 use Rattle.cal_readable.proofs.GroupLemmas.{group-readable}
-use Rattle.cal_readable.proofs.Lists.{all-append, all-firsts, all-flat_map, all-map, all-sorted}
+use Rattle.cal_readable.proofs.Lists.{all-append, all-firsts, all-map, all-sorted}
 use Rattle.cal_readable.proofs.Numbers.{IsSeen, snapshot-seen}
 use Rattle.cal_readable.proofs.Results.{results-readable}
 use Rattle.cal_script.specs.Valid.{IsGlobalOf, IsRunnable}
@@ -77,7 +77,7 @@ module _ (script : Script) (runnable : IsRunnable script) where
     group_records-read : AreRead (group_records (channel_query channel) trace)
     group_records-read =
         let kept_all = subst (λ rs. AreRead (rows_of (channel_query channel) rs))
-            (sym (all_kept channel trace)) rows-read in
+        (sym (all_kept channel trace)) rows-read in
         all-sorted IsReadableRecord (rows_cmp (channel_query channel).aggs)
         (answer_of (channel_query channel) trace).rows.rows
         (all-sorted IsReadableRecord (row_cmp [])

@@ -1,6 +1,6 @@
 -- The results of a channel's kernels over snapshots of a run can be read again.
-use Rattle.std.proofs.Common.{◌≡◌, ℕ, ◌*◌, ◌≤◌, ◌^◌, ◌∙◌, ℤ, ◌+ℤ◌, Bool, List, [], ◌∷◌, filter}
-use Rattle.std.proofs.Common.{length, map, refl, sym, ap, subst, arith}
+use Rattle.std.proofs.Common.{◌≡◌, ℕ, ◌*◌, ◌≤◌, ◌^◌, ℤ, ◌+ℤ◌, List, [], ◌∷◌}
+use Rattle.std.proofs.Common.{length, map, refl, subst, arith}
 use Rattle.std.specs.Prelude.{Option, None, Some, flat_map, nat_eq, not, option_map}
 use Rattle.std.specs.Prelude.{unsigned_abs}
 use Rattle.std.specs.Cmp.Lexicographic.{pointwise}
@@ -72,7 +72,7 @@ module _ (script : Script) (runnable : IsRunnable script) (names : Option (List 
   count-small : IsSmallKernel (agg_of kernel.Count [])
   count-small =
       let all = brought-all IsShort (IsSeen script runnable) (contributions kernel.Count [])
-          (weight-brings script runnable []) own own-seen in
+      (weight-brings script runnable []) own own-seen in
       let ns = contributed (agg_of kernel.Count []) own in
       let most : length ns ≤ length own = all.few in
       let bound : unsigned_abs (count_of ns) ≤ length ns * 2 ^ 64 = count-bound ns all.all in

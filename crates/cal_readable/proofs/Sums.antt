@@ -1,5 +1,5 @@
 -- What numbers of 64 bits come to isn't too large to be read again.
-use Rattle.std.proofs.Common.{◌≡◌, ℕ, ◌+◌, ◌*◌, ◌≤◌, ◌^◌, ◌∙◌, ℤ, ◌+ℤ◌, Bool, true, false, List, []}
+use Rattle.std.proofs.Common.{◌≡◌, ◌+◌, ◌*◌, ◌≤◌, ◌^◌, ◌∙◌, ℤ, ◌+ℤ◌, Bool, true, false, List, []}
 use Rattle.std.proofs.Common.{◌∷◌, length, map, refl, sym, ap, subst, arith, true≢false}
 use Rattle.std.specs.Prelude.{Option, None, Some, IfSome, if◌then◌else◌, option_and_then}
 use Rattle.std.specs.Prelude.{option_map, unsigned_abs, cond}
