@@ -1,4 +1,4 @@
-ghost use Rattle.std.specs.Prelude.{◌<◌, ◌^◌, All, IfSome};
+ghost use Rattle.std.specs.Prelude.{All};
 ghost use Rattle.cal_readable.specs.Seen.{HasShortReadings, IsShortReading};
 ghost use Rattle.cal_run.specs.Entries.{HasReadings};
 
@@ -6,8 +6,8 @@ use cal_script::{Journal, LineNote, ThreadNote};
 
 // What the types say of a journal's readings, which reading them shows.
 
-fn see_note(note: &LineNote)
-    ensures { IsShortReading note.now }
+fn see_note(note: LineNote)
+    ensures { IsShortReading note }
 {
     match note.reading {
         Some(reading) => {
@@ -21,15 +21,21 @@ fn see_notes(notes: &[LineNote])
     ensures { All IsShortReading notes.now }
 {
     for note in notes {
-        see_note(note);
+        see_note(*note);
     }
+}
+
+fn see_thread(thread: &ThreadNote)
+    ensures { HasShortReadings thread.now }
+{
+    see_notes(thread.lines.as_slice());
 }
 
 fn see_threads(threads: &[ThreadNote])
     ensures { All HasShortReadings threads.now }
 {
     for thread in threads {
-        see_notes(thread.lines.as_slice());
+        see_thread(thread);
     }
 }
 

@@ -1,4 +1,4 @@
-use Rattle.std.proofs.Common.{sym, subst, take}
+use Rattle.std.proofs.Common.{sym, take}
 use Rattle.std.proofs.lemmas.List.{take_all}
 use Rattle.std.proofs.lemmas.List.Elements.{All-more, All-same}
 use Rattle.cal_readable.specs.Seen.{IsShortReading}
@@ -6,9 +6,8 @@ use Rattle.cal_readable.proofs.readings.see_notes.Goals as goal
 
 pub loop-note-preserved : goal.loop-note-preserved
 loop-note-preserved c =
-    All-more IsShortReading c.args.notes.now c.loop-note.note-index c.note-item.result
-    c.loop-note-test.true c.loop-note.invariant
-    (subst IsShortReading c.note-item.is c.see_note.ensures)
+    All-more IsShortReading c.args.notes.now c.loop-note.note-index _ c.loop-note-test.true
+    c.loop-note.invariant c.see_note.ensures
 
 pub returns : goal.returns
 returns c =
