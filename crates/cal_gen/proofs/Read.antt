@@ -1,9 +1,8 @@
 -- What the text of a seed and two sizes means, by what the header's text means.
-use Rattle.std.proofs.Common.{◌≡◌, ℕ, ◌*◌, ◌≤◌, List, [], ◌++◌, sym, ap, subst, ◌∙◌, lit≤}
-use Rattle.std.specs.Prelude.{◌↔◌, Ok, Result}
+use Rattle.std.proofs.Common.{◌≡◌, ℕ, ◌*◌, ◌≤◌, List, [], ◌++◌, sym, ap, ◌∙◌, lit≤}
+use Rattle.std.specs.Prelude.{Ok, Result}
 use Rattle.cal_value.specs.declared.variant.Variant.{Variant}
 use Rattle.cal_gen.specs.Generated.{generated, header}
-use Rattle.cal_script.specs.Faults.{HasFault}
 use Rattle.cal_script.specs.Reading.{Means, meaning}
 use Rattle.cal_script.specs.declared.kind.ScriptKind.{ScriptKind}
 use Rattle.cal_script.specs.declared.script.Line.{Line}
@@ -20,13 +19,9 @@ pub header_read : (bytes : List ℕ) (script : Script) → bytes ≡ header → 
 header_read bytes script is means =
     only_script script (generated_script 0 0 0) (meaning header) (sym (ap meaning is) ∙ means) (generated_means 0 0 0 (lit≤ tt) (lit≤ tt))
 
--- the header has no fault
-pub header_sound : (bytes : List ℕ) (line : ℕ) (kind : ScriptKind) → bytes ≡ header
-    → ((text : List ℕ) → ((script : Script) × Means text script) ↔ ((n : ℕ) (found : ScriptKind) → ¬ HasFault text n found))
-    → HasFault bytes line kind → ⊥
-header_sound bytes line kind is law has =
-    let means = generated_means 0 0 0 (lit≤ tt) (lit≤ tt) in
-    (law bytes).0 (generated_script 0 0 0, subst (λ (text : List ℕ). Means text (generated_script 0 0 0)) (sym is) means) line kind has
+-- and it means a script
+pub header_stands : (bytes : List ℕ) → bytes ≡ header → (script : Script) × Means bytes script
+header_stands bytes is = (generated_script 0 0 0, ap meaning is ∙ generated_means 0 0 0 (lit≤ tt) (lit≤ tt))
 
 -- what the header declares, with the threads and their values
 pub made_means : (seed threads lines : ℕ) (declared : Script) (none values : List Variant) (all : List (List Line))
