@@ -1,12 +1,12 @@
 -- A look at the next token: whether it is one that is asked for, stays so where it is the same.
-use Rattle.std.proofs.Common.{◌≡◌, ◌⊎◌, ℕ, Bool, true, false, cond, List, [], ◌∷◌, Option, Some, None, Result, Ok, Err, refl, sym, ap, ◌∙◌, inl, inr}
+use Rattle.std.proofs.Common.{◌≡◌, ◌⊎◌, ℕ, Bool, true, false, cond, List, ◌∷◌, Option, Some, None, Ok, Err, refl, sym, ap, ◌∙◌, inl, inr}
 use Rattle.std.specs.Prelude.{nat_eq}
 use Rattle.std.specs.Option.{option_map, option_map_or}
 use Rattle.std.specs.Cmp.Lexicographic.{pointwise}
 use Rattle.cal_ql.specs.Conds.{behind_relation, relation_of, with_rest}
 use Rattle.cal_ql.specs.Grammar.{The}
 use Rattle.cal_ql.specs.Names.{keyword_name}
-use Rattle.cal_ql.specs.Reading.{Read, behind_key, behind_sign, first_of, refused}
+use Rattle.cal_ql.specs.Reading.{Read, behind_key, behind_sign, first_of}
 use Rattle.cal_ql.specs.Signs.{sign_text}
 use Rattle.cal_ql.specs.Tokens.{Fault, Token, Tokens, end, broken, token, key, word, quoted, sign}
 use Rattle.cal_ql.specs.declared.conds.Relation.{Relation}

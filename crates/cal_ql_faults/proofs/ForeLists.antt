@@ -1,5 +1,5 @@
 -- Lists of items, which stop where no comma stands.
-use Rattle.std.proofs.Common.{◌≡◌, ◌⊎◌, ℕ, zero, suc, ◌+◌, ◌<◌, ◌≤◌, Bool, true, false, List, [], ◌∷◌, ◌++◌, length, Option, Some, None, Ok, Err, refl, sym, ap, subst, ◌∙◌, arith, inl, inr}
+use Rattle.std.proofs.Common.{◌≡◌, ◌⊎◌, ℕ, zero, suc, ◌≤◌, true, List, [], ◌∷◌, ◌++◌, Option, Some, None, Ok, Err, refl, sym, ap, subst, ◌∙◌, arith}
 use Rattle.std.specs.Option.{option_map_or}
 use Rattle.cal_ql.specs.Grammar.{The}
 use Rattle.cal_ql.specs.Reading.{Read, ◌>>=◌, behind_sign, count, first_of, further_within, refused, separated}
@@ -12,7 +12,7 @@ use Rattle.cal_ql.proofs.Lists.{first_count}
 use Rattle.cal_ql_faults.specs.FaultPlaces.{IsLater, IsSome, Row, first_tokens}
 use Rattle.cal_ql_faults.proofs.Ahead.{sign_stays}
 use Rattle.cal_ql_faults.proofs.Fores.{Failed, Fore, Taken, err_is, failing, put}
-use Rattle.cal_ql_faults.proofs.Rows.{Like, append_some, like_before, like_wrong, row_append, row_count, row_like, row_split}
+use Rattle.cal_ql_faults.proofs.Rows.{Like, append_some, like_before, like_wrong, row_append, row_count, row_split}
 
 abbrev comma : Token
 comma = sign signed.Comma

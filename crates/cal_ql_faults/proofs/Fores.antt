@@ -6,7 +6,7 @@ use Rattle.cal_ql.specs.declared.kind.QueryKind.{QueryKind}
 use Rattle.cal_ql.specs.Grammar.{The}
 use Rattle.cal_ql.specs.Reading.{Read, ◌>>=◌, first_of, or_fault, refused}
 use Rattle.cal_ql.specs.Tokens.{Fault, Token, Tokens, end, broken, token}
-use Rattle.cal_ql.proofs.Binds.{bind_ok, ok_is, or_fault_ok}
+use Rattle.cal_ql.proofs.Binds.{bind_ok, ok_is}
 use Rattle.cal_ql_faults.specs.FaultPlaces.{IsLater, IsSome, Row, first_tokens}
 use Rattle.cal_ql_faults.proofs.Rows.{Like, append_some, append_some_right, like_before, like_wrong, row_append, row_like, row_split}
 

@@ -1,5 +1,5 @@
 -- An item of SELECT: a name, and behind it a parenthesis or not.
-use Rattle.std.proofs.Common.{◌≡◌, ◌⊎◌, ℕ, Bool, true, false, cond, List, [], ◌∷◌, Option, Some, None, Ok, Err, refl, sym, ap, ◌∙◌, inl, inr}
+use Rattle.std.proofs.Common.{◌≡◌, ℕ, Bool, true, false, cond, List, Option, Some, None, Ok, Err, refl, sym, ap, ◌∙◌, inl, inr}
 use Rattle.std.specs.Prelude.{is_some}
 use Rattle.std.specs.Option.{option_map, option_map_or}
 use Rattle.cal_ql.specs.declared.kind.QueryKind.TheVariants.{BadArity, UnknownKernel}
@@ -9,7 +9,7 @@ use Rattle.cal_ql.specs.declared.query.Item.{Item}
 use Rattle.cal_ql.specs.declared.select.Picked.{Picked}
 use Rattle.cal_ql.specs.declared.select.Picked.TheVariants as picked
 use Rattle.cal_ql.specs.declared.token.Sign.TheVariants as signed
-use Rattle.cal_ql.specs.Kernels.{agg_at, attr_of, begins_call, column_at, item_at, kernel_at, names_at, result_name}
+use Rattle.cal_ql.specs.Kernels.{agg_at, attr_of, begins_call, column_at, item_at, kernel_at, names_at}
 use Rattle.cal_ql.specs.Names.{kernel_named}
 use Rattle.cal_ql.specs.Reading.{Read, ◌>>=◌, behind_sign, first_of, header_at, name_at, or_fault, past_sign, refused}
 use Rattle.cal_ql.specs.Tokens.{Fault, Tokens, end, broken, token, key, word, quoted, sign}

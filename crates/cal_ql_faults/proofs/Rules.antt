@@ -1,5 +1,5 @@
 -- Each rule of the reading looks at no more than its tokens.
-use Rattle.std.proofs.Common.{◌≡◌, ◌⊎◌, ℕ, Bool, true, false, cond, List, [], ◌∷◌, Option, Some, None, Result, Ok, Err, refl, sym, ap, ◌∙◌, inl, inr}
+use Rattle.std.proofs.Common.{◌≡◌, ◌⊎◌, ℕ, Bool, true, false, cond, List, [], Option, Some, None, Result, Ok, Err, refl, inl, inr}
 use Rattle.std.specs.Prelude.{ℤ, nat_eq}
 use Rattle.std.specs.Option.{ok_or, option_map, option_map_or}
 use Rattle.std.specs.Cmp.Lexicographic.{pointwise}
@@ -12,17 +12,15 @@ use Rattle.cal_ql.specs.declared.token.Sign.TheVariants as signed
 use Rattle.cal_ql.specs.declared.conds.Relation.{Relation}
 use Rattle.cal_ql.specs.declared.lets.Argument.{Argument}
 use Rattle.cal_ql.specs.declared.lets.Argument.TheVariants as argument
-use Rattle.cal_ql.specs.declared.names.Format.{Format}
 use Rattle.cal_ql.specs.declared.names.KernelName.{KernelName}
 use Rattle.cal_ql.specs.declared.names.Op.{Op}
 use Rattle.cal_ql.specs.declared.query.Agg.{Agg}
 use Rattle.cal_ql.specs.declared.query.Cond.{Cond}
-use Rattle.cal_ql.specs.declared.query.Item.{Item}
 use Rattle.cal_ql.specs.declared.query.Let.{Let}
 use Rattle.cal_ql.specs.declared.query.OrderKey.{OrderKey}
 use Rattle.cal_ql.specs.declared.query.Test.TheVariants as test
 use Rattle.cal_ql.specs.Conds.{behind_relation, compared, cond_at, direction_at, enclosed_test_at, format_at, negated_at, order_key_at, test_at, test_of}
-use Rattle.cal_ql.specs.Kernels.{agg_at, any_name_at, attr_of, column_at, kernel_at, names_at, names_behind, result_name}
+use Rattle.cal_ql.specs.Kernels.{agg_at, any_name_at, attr_of, kernel_at, names_at, names_behind, result_name}
 use Rattle.cal_ql.specs.Lets.{argument_at, arguments_at, is_number_place, let_at, let_of, number_at, number_in, op_at}
 use Rattle.cal_ql.specs.Names.{format_named, kernel_named, keyword_name, op_named}
 use Rattle.cal_ql.specs.Reading.{Read, ◌>>=◌, behind_key, behind_sign, first_of, header_at, name_at, or_fault, past_sign, refused, separated}

@@ -1,14 +1,12 @@
 -- Clauses up to the end of a text, and where its fault is.
-use Rattle.std.proofs.Common.{◌≡◌, ◌⊎◌, ℕ, zero, suc, ◌+◌, ◌<◌, ◌≤◌, Bool, true, false, cond, List, [], ◌∷◌, ◌++◌, length, Option, Some, None, Result, Ok, Err, refl, sym, ap, ◌∙◌, arith, inl, inr}
+use Rattle.std.proofs.Common.{◌≡◌, ◌⊎◌, ℕ, zero, suc, ◌≤◌, Bool, true, false, cond, List, [], ◌∷◌, ◌++◌, length, Some, Result, Ok, Err, refl, sym, ap, ◌∙◌, arith, inl}
 use Rattle.std.specs.Prelude.{is_some}
-use Rattle.std.specs.Option.{option_map, option_map_or, option_to_list}
-use Rattle.cal_ql.specs.Clauses.{all_clauses, clause_at, clause_behind, clauses_within, has_clause, listed_at, no_clauses, past_by, query_of, reading, selected_all, selection_at, selection_of}
+use Rattle.cal_ql.specs.Clauses.{all_clauses, clause_at, clause_behind, clauses_within, has_clause, listed_at, no_clauses, past_by, query_of, selected_all, selection_at, selection_of}
 use Rattle.cal_ql.specs.Conds.{cond_at, format_at, order_key_at}
 use Rattle.cal_ql.specs.FirstFault.{HasFault}
-use Rattle.cal_ql.specs.Grammar.{Means, The}
 use Rattle.cal_ql.specs.Kernels.{agg_at, any_name_at, item_at}
 use Rattle.cal_ql.specs.Lets.{let_at}
-use Rattle.cal_ql.specs.Reading.{Read, ◌>>=◌, behind_sign, count, first_of, refused, separated}
+use Rattle.cal_ql.specs.Reading.{Read, ◌>>=◌, count, first_of, refused, separated}
 use Rattle.cal_ql.specs.Tokens.{Fault, Token, Tokens, end, broken, token, key, word, quoted, sign, tokens_of}
 use Rattle.cal_ql.specs.declared.clauses.Clauses.{Clauses}
 use Rattle.cal_ql.specs.declared.kind.QueryKind.{QueryKind}
@@ -21,10 +19,9 @@ use Rattle.cal_ql.specs.declared.token.Keyword as keywords
 use Rattle.cal_ql.specs.declared.token.Keyword.TheVariants as keyword
 use Rattle.cal_ql.specs.declared.token.Sign.TheVariants as signed
 use Rattle.cal_ql.proofs.GrammarWhole.{means_reading}
-use Rattle.cal_ql.proofs.Lists.{first_count}
 use Rattle.cal_ql_faults.specs.FaultPlaces.{IsFoundAt, IsLater, IsSome, Row, first_tokens}
 use Rattle.cal_ql_faults.proofs.ForeLists.{separated_fore}
-use Rattle.cal_ql_faults.proofs.Fores.{Failed, Fore, Taken, done_fore, err_is, failing, given, one, one_fore, put, same_fore}
+use Rattle.cal_ql_faults.proofs.Fores.{Failed, Taken, done_fore, err_is, failing, given, one, one_fore, put, same_fore}
 use Rattle.cal_ql_faults.proofs.Items.{item_fore}
 use Rattle.cal_ql_faults.proofs.Rows.{like_wrong, row_append, row_count, row_split}
 use Rattle.cal_ql_faults.proofs.Rules.{Loose, agg_fore, any_name_fore, by_fore, cond_fore, format_fore, let_fore, loosened, made_fore, order_key_fore, sign_look_fore, then_fore}
