@@ -20,10 +20,10 @@ use Rattle.cal_words.specs.declared.op.OpCode.TheVariants as code
 use Rattle.cal_words.specs.declared.sort.NodeSort.{NodeSort}
 
 -- an as-value attribute, and a nested one
-abbrev shown : AttrRef
+abbrev pub shown : AttrRef
 shown = record { number = 1; nested = false; as_value = true }
 
-abbrev nested : AttrRef
+abbrev pub nested : AttrRef
 nested = record { number = 0; nested = true; as_value = false }
 
 -- the as-value slot of one value

@@ -102,10 +102,10 @@ fn last_of_function(
     ensures { IsTreeSeat tree.now seat.new }
 {
     let mut board = SharedBoard::new(alloc)?;
-    if board.begin(tree, seat, FUNCTION, value) != BoardReply::Done {
-        return Ok(None);
+    match board.begin(tree, seat, FUNCTION, value) {
+        BoardReply::Done => Ok(Some(board.last(alloc, tree, seat, attrs, FUNCTION)?)),
+        _ => Ok(None),
     }
-    Ok(Some(board.last(alloc, tree, seat, attrs, FUNCTION)?))
 }
 
 /// Whether a text that is opened is the last entry of its slot.
