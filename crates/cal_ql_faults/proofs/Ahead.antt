@@ -1,22 +1,23 @@
 -- A look at the next token: whether it is one that is asked for, stays so where it is the same.
-use Rattle.std.proofs.Common.{◌≡◌, ◌⊎◌, ℕ, Bool, true, false, cond, List, ◌∷◌, Option, Some, None, Ok, Err, refl, sym, ap, ◌∙◌, inl, inr}
+use Rattle.std.proofs.Common.{◌≡◌, ◌⊎◌, ℕ, Bool, true, false, cond, List, [], ◌∷◌, ◌++◌, Option, Some, None, Ok, Err, refl, sym, ap, subst, ◌∙◌, inl, inr}
 use Rattle.std.specs.Prelude.{nat_eq}
 use Rattle.std.specs.Option.{option_map, option_map_or}
 use Rattle.std.specs.Cmp.Lexicographic.{pointwise}
 use Rattle.cal_ql.specs.Conds.{behind_relation, relation_of, with_rest}
 use Rattle.cal_ql.specs.Grammar.{The}
 use Rattle.cal_ql.specs.Names.{keyword_name}
-use Rattle.cal_ql.specs.Reading.{Read, behind_key, behind_sign, first_of}
+use Rattle.cal_ql.specs.Reading.{Read, behind_key, behind_sign, behind_this_sign, first_of}
 use Rattle.cal_ql.specs.Signs.{sign_text}
 use Rattle.cal_ql.specs.Tokens.{Fault, Token, Tokens, end, broken, token, key, word, quoted, sign}
 use Rattle.cal_ql.specs.declared.conds.Relation.{Relation}
 use Rattle.cal_ql.specs.declared.token.Keyword.{Keyword}
 use Rattle.cal_ql.specs.declared.token.Sign.{Sign}
+use Rattle.cal_ql.specs.declared.token.Sign.TheVariants as signed
 use Rattle.cal_ql.proofs.GrammarSound.{sign_found}
 use Rattle.cal_ql.proofs.GrammarStops.{sign_is}
 use Rattle.cal_ql_faults.specs.FaultPlaces.{IsSome, Row}
-use Rattle.cal_ql_faults.proofs.Fores.{Failed, Fore, Taken}
-use Rattle.cal_ql_faults.proofs.Rows.{Like, like_before, like_wrong, row_like}
+use Rattle.cal_ql_faults.proofs.Fores.{Ending, Failed, Fore, Gives, IsLed, LooksAhead, Sampled, Taken, gives_as, goes_on}
+use Rattle.cal_ql_faults.proofs.Rows.{Calm, Like, led_like, like_wrong, row_like}
 
 abbrev front : Option (Token × Tokens) → Option Token
 front found = option_map (λ (q : Token × Tokens). q.0) found
@@ -40,6 +41,15 @@ sign_stays_by s ts other (Some r) like none is =
 
 pub sign_stays : (s : Sign) (ts other : Tokens) → Like ts other → behind_sign s ts ≡ None → behind_sign s other ≡ None
 sign_stays s ts other like none = sign_stays_by s ts other (behind_sign s other) like none refl
+
+calm_comma_first : (found : Option (Token × Tokens)) → (found ≡ None) ⊎ ((rest : Tokens) × (found ≡ Some (sign signed.Close, rest))) → behind_this_sign signed.Comma found ≡ None
+calm_comma_first found (inl none) = ap (behind_this_sign signed.Comma) none
+calm_comma_first found (inr (rest, the)) = ap (behind_this_sign signed.Comma) the
+
+-- where it is calm, there is no comma
+pub calm_comma : (ts : Tokens) → Calm ts → behind_sign signed.Comma ts ≡ None
+unfolding behind_sign
+calm_comma ts calm = calm_comma_first (first_of ts) calm
 
 -- ---- one reading or another, by the next token
 
@@ -92,66 +102,145 @@ module _ {X Y : Type 0} (choose : Token → Option Y) (g : Y → Tokens → Read
   asked_or (broken fault) = inr (λ t rest the. absurd cc)
   asked_or (token place t rest) = asked_by place t rest (choose t) refl
 
-  module _ (loose : X → Bool) (some_g some : Bool) (G : (y : Y) → Fore (g y) loose some_g) (H : Fore h loose some)
+  -- what is no such token, or calm, is passed
+  the_passed : (t : Token) (ts rest : Tokens) → The t ts rest → choose t ≡ None → Passed ts
+  the_passed t ts rest the none = λ u left the'. (
+      let there : Some (t, rest) ≡ Some (u, left) = sym the ∙ the' in
+      let same : (t, rest) ≡ (u, left) = cc in
+      ap (λ (q : Token × Tokens). choose q.0) (sym same) ∙ none)
+
+  calm_passed : choose (sign signed.Close) ≡ None → (ts : Tokens) → Calm ts → Passed ts
+  calm_passed none ts (inl ended) = λ u left the. absurd (let lost : None ≡ Some (u, left) = sym ended ∙ the in cc)
+  calm_passed none ts (inr (rest, the)) = the_passed (sign signed.Close) ts rest the none
+
+  module _ (loose : X → Bool) (some_g some : Bool) (t_g t : Token)
+      (quiet : some ≡ true → choose t ≡ None) (calms : some ≡ false → choose (sign signed.Close) ≡ None)
       (needs : (ts : Tokens) (x : X) (rest : Tokens) → h ts ≡ Ok (x, rest) → (some ≡ true) ⊎ (loose x ≡ true)) where
-    alike : (x : X) (b : List Token) (ts rest other left : Tokens) → (some ≡ true) ⊎ (loose x ≡ true) → (some ≡ true → IsSome b) → Row b ts rest → Row b other left
-        → (loose x ≡ true → Like rest left) → Like ts other
-    alike x b ts rest other left (inl is) takes row row' like = row_like b ts rest other left (takes is) row row'
-    alike x b ts rest other left (inr is) takes row row' like = like_before b ts rest other left row row' (like is)
+    -- a sample
+    sample_passed : (flag : Bool) → some ≡ flag → (e : Ending h loose []) → IsLed h loose flag t e → (ts rest : Tokens) → Row e.more ts rest → (LooksAhead loose e.result → Calm rest) → Passed ts
+    unfolding first_of
+    sample_passed true is e led ts rest row calm =
+        let first : Row (t ∷ led.0) ts rest = subst (λ (l : List Token). Row l ts rest) led.1 row in
+        the_passed t ts first.0 first.1 (quiet is)
+    sample_passed false is e led ts rest row calm =
+        let last : Tokens = end 0 in
+        let none : Row e.more last last = subst (λ (l : List Token). Row l last last) (sym led.0) refl in
+        let read : h last ≡ Ok (led.1, last) = gives_as h loose [] e (Some led.1) led.2 last last none (λ looks. inl refl) in
+        let same : ts ≡ rest = subst (λ (l : List Token). Row l ts rest) led.0 row in
+        let ahead : loose led.1 ≡ true = elim (needs last led.1 last read) [
+          | inl some_is ↦ absurd (let lost : true ≡ false = sym some_is ∙ is in cc)
+          | inr looks ↦ looks
+        ] in
+        calm_passed (calms is) ts (subst Calm (sym same) (calm (subst (λ (o : Option X). LooksAhead loose o) (sym led.2) ahead)))
 
-    look_ok : (ts : Tokens) (x : X) (rest : Tokens) → Asked ts ⊎ Passed ts → look ts ≡ Ok (x, rest) → Taken look loose some ts x rest
-    look_ok ts x rest (inl asked) e =
-        let b = (G asked.y).ok asked.rest x rest (sym (look_yes asked.t ts asked.rest asked.y asked.the asked.is) ∙ e) in
-        record {
-          before = asked.t ∷ b.before;
-          behind = (asked.rest, asked.the, b.behind);
-          takes = λ go. tt;
-          again = λ other left row like. look_yes asked.t other row.0 asked.y row.1 asked.is ∙ b.again row.0 left row.2 like;
-        }
-    look_ok ts x rest (inr passed) e =
-        let read = sym (look_no ts passed) ∙ e in
-        let a = H.ok ts x rest read in
-        record {
-          before = a.before;
-          behind = a.behind;
-          takes = a.takes;
-          again = λ other left row like.
-              look_no other (passed_stays ts other (alike x a.before ts rest other left (needs ts x rest read) a.takes a.behind row like) passed)
-              ∙ a.again other left row like;
-        }
+    look_ending : (e : Ending h loose []) → IsLed h loose some t e → Ending look loose []
+    look_ending e led = record {
+      more = e.more;
+      result = e.result;
+      readable = e.readable;
+      gives = λ ts rest row calm.
+          subst (λ (r : Read X). Gives e.result r rest) (sym (look_no ts (sample_passed some refl e led ts rest row calm))) (e.gives ts rest row calm);
+    }
 
-    look_err : (ts : Tokens) (fault : Fault) → Asked ts ⊎ Passed ts → look ts ≡ Err fault → Failed look loose some ts fault
-    look_err ts fault (inl asked) e =
-        let b = (G asked.y).err asked.rest fault (sym (look_yes asked.t ts asked.rest asked.y asked.the asked.is) ∙ e) in
-        record {
-          before = asked.t ∷ b.before;
-          here = b.here;
-          behind = (asked.rest, asked.the, b.behind);
-          is = b.is;
-          wrong = b.wrong;
-          rest = b.rest;
-          there = b.there;
-          short = b.short;
-          again = λ other at left row wrong filled. look_yes asked.t other row.0 asked.y row.1 asked.is ∙ b.again row.0 at left row.2 wrong filled;
-        }
-    look_err ts fault (inr passed) e =
-        let a = H.err ts fault (sym (look_no ts passed) ∙ e) in
-        record {
-          before = a.before;
-          here = a.here;
-          behind = a.behind;
-          is = a.is;
-          wrong = a.wrong;
-          rest = a.rest;
-          there = a.there;
-          short = a.short;
-          again = λ other at left row wrong filled.
-              look_no other (passed_stays ts other (like_wrong a.before a.wrong ts a.here a.rest other at left filled a.behind a.there row wrong) passed)
-              ∙ a.again other at left row wrong filled;
-        }
+    look_led : (flag : Bool) (e : Ending h loose []) (led : IsLed h loose some t e) → IsLed h loose flag t e → IsLed look loose flag t (look_ending e led)
+    unfolding look_ending
+    look_led true e led is = is
+    look_led false e led is = is
 
-    pub look_fore : Fore look loose some
-    look_fore = record { ok = λ ts x rest e. look_ok ts x rest (asked_or ts) e; err = λ ts fault e. look_err ts fault (asked_or ts) e }
+    pub look_sample : Sampled h loose some t → Sampled look loose some t
+    look_sample s = record { ending = look_ending s.ending s.led; led = look_led some s.ending s.led s.led }
+
+    module _ (S : (y : Y) → Sampled (g y) loose some_g t_g) (G : (y : Y) → Fore (g y) loose some_g) (H : Fore h loose some) where
+      passed_by : (flag : Bool) → some ≡ flag → (some ≡ true → ⊥) → (ts : Tokens) → Calm ts → Passed ts
+      passed_by true is takes ts calm = absurd (takes is)
+      passed_by false is takes ts calm = calm_passed (calms is) ts calm
+
+      passed_like : (ts rest other left : Tokens) → ts ≡ rest → other ≡ left → (some ≡ true → ⊥) → Passed ts → Like rest left ⊎ Calm left → Passed other
+      passed_like ts rest other left row row' takes passed (inl like) =
+          passed_stays ts other (subst (λ (u : Tokens). Like u other) (sym row) (subst (λ (u : Tokens). Like rest u) (sym row') like)) passed
+      passed_like ts rest other left row row' takes passed (inr calm) = passed_by some refl takes other (subst Calm (sym row') calm)
+
+      passed_too : (x : X) (b : List Token) (ts rest other left : Tokens) → (some ≡ true) ⊎ (loose x ≡ true) → (some ≡ true → IsSome b) → Row b ts rest → Row b other left
+          → (loose x ≡ true → Like rest left ⊎ Calm left) → Passed ts → Passed other
+      passed_too x b ts rest other left (inl is) takes row row' like passed = passed_stays ts other (row_like b ts rest other left (takes is) row row') passed
+      passed_too x [] ts rest other left (inr is) takes row row' like passed = passed_like ts rest other left row row' takes passed (like is)
+      passed_too x (u ∷ b) ts rest other left (inr is) takes row row' like passed = passed_stays ts other (led_like u b b ts rest other left row row') passed
+
+      look_ok : (ts : Tokens) (x : X) (rest : Tokens) → Asked ts ⊎ Passed ts → look ts ≡ Ok (x, rest) → Taken look loose some ts x rest
+      look_ok ts x rest (inl asked) e =
+          let b = (G asked.y).ok asked.rest x rest (sym (look_yes asked.t ts asked.rest asked.y asked.the asked.is) ∙ e) in
+          record {
+            before = asked.t ∷ b.before;
+            behind = (asked.rest, asked.the, b.behind);
+            takes = λ go. tt;
+            again = λ other left row like. look_yes asked.t other row.0 asked.y row.1 asked.is ∙ b.again row.0 left row.2 like;
+          }
+      look_ok ts x rest (inr passed) e =
+          let read = sym (look_no ts passed) ∙ e in
+          let a = H.ok ts x rest read in
+          record {
+            before = a.before;
+            behind = a.behind;
+            takes = a.takes;
+            again = λ other left row like.
+                look_no other (passed_too x a.before ts rest other left (needs ts x rest read) a.takes a.behind row like passed)
+                ∙ a.again other left row like;
+          }
+
+      asked_ending : (u : Token) (y : Y) → choose u ≡ Some y → (b : List Token) → Ending (g y) loose b → Ending look loose (u ∷ b)
+      asked_ending u y is b e = record {
+        more = e.more;
+        result = e.result;
+        readable = e.readable;
+        gives = λ ts rest row calm. subst (λ (r : Read X). Gives e.result r rest) (sym (look_yes u ts row.0 y row.1 is)) (e.gives row.0 rest row.2 calm);
+      }
+
+      passed_ending : (ts here : Tokens) (b : List Token) → IsSome b → Row b ts here → Passed ts → Ending h loose b → Ending look loose b
+      passed_ending ts here [] some_b row passed e = absurd some_b
+      passed_ending ts here (u ∷ b) some_b row passed e = record {
+        more = e.more;
+        result = e.result;
+        readable = e.readable;
+        gives = λ other rest row' calm.
+            subst (λ (r : Read X). Gives e.result r rest)
+            (sym (look_no other (passed_stays ts other (led_like u b (b ++ e.more) ts here other rest row row') passed)))
+            (e.gives other rest row' calm);
+      }
+
+      look_err : (ts : Tokens) (fault : Fault) → Asked ts ⊎ Passed ts → look ts ≡ Err fault → Failed look loose some ts fault
+      look_err ts fault (inl asked) e =
+          let b = (G asked.y).err asked.rest fault (sym (look_yes asked.t ts asked.rest asked.y asked.the asked.is) ∙ e) in
+          record {
+            before = asked.t ∷ b.before;
+            here = b.here;
+            behind = (asked.rest, asked.the, b.behind);
+            is = b.is;
+            wrong = b.wrong;
+            rest = b.rest;
+            there = b.there;
+            short = b.short;
+            again = λ other at left row wrong filled. look_yes asked.t other row.0 asked.y row.1 asked.is ∙ b.again row.0 at left row.2 wrong filled;
+            goes = λ filled. asked_ending asked.t asked.y asked.is b.before (goes_on (g asked.y) loose b.before (S asked.y).ending b.goes);
+          }
+      look_err ts fault (inr passed) e =
+          let a = H.err ts fault (sym (look_no ts passed) ∙ e) in
+          record {
+            before = a.before;
+            here = a.here;
+            behind = a.behind;
+            is = a.is;
+            wrong = a.wrong;
+            rest = a.rest;
+            there = a.there;
+            short = a.short;
+            again = λ other at left row wrong filled.
+                look_no other (passed_stays ts other (like_wrong a.before a.wrong ts a.here a.rest other at left filled a.behind a.there row wrong) passed)
+                ∙ a.again other at left row wrong filled;
+            goes = λ filled. passed_ending ts a.here a.before filled a.behind passed (a.goes filled);
+          }
+
+      pub look_fore : Fore look loose some
+      look_fore = record { ok = λ ts x rest e. look_ok ts x rest (asked_or ts) e; err = λ ts fault e. look_err ts fault (asked_or ts) e }
 
 -- ---- the looks of the reading
 

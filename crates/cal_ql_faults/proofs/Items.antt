@@ -14,8 +14,8 @@ use Rattle.cal_ql.specs.Names.{kernel_named}
 use Rattle.cal_ql.specs.Reading.{Read, ◌>>=◌, behind_sign, first_of, header_at, name_at, or_fault, past_sign, refused}
 use Rattle.cal_ql.specs.Tokens.{Fault, Tokens, end, broken, token, key, word, quoted, sign}
 use Rattle.cal_ql.proofs.Binds.{bind_ok, ok_is}
-use Rattle.cal_ql_faults.proofs.Fores.{Fore, both_fore, done_fore, judged, judged_fore, put, same_fore}
-use Rattle.cal_ql_faults.proofs.Rules.{Loose, header_fore, made_fore, name_fore, names_inside, names_inside_fore, reflagged, shown, shown_fore, sign_look_fore, then_fore}
+use Rattle.cal_ql_faults.proofs.Fores.{both_fore, both_sample, judged, put}
+use Rattle.cal_ql_faults.proofs.Rules.{Loose, Rule, done_rule, header_rule, judged_rule, made_rule, name_rule, name_token, names_inside, names_inside_rule, reflagged, same_rule, shown, shown_rule, sign_look_rule, then_rule}
 
 -- a name with a parenthesis behind it, or a column
 data Begun : Type 0 where
@@ -61,24 +61,24 @@ is_column name ts x rest e =
     let same : (column (record { name = name; header = step.0.0 }), step.0.1) ≡ (x, rest) = ok_is (column (record { name = name; header = step.0.0 }), step.0.1) (x, rest) step.2 in
     sym (ap (λ (q : Begun × Tokens). begun_loose q.0) same)
 
-column_fore : (name : List ℕ) → Fore (column_behind name) begun_loose false
-column_fore name =
-    reflagged (column_behind name) (λ (x : Begun). true) begun_loose false (λ ts x rest read needs. is_column name ts x rest read)
-    (made_fore (header_at name) (λ (header : List ℕ). column (record { name = name; header = header })) true false (header_fore name))
+column_rule : (name : List ℕ) → Rule (column_behind name) begun_loose false name_token
+column_rule name =
+    reflagged (column_behind name) (λ (x : Begun). true) begun_loose false name_token (λ ts x rest read needs. is_column name ts x rest read)
+    (made_rule (header_at name) (λ (header : List ℕ). column (record { name = name; header = header })) true false name_token (header_rule name))
 
 abbrev begun : List ℕ → Tokens → Read Begun
 begun name rest = option_map_or (λ r. put (call name) r) (behind_sign signed.Open rest) (column_behind name rest)
 
-begun_fore : (name : List ℕ) → Fore (begun name) begun_loose false
-begun_fore name =
-    sign_look_fore (λ (r : Tokens). put (call name) r) (column_behind name) begun_loose false false (done_fore (call name) begun_loose) (column_fore name)
-    (λ ts x rest read. inr (is_column name ts x rest read)) signed.Open
+begun_rule : (name : List ℕ) → Rule (begun name) begun_loose false name_token
+begun_rule name =
+    sign_look_rule (λ (r : Tokens). put (call name) r) (column_behind name) begun_loose false false name_token name_token (done_rule (call name) begun_loose name_token) (column_rule name)
+    (λ ts x rest read. inr (is_column name ts x rest read)) signed.Open (λ (taken : false ≡ true). absurd cc) (λ none. refl)
 
 abbrev begun_at : Tokens → Read Begun
 begun_at ts = name_at ts >>= (λ name. begun name.0 name.1)
 
-begun_at_fore : Fore begun_at begun_loose true
-begun_at_fore = then_fore name_at begun begun_loose false name_fore begun_fore
+begun_at_rule : Rule begun_at begun_loose true name_token
+begun_at_rule = then_rule name_at begun begun_loose false name_token name_token name_rule begun_rule
 
 -- ---- the kernel
 
@@ -100,8 +100,8 @@ named_firm (column item) lost = absurd cc
 abbrev named_at : Tokens → Read Named
 named_at = judged begun_at named UnknownKernel
 
-named_at_fore : Fore named_at named_loose true
-named_at_fore = judged_fore begun_at named UnknownKernel (inr refl) begun_loose named_loose begun_at_fore named_keeps named_firm
+named_at_rule : Rule named_at named_loose true name_token
+named_at_rule = judged_rule begun_at named UnknownKernel (inr refl) begun_loose named_loose name_token named_keeps named_firm begun_at_rule
 
 -- ---- its names
 
@@ -113,11 +113,11 @@ abbrev inside_some : Named → Bool
 inside_some (kernel k) = true
 inside_some (plain item) = false
 
-inside_fore : (x : Named) → Fore (inside x) aim_loose (inside_some x)
-inside_fore (kernel k) =
-    reflagged (inside (kernel k)) (λ (x : Aim). false) aim_loose true (λ ts x rest read (needs : false ≡ true). absurd cc)
-    (made_fore names_inside (λ (list : List (List ℕ)). names k list) false true names_inside_fore)
-inside_fore (plain item) = done_fore (none item) aim_loose
+inside_rule : (x : Named) → Rule (inside x) aim_loose (inside_some x) name_token
+inside_rule (kernel k) =
+    reflagged (inside (kernel k)) (λ (x : Aim). false) aim_loose true name_token (λ ts x rest read (needs : false ≡ true). absurd cc)
+    (made_rule names_inside (λ (list : List (List ℕ)). names k list) false true name_token names_inside_rule)
+inside_rule (plain item) = done_rule (none item) aim_loose name_token
 
 inside_early : (x : Named) (y : Aim) (m rest : Tokens) → inside x m ≡ Ok (y, rest) → inside_some x ≡ false → named_loose x ≡ true → aim_loose y ≡ true
 inside_early (kernel k) y m rest read lost needs = absurd cc
@@ -127,10 +127,17 @@ inside_early (plain item) y m rest read lost needs =
 abbrev aim_at : Tokens → Read Aim
 aim_at ts = named_at ts >>= (λ q. inside q.0 q.1)
 
-aim_at_fore : Fore aim_at aim_loose true
-aim_at_fore =
-    both_fore named_at inside named_loose true (λ (x : Named). aim_loose) inside_some aim_loose true
-    (λ x y needs. needs) inside_early (λ x go. inl refl) named_at_fore inside_fore
+inside_closes : (x : Named) → inside_some x ≡ true → named_loose x ≡ true → name_token ≡ sign signed.Close
+inside_closes (kernel k) taken needs = absurd cc
+inside_closes (plain item) taken needs = absurd cc
+
+aim_at_rule : Rule aim_at aim_loose true name_token
+aim_at_rule = record {
+  fore = both_fore named_at inside named_loose (λ (x : Named). aim_loose) inside_some (λ (x : Named). name_token) aim_loose
+      (λ x y needs. needs) inside_early inside_closes (λ x. (inside_rule x).sample) named_at_rule.fore (λ x. (inside_rule x).fore);
+  sample = both_sample named_at inside named_loose (λ (x : Named). aim_loose) inside_some (λ (x : Named). name_token) aim_loose
+      (λ x y needs. needs) inside_early inside_closes (λ x. (inside_rule x).sample) name_token named_at_rule.sample;
+}
 
 -- ---- its attribute
 
@@ -149,24 +156,27 @@ fitting_firm (none item) lost = absurd cc
 abbrev made_at : Tokens → Read Made
 made_at = judged aim_at fitting BadArity
 
-made_at_fore : Fore made_at made_loose true
-made_at_fore = judged_fore aim_at fitting BadArity (inl refl) aim_loose made_loose aim_at_fore fitting_keeps fitting_firm
+made_at_rule : Rule made_at made_loose true name_token
+made_at_rule = judged_rule aim_at fitting BadArity (inl refl) aim_loose made_loose name_token fitting_keeps fitting_firm aim_at_rule
 
 abbrev ends : Made → Tokens → Read Picked
 ends (made a) rest = shown a rest >>= (λ agg. put (picked.Kernel agg.0) agg.1)
 ends (other item) rest = put (picked.Column item) rest
 
-ends_fore : (x : Made) → Fore (ends x) (λ (y : Picked). true) false
-ends_fore (made a) = made_fore (shown a) (λ (agg : Agg). picked.Kernel agg) true false (shown_fore a)
-ends_fore (other item) = done_fore (picked.Column item) (λ (y : Picked). true)
+ends_rule : (x : Made) → Rule (ends x) (λ (y : Picked). true) false name_token
+ends_rule (made a) = made_rule (shown a) (λ (agg : Agg). picked.Kernel agg) true false name_token (shown_rule a)
+ends_rule (other item) = done_rule (picked.Column item) (λ (y : Picked). true) name_token
 
 abbrev picked_at : Tokens → Read Picked
 picked_at ts = made_at ts >>= (λ q. ends q.0 q.1)
 
-picked_at_fore : Loose picked_at
-picked_at_fore =
-    both_fore made_at ends made_loose true (λ (x : Made) (y : Picked). true) (λ (x : Made). false) (λ (y : Picked). true) true
-    (λ x y needs. refl) (λ x y m rest read lost needs. refl) (λ x go. inl refl) made_at_fore ends_fore
+picked_at_rule : Loose picked_at name_token
+picked_at_rule = record {
+  fore = both_fore made_at ends made_loose (λ (x : Made) (y : Picked). true) (λ (x : Made). false) (λ (x : Made). name_token) (λ (y : Picked). true)
+      (λ x y needs. refl) (λ x y m rest read lost needs. refl) (λ x (taken : false ≡ true) needs. absurd cc) (λ x. (ends_rule x).sample) made_at_rule.fore (λ x. (ends_rule x).fore);
+  sample = both_sample made_at ends made_loose (λ (x : Made) (y : Picked). true) (λ (x : Made). false) (λ (x : Made). name_token) (λ (y : Picked). true)
+      (λ x y needs. refl) (λ x y m rest read lost needs. refl) (λ x (taken : false ≡ true) needs. absurd cc) (λ x. (ends_rule x).sample) name_token made_at_rule.sample;
+}
 
 -- ---- the same as an item is read
 
@@ -230,5 +240,5 @@ item_same (token place (word name) rest) =
 item_same (token place (quoted name) rest) =
     item_by (record { place = place; kind = UnknownKernel }) (record { place = place; kind = BadArity }) name rest (behind_sign signed.Open rest) refl
 
-pub item_fore : Loose item_at
-item_fore = same_fore item_at picked_at (λ (x : Picked). true) true item_same picked_at_fore
+pub item_rule : Loose item_at name_token
+item_rule = same_rule item_at picked_at (λ (x : Picked). true) true name_token item_same picked_at_rule

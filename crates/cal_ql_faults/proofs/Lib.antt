@@ -4,4 +4,5 @@ pub mod Ahead
 pub mod ForeLists
 pub mod Rules
 pub mod Items
+pub mod ReadTokens
 pub mod WholeFaults

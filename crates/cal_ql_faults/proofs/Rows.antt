@@ -1,9 +1,10 @@
 -- Rows of tokens, and what stands first behind them.
-use Rattle.std.proofs.Common.{◌≡◌, ◌+◌, List, [], ◌∷◌, ◌++◌, length, refl, sym, ap, subst, ◌∙◌, arith}
+use Rattle.std.proofs.Common.{◌≡◌, ◌+◌, List, [], ◌∷◌, ◌++◌, length, refl, sym, ap, subst, ◌∙◌, arith, None, ◌⊎◌}
 use Rattle.std.specs.Option.{option_map}
 use Rattle.cal_ql.specs.Grammar.{The}
 use Rattle.cal_ql.specs.Reading.{count, first_of}
-use Rattle.cal_ql.specs.Tokens.{Token, Tokens}
+use Rattle.cal_ql.specs.Tokens.{Token, Tokens, sign, token}
+use Rattle.cal_ql.specs.declared.token.Sign.TheVariants as signed
 use Rattle.cal_ql.proofs.Lists.{first_count}
 use Rattle.cal_ql_faults.specs.FaultPlaces.{IsSome, Row}
 
@@ -51,3 +52,20 @@ append_some (t ∷ a) b some = tt
 pub append_some_right : (a b : List Token) → IsSome b → IsSome (a ++ b)
 append_some_right [] b some = some
 append_some_right (t ∷ a) b some = tt
+
+pub led_like : (t : Token) (a b : List Token) (x y x' y' : Tokens) → Row (t ∷ a) x y → Row (t ∷ b) x' y' → Like x x'
+led_like t a b x y x' y' (m, the, row) (m', the', row') = the_like t x x' m m' the the'
+
+-- the end of a text, or a closing parenthesis: what looks ahead stops there
+abbrev pub Calm : Tokens → Type 0
+Calm ts = (first_of ts ≡ None) ⊎ ((rest : Tokens) × The (sign signed.Close) ts rest)
+
+-- tokens with others behind
+pub onto : List Token → Tokens → Tokens
+onto [] ts = ts
+onto (t ∷ before) ts = token 0 t (onto before ts)
+
+pub row_onto : (before : List Token) (ts : Tokens) → Row before (onto before ts) ts
+unfolding onto first_of
+row_onto [] ts = refl
+row_onto (t ∷ before) ts = (onto before ts, refl, row_onto before ts)

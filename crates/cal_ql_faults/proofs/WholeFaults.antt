@@ -1,12 +1,12 @@
 -- Clauses up to the end of a text, and where its fault is.
-use Rattle.std.proofs.Common.{◌≡◌, ◌⊎◌, ℕ, zero, suc, ◌≤◌, Bool, true, false, cond, List, [], ◌∷◌, ◌++◌, length, Some, Result, Ok, Err, refl, sym, ap, ◌∙◌, arith, inl}
+use Rattle.std.proofs.Common.{◌≡◌, ◌⊎◌, ℕ, zero, suc, ◌≤◌, Bool, true, false, cond, List, [], ◌∷◌, ◌++◌, length, Some, Result, Ok, Err, refl, sym, ap, ◌∙◌, arith, inl, None, Option, subst, inr, append_assoc}
 use Rattle.std.specs.Prelude.{is_some}
-use Rattle.cal_ql.specs.Clauses.{all_clauses, clause_at, clause_behind, clauses_within, has_clause, listed_at, no_clauses, past_by, query_of, selected_all, selection_at, selection_of}
+use Rattle.cal_ql.specs.Clauses.{all_clauses, clause_at, clause_behind, clauses_within, has_clause, listed_at, no_clauses, past_by, query_of, selected_all, selection_at, selection_of, reading}
 use Rattle.cal_ql.specs.Conds.{cond_at, format_at, order_key_at}
 use Rattle.cal_ql.specs.FirstFault.{HasFault}
 use Rattle.cal_ql.specs.Kernels.{agg_at, any_name_at, item_at}
 use Rattle.cal_ql.specs.Lets.{let_at}
-use Rattle.cal_ql.specs.Reading.{Read, ◌>>=◌, count, first_of, refused, separated}
+use Rattle.cal_ql.specs.Reading.{Read, ◌>>=◌, count, first_of, is_end, refused, separated}
 use Rattle.cal_ql.specs.Tokens.{Fault, Token, Tokens, end, broken, token, key, word, quoted, sign, tokens_of}
 use Rattle.cal_ql.specs.declared.clauses.Clauses.{Clauses}
 use Rattle.cal_ql.specs.declared.kind.QueryKind.{QueryKind}
@@ -18,13 +18,23 @@ use Rattle.cal_ql.specs.declared.select.Selection.{Selection}
 use Rattle.cal_ql.specs.declared.token.Keyword as keywords
 use Rattle.cal_ql.specs.declared.token.Keyword.TheVariants as keyword
 use Rattle.cal_ql.specs.declared.token.Sign.TheVariants as signed
+use Rattle.cal_ql.proofs.Lists.{first_count}
+use Rattle.cal_ql.specs.Grammar.{Means}
 use Rattle.cal_ql.proofs.GrammarWhole.{means_reading}
-use Rattle.cal_ql_faults.specs.FaultPlaces.{IsFoundAt, IsLater, IsSome, Row, first_tokens}
-use Rattle.cal_ql_faults.proofs.ForeLists.{separated_fore}
-use Rattle.cal_ql_faults.proofs.Fores.{Failed, Taken, done_fore, err_is, failing, given, one, one_fore, put, same_fore}
-use Rattle.cal_ql_faults.proofs.Items.{item_fore}
-use Rattle.cal_ql_faults.proofs.Rows.{like_wrong, row_append, row_count, row_split}
-use Rattle.cal_ql_faults.proofs.Rules.{Loose, agg_fore, any_name_fore, by_fore, cond_fore, format_fore, let_fore, loosened, made_fore, order_key_fore, sign_look_fore, then_fore}
+use Rattle.cal_ql_faults.specs.FaultPlaces.{BeginSome, IsFoundAt, IsLater, IsSome, Row, first_tokens}
+use Rattle.cal_ql_faults.proofs.Fores.{Ending, Failed, Fore, Gives, Taken, both_fore, err_is, failing, given, gives_as, one, one_fore, put, same_fore}
+use Rattle.cal_ql_faults.proofs.Items.{item_rule}
+use Rattle.cal_ql_faults.proofs.Rows.{Calm, Like, led_like, like_wrong, row_append, row_count, row_split}
+use Rattle.cal_ql_faults.proofs.ReadTokens.{text_read}
+use Rattle.cal_ql_faults.proofs.Fores.{all_append}
+use Rattle.cal_ql.proofs.Spelling.{Come, IsRead, text_comes}
+use Rattle.cal_ql.proofs.GrammarClauses.{reading_means}
+use Rattle.cal_ql.specs.Writing.{text_of}
+use Rattle.cal_ql.specs.Names.{format_name, kernel_name}
+use Rattle.cal_ql.specs.declared.names.KernelName.TheVariants as kernel
+use Rattle.cal_ql.specs.declared.names.Format.TheVariants as formats
+use Rattle.std.specs.List.{AllByRecursion}
+use Rattle.cal_ql_faults.proofs.Rules.{Loose, agg_rule, any_name_rule, by_rule, cond_rule, done_rule, format_rule, let_rule, loosened, made_rule, name_token, order_key_rule, separated_rule, sign_look_rule}
 
 -- ---- one clause
 
@@ -49,27 +59,39 @@ module _ (clauses : Clauses) where
   behind order ts = past_by ts >>= (λ by. separated (λ number. order_key_at) by >>= (λ r. put (record clauses { order = Some r.0 }) r.1))
   behind format ts = format_at ts >>= (λ r. put (record clauses { format = Some r.0 }) r.1)
 
-  selection_fore : Loose selection_at
+  selection_rule : Loose selection_at name_token
   unfolding selection_at listed_at
-  selection_fore =
-      sign_look_fore (λ (rest : Tokens). put selected_all rest) (λ (ts : Tokens). separated (λ number. item_at) ts >>= (λ r. put (selection_of r.0) r.1)) (λ (x : Selection). true) false true
-      (done_fore selected_all (λ (x : Selection). true))
-      (made_fore (separated (λ number. item_at)) (λ (list : List Picked). selection_of list) true true (separated_fore (λ number. item_at) (λ n. item_fore)))
-      (λ ts x rest e. inl refl) signed.Star
+  selection_rule =
+      sign_look_rule (λ (rest : Tokens). put selected_all rest) (λ (ts : Tokens). separated (λ number. item_at) ts >>= (λ r. put (selection_of r.0) r.1)) (λ (x : Selection). true) false true name_token name_token
+      (done_rule selected_all (λ (x : Selection). true) name_token)
+      (made_rule (separated (λ number. item_at)) (λ (list : List Picked). selection_of list) true true name_token (separated_rule (λ number. item_at) (λ n. name_token) (λ n. item_rule)))
+      (λ ts x rest e. inl refl) signed.Star (λ taken. refl) (λ (none : true ≡ false). absurd cc)
 
-  behind_fore : (lead : Lead) → Loose (behind lead)
-  behind_fore lets =
-      made_fore (separated (λ number. let_at)) (λ list. record clauses { lets = Some list }) true true (separated_fore (λ number. let_at) (λ n. loosened let_at true let_fore))
-  behind_fore select = made_fore selection_at (λ (selection : Selection). record clauses { select = Some selection }) true true selection_fore
-  behind_fore aggs = made_fore (separated (λ number. agg_at)) (λ list. record clauses { aggs = Some list }) true true (separated_fore (λ number. agg_at) (λ n. agg_fore))
-  behind_fore conds = made_fore (separated (λ number. cond_at)) (λ list. record clauses { conds = Some list }) true true (separated_fore (λ number. cond_at) (λ n. cond_fore))
-  behind_fore group =
-      by_fore (λ (by : Tokens). separated any_name_at by >>= (λ r. put (record clauses { group = Some r.0 }) r.1)) (λ (x : Clauses). true) true
-      (made_fore (separated any_name_at) (λ list. record clauses { group = Some list }) true true (separated_fore any_name_at any_name_fore))
-  behind_fore order =
-      by_fore (λ (by : Tokens). separated (λ number. order_key_at) by >>= (λ r. put (record clauses { order = Some r.0 }) r.1)) (λ (x : Clauses). true) true
-      (made_fore (separated (λ number. order_key_at)) (λ list. record clauses { order = Some list }) true true (separated_fore (λ number. order_key_at) (λ n. order_key_fore)))
-  behind_fore format = loosened (behind format) true (made_fore format_at (λ (f : Format). record clauses { format = Some f }) false true format_fore)
+  -- what a clause may go on with, behind what it begins with
+  abbrev lead_token : Lead → Token
+  lead_token lets = name_token
+  lead_token select = name_token
+  lead_token aggs = word (kernel_name kernel.Sum)
+  lead_token conds = name_token
+  lead_token group = key keyword.By
+  lead_token order = key keyword.By
+  lead_token format = word (format_name formats.Expand)
+
+  behind_rule : (lead : Lead) → Loose (behind lead) (lead_token lead)
+  behind_rule lets =
+      made_rule (separated (λ number. let_at)) (λ list. record clauses { lets = Some list }) true true name_token (separated_rule (λ number. let_at) (λ n. name_token) (λ n. loosened let_at true name_token let_rule))
+  behind_rule select = made_rule selection_at (λ (selection : Selection). record clauses { select = Some selection }) true true name_token selection_rule
+  behind_rule aggs =
+      made_rule (separated (λ number. agg_at)) (λ list. record clauses { aggs = Some list }) true true (word (kernel_name kernel.Sum)) (separated_rule (λ number. agg_at) (λ n. word (kernel_name kernel.Sum)) (λ n. agg_rule))
+  behind_rule conds = made_rule (separated (λ number. cond_at)) (λ list. record clauses { conds = Some list }) true true name_token (separated_rule (λ number. cond_at) (λ n. name_token) (λ n. cond_rule))
+  behind_rule group =
+      by_rule (λ (by : Tokens). separated any_name_at by >>= (λ r. put (record clauses { group = Some r.0 }) r.1)) (λ (x : Clauses). true) true name_token
+      (made_rule (separated any_name_at) (λ list. record clauses { group = Some list }) true true name_token (separated_rule any_name_at (λ n. name_token) any_name_rule))
+  behind_rule order =
+      by_rule (λ (by : Tokens). separated (λ number. order_key_at) by >>= (λ r. put (record clauses { order = Some r.0 }) r.1)) (λ (x : Clauses). true) true name_token
+      (made_rule (separated (λ number. order_key_at)) (λ list. record clauses { order = Some list }) true true name_token (separated_rule (λ number. order_key_at) (λ n. name_token) (λ n. order_key_rule)))
+  behind_rule format =
+      loosened (behind format) true (word (format_name formats.Expand)) (made_rule format_at (λ (f : Format). record clauses { format = Some f }) false true (word (format_name formats.Expand)) format_rule)
 
   abbrev lead_of : keywords.Keyword → Result Lead QueryKind
   lead_of keyword.Let = Ok lets
@@ -116,12 +138,24 @@ module _ (clauses : Clauses) where
   led_same (token place (key keyword.Asc) rest) = refl
   led_same (token place (key keyword.Desc) rest) = refl
 
-  clause_fore : Loose (clause_at clauses)
+  clause_fore : Fore (clause_at clauses) (λ (x : Clauses). true) true
   clause_fore =
       same_fore (clause_at clauses) led (λ (x : Clauses). true) true led_same
-      (then_fore (one clause_choice ExpectedClause) behind (λ (x : Clauses). true) true (one_fore clause_choice ExpectedClause) behind_fore)
+      (both_fore (one clause_choice ExpectedClause) behind (λ (x : Lead). false) (λ (x : Lead) (y : Clauses). true) (λ (x : Lead). true) lead_token (λ (y : Clauses). true)
+      (λ x y needs. refl) (λ x y m rest read (none : true ≡ false) needs. refl) (λ x taken (no : false ≡ true). absurd cc)
+      (λ x. (behind_rule x).sample) (one_fore clause_choice ExpectedClause) (λ x. (behind_rule x).fore))
 
 -- ---- all clauses
+
+-- all is read, or a fault is found later
+abbrev EndsWell : Result Clauses Fault → Type 0
+EndsWell (Ok clauses) = Unit {0}
+EndsWell (Err fault) = IsLater fault.kind
+
+record AllEnding (clauses : Clauses) (before : List Token) : Type 0 where
+  more : List Token
+  readable : AllByRecursion IsRead more
+  gives : (most : ℕ) (other rest : Tokens) → count other ≤ most → Row (before ++ more) other rest → is_end rest ≡ true → EndsWell (clauses_within most clauses other)
 
 record AllFailed (clauses : Clauses) (ts : Tokens) (fault : Fault) : Type 0 where
   before : List Token
@@ -134,6 +168,7 @@ record AllFailed (clauses : Clauses) (ts : Tokens) (fault : Fault) : Type 0 wher
   short : (wrong ≡ first_tokens here) ⊎ (IsLater fault.kind × IsSome wrong)
   again : (most : ℕ) (other at left : Tokens) → count other ≤ most → Row before other at → Row wrong at left → IsSome wrong
       → clauses_within most clauses other ≡ Err (refused fault.kind at)
+  goes : AllEnding clauses before
 
 abbrev next_clauses : ℕ → Read Clauses → Result Clauses Fault
 next_clauses most r = r >>= (λ next. clauses_within most next.0 next.1)
@@ -157,6 +192,79 @@ steps most clauses (broken fault) some enough = absurd (omega arith)
 steps zero clauses (token place t rest) some enough = absurd (omega arith)
 steps (suc left) clauses (token place t rest) some enough = record { left = left; one = refl; reads = refl }
 
+end_well : (most : ℕ) (clauses : Clauses) (ts : Tokens) → is_end ts ≡ true → EndsWell (clauses_within most clauses ts)
+end_well most clauses (end place) is = tt
+end_well most clauses (broken fault) is = absurd cc
+end_well most clauses (token place t rest) is = absurd cc
+
+end_calm : (ts : Tokens) → is_end ts ≡ true → Calm ts
+unfolding first_of
+end_calm (end place) is = inl refl
+end_calm (broken fault) is = absurd cc
+end_calm (token place t rest) is = absurd cc
+
+later_well : (left : ℕ) (r : Read Clauses) (rest : Tokens) → Gives None r rest → EndsWell (next_clauses left r)
+later_well left (Ok q) rest later = absurd later
+later_well left (Err fault) rest later = later
+
+-- nothing more is needed where a clause may begin
+nothing_more : (clauses : Clauses) → AllEnding clauses []
+nothing_more clauses = record {
+  more = [];
+  readable = tt;
+  gives = λ most other rest enough row is. end_well most clauses other (ap is_end row ∙ is);
+}
+
+some_count : (t : Token) (a : List Token) (x y : Tokens) → Row (t ∷ a) x y → 1 ≤ count x
+some_count t a x y row = omega (arith, first_count x row.0 t row.1)
+
+clause_goes : (clauses : Clauses) (t : Token) (b : List Token) (e : Ending (clause_at clauses) (λ (x : Clauses). true) (t ∷ b)) (o : Option Clauses) → e.result ≡ o → AllEnding clauses (t ∷ b)
+clause_goes clauses t b e (Some next) is = record {
+  more = e.more;
+  readable = e.readable;
+  gives = λ most other rest enough row ended. (
+      let one : clause_at clauses other ≡ Ok (next, rest) = gives_as (clause_at clauses) (λ (x : Clauses). true) (t ∷ b) e (Some next) is other rest row (λ ahead. end_calm rest ended) in
+      let s = steps most clauses other (some_count t (b ++ e.more) other rest row) enough in
+      subst EndsWell (sym (s.reads ∙ ap (next_clauses s.left) one)) (end_well s.left next rest ended));
+}
+clause_goes clauses t b e None is = record {
+  more = e.more;
+  readable = e.readable;
+  gives = λ most other rest enough row ended. (
+      let one : Gives None (clause_at clauses other) rest = gives_as (clause_at clauses) (λ (x : Clauses). true) (t ∷ b) e None is other rest row (λ (no : ⊥). absurd no) in
+      let s = steps most clauses other (some_count t (b ++ e.more) other rest row) enough in
+      subst EndsWell (sym s.reads) (later_well s.left (clause_at clauses other) rest one));
+}
+
+here_goes : (clauses : Clauses) (b : List Token) → (IsSome b → Ending (clause_at clauses) (λ (x : Clauses). true) b) → AllEnding clauses b
+here_goes clauses [] goes = nothing_more clauses
+here_goes clauses (t ∷ b) goes = (let e = goes tt in clause_goes clauses t b e e.result refl)
+
+-- clauses behind one that was read go on
+behind_goes : (clauses next : Clauses) (ts mid here : Tokens) (a : Taken (clause_at clauses) (λ (x : Clauses). true) true ts next mid) (b : List Token) → Row b mid here
+    → (e : AllEnding next b) → ((at rest : Tokens) → Row (b ++ e.more) at rest → is_end rest ≡ true → Like mid at ⊎ Calm at) → AllEnding clauses (a.before ++ b)
+behind_goes clauses next ts mid here a b row e alike = record {
+  more = e.more;
+  readable = e.readable;
+  gives = λ most other rest enough whole ended. (
+      let all : Row (a.before ++ (b ++ e.more)) other rest = subst (λ (l : List Token). Row l other rest) (append_assoc a.before b e.more) whole in
+      let s = row_split a.before (b ++ e.more) other rest all in
+      let one = a.again other s.0 s.1 (λ needs. alike s.0 rest s.2 ended) in
+      let some = some_length a.before (a.takes refl) in
+      let counted = row_count a.before other s.0 s.1 in
+      let goes = steps most clauses other (omega (arith, some, counted)) enough in
+      subst EndsWell (sym (goes.reads ∙ ap (next_clauses goes.left) one))
+      (e.gives goes.left s.0 rest (omega (arith, some, counted, enough, goes.one)) s.2 ended));
+}
+
+behind_by : (clauses next : Clauses) (ts mid here : Tokens) (a : Taken (clause_at clauses) (λ (x : Clauses). true) true ts next mid) (b : List Token) → Row b mid here
+    → AllEnding next b → AllEnding clauses (a.before ++ b)
+unfolding nothing_more
+behind_by clauses next ts mid here a [] row e =
+    behind_goes clauses next ts mid here a [] row (nothing_more next) (λ at rest same ended. inr (end_calm at (ap is_end same ∙ ended)))
+behind_by clauses next ts mid here a (t ∷ b) row e =
+    behind_goes clauses next ts mid here a (t ∷ b) row e (λ at rest other ended. inl (led_like t b (b ++ e.more) mid here at rest row other))
+
 failed_here : (clauses : Clauses) (ts : Tokens) (fault : Fault) → Failed (clause_at clauses) (λ (x : Clauses). true) true ts fault → AllFailed clauses ts fault
 failed_here clauses ts fault a = record {
   before = a.before;
@@ -170,6 +278,7 @@ failed_here clauses ts fault a = record {
   again = λ most other at left enough row wrong filled. (
       let s = steps most clauses other (some_there a.before a.wrong other at left filled row wrong) enough in
       s.reads ∙ ap (next_clauses s.left) (a.again other at left row wrong filled));
+  goes = here_goes clauses a.before a.goes;
 }
 
 failed_behind : (clauses next : Clauses) (ts mid : Tokens) (fault : Fault) → Taken (clause_at clauses) (λ (x : Clauses). true) true ts next mid → AllFailed next mid fault → AllFailed clauses ts fault
@@ -184,12 +293,13 @@ failed_behind clauses next ts mid fault a c = record {
   short = c.short;
   again = λ most other at left enough row wrong filled. (
       let s = row_split a.before c.before other at row in
-      let one = a.again other s.0 s.1 (λ needs. like_wrong c.before c.wrong mid c.here c.rest s.0 at left filled c.row c.there s.2 wrong) in
+      let one = a.again other s.0 s.1 (λ needs. inl (like_wrong c.before c.wrong mid c.here c.rest s.0 at left filled c.row c.there s.2 wrong)) in
       let some = some_length a.before (a.takes refl) in
       let counted = row_count a.before other s.0 s.1 in
       let goes = steps most clauses other (omega (arith, some, counted)) enough in
       goes.reads ∙ ap (next_clauses goes.left) one
       ∙ c.again goes.left s.0 at left (omega (arith, some, counted, enough, goes.one)) s.2 wrong filled);
+  goes = behind_by clauses next ts mid c.here a c.before c.row c.goes;
 }
 
 module _ (most : ℕ) (clauses : Clauses) (ts : Tokens) (fault : Fault)
@@ -215,6 +325,7 @@ lexical clauses found fault same = record {
   there = refl;
   short = inl refl;
   again = λ most other at left enough row wrong filled. absurd filled;
+  goes = nothing_more clauses;
 }
 
 within_failed : (most : ℕ) (clauses : Clauses) (ts : Tokens) (fault : Fault) → count ts ≤ most → clauses_within most clauses ts ≡ Err fault → AllFailed clauses ts fault
@@ -236,6 +347,32 @@ all_failed : (fault : Fault) (r : Result Clauses Fault) → query_read r ≡ Err
 all_failed fault (Err d) e = ap failing (err_is d fault e)
 all_failed fault (Ok clauses) e = absurd cc
 
+row_of : (ts : List Token) (from to : Tokens) → Come ts from to → Row ts from to
+row_of [] from to come = come
+row_of (t ∷ ts) from to (next, the, come) = (next, the, row_of ts next to come)
+
+says_by : (text : List ℕ) (r : Result Clauses Fault) → reading text ≡ query_read r → EndsWell r
+    → ((query : Query) × Means text query) ⊎ ((fault : Fault) × HasFault text fault × IsLater fault.kind)
+says_by text (Ok clauses) is well = inl (query_of clauses, reading_means text (query_of clauses) is)
+says_by text (Err fault) is well = inr (fault, is, well)
+
+-- the text of tokens that go on well
+begins : (before : List Token) → AllByRecursion IsRead before → AllEnding no_clauses before → BeginSome before
+unfolding all_clauses
+begins before readable e =
+    let all : List Token = before ++ e.more in
+    let text : List ℕ = text_of all in
+    let last : Tokens = end (length text) in
+    let row : Row all (tokens_of text) last = row_of all (tokens_of text) last (text_comes (length text) all (all_append before e.more readable e.readable)) in
+    let s = row_split before e.more (tokens_of text) last row in
+    record {
+      text = text;
+      rest = s.0;
+      row = s.1;
+      says = says_by text (clauses_within (count (tokens_of text)) no_clauses (tokens_of text)) refl
+          (e.gives (count (tokens_of text)) (tokens_of text) last (omega arith) row refl);
+    }
+
 -- where the fault of a text is
 pub found_at : (text : List ℕ) (fault : Fault) → HasFault text fault → IsFoundAt (tokens_of text) fault
 unfolding all_clauses
@@ -246,6 +383,7 @@ found_at text fault has =
       before = a.before;
       here = a.here;
       behind = a.row;
+      front = begins a.before (text_read text a.before a.here a.row) a.goes;
       place = a.is;
       wrong = a.wrong;
       rest = a.rest;
