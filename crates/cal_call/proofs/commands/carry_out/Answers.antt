@@ -5,12 +5,12 @@ use Rattle.cal_call.proofs.commands.carry_out.Goals as goal
 use Rattle.cal_call.proofs.commands.carry_out.Goals.{in-Ok-Query, in-Ok-Gen, in-Err}
 
 -- the sizes that words ask for are within the limits
-pub write_generated-requires-threads : goal.write_generated-requires-threads
-write_generated-requires-threads g c =
+pub write_generated-requires-clause-threads : goal.write_generated-requires-clause-threads
+write_generated-requires-clause-threads g c =
     (subst IsFew (sym c.read_words.ensures ∙ c.in-Ok-Gen.is) (asked_few c.args.words.now)).0
 
-pub write_generated-requires-lines : goal.write_generated-requires-lines
-write_generated-requires-lines g c =
+pub write_generated-requires-clause-lines : goal.write_generated-requires-clause-lines
+write_generated-requires-clause-lines g c =
     (subst IsFew (sym c.read_words.ensures ∙ c.in-Ok-Gen.is) (asked_few c.args.words.now)).1
 
 -- each command's answer, with no journal
