@@ -148,5 +148,8 @@ fn show_entries(alloc: Global, text: &str) -> Result<bool, OutOfMemory> {
 fn boards_show_what_was_opened(rt: HostRuntime) {
     assert_eq!(rt; show_entries(rt.alloc(), ""), Ok(true));
     assert_eq!(rt; show_entries(rt.alloc(), "main"), Ok(true));
-    assert_eq!(rt; show_entries(rt.alloc(), "a text of more than two words"), Ok(true));
+    assert_eq!(rt;
+        show_entries(rt.alloc(), "a text of more than two words"),
+        Ok(true)
+    );
 }

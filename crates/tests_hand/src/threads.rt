@@ -103,7 +103,12 @@ fn work_all<R: Threads + Sync>(rt: &R, alloc: Global, tree: &Tree, workers: &mut
     ensures { All (λ w. IsTreeSeat tree.now w.seat) workers.new }
 {
     let threads = workers.len();
-    thread::for_each_mut(rt, workers, threads, &|_number, worker| work(alloc, tree, worker));
+    thread::for_each_mut(
+        rt,
+        workers,
+        threads,
+        &|_number, worker| work(alloc, tree, worker),
+    );
 }
 
 /// A worker with a seat that is split off from the first one.
@@ -213,10 +218,12 @@ fn have_one_node_each<R: Threads + Sync>(
     drop(first);
     drop(tree);
     let (lists, nodes) = (lists?, nodes?);
-    Ok(made == 100
-        && nodes.len() == 100
-        && lists.len() == count
-        && are_all(lists.as_slice(), &nodes))
+    Ok(
+        made == 100
+            && nodes.len() == 100
+            && lists.len() == count
+            && are_all(lists.as_slice(), &nodes),
+    )
 }
 
 #[test]
