@@ -1,3 +1,5 @@
+ghost use Rattle.std.specs.Prelude.{◌*◌, ◌≤◌};
+
 use cal_gen::generate_script;
 use cal_script::{Line, Script, Ticks};
 use cal_value::Variant;
@@ -60,25 +62,17 @@ fn is_drawn(script: &Script) -> bool {
 }
 
 /// Whether a script of these numbers is generated, and is the wanted one.
-fn generates(alloc: Global, seed: u32, threads: u32, lines: u32) -> bool {
+fn generates(alloc: Global, seed: u32, threads: u32, lines: u32) -> bool
+    requires threads { threads ≤ 64 }
+    requires lines { threads * lines ≤ 1048576 }
+{
     match generate_script(alloc, seed, threads, lines) {
         Ok(script) => is_drawn(&script),
         Err(_) => false,
     }
 }
 
-/// Whether these numbers give no script.
-fn gives_none(alloc: Global, threads: u32, lines: u32) -> bool {
-    generate_script(alloc, 1, threads, lines).is_err()
-}
-
 #[test]
 fn a_script_is_generated_without_its_text(rt: HostRuntime) {
     assert!(rt; generates(rt.alloc(), 38, 2, 6));
-}
-
-#[test]
-fn sizes_past_the_limits_give_no_script(rt: HostRuntime) {
-    assert!(rt; gives_none(rt.alloc(), 65, 1), "a thread too many");
-    assert!(rt; gives_none(rt.alloc(), 64, 16_385), "64 lines too many");
 }
