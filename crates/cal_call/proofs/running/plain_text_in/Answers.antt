@@ -11,7 +11,7 @@ pub returns-clause-text : goal.returns-clause-text
 returns-clause-text c =
     let script = c.args.script.now in
     let rows = run_rows script (plain script) in
-    c.in_ok-text.ensures rows c.in-Ok.ensures.taken
+    c.in_ok-text.ensures.text rows c.in-Ok.ensures.taken
     ∙ (λ j. canonical_text (record {
       rows = rows;
       globals = c.in-Ok.ensures.globals.means j;
