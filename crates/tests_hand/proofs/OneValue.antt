@@ -1,9 +1,10 @@
--- A new board on which one value was opened.
+-- A new board, and one on which one value was opened.
 use Rattle.std.proofs.Common.{◌≡◌, ℕ, ◌<◌, true, false, List, [], ◌∷◌, length, All, Some, refl, sym, subst, arith}
 use Rattle.std.proofs.lemmas.Bool.{true≢false}
 use Rattle.std.proofs.lemmas.List.Elements.{All-cons, All-nil}
 use Rattle.cal_board.specs.Blackboard.{Blackboard, board_after, nothing_open}
 use Rattle.cal_board.specs.PathBoards.{AreKnown}
+use Rattle.cal_board.specs.Standing.{Stands, StandsForSome}
 use Rattle.cal_board.specs.declared.attr.AttrRef.{AttrRef}
 use Rattle.cal_board.specs.declared.opened.Opened.{Opened}
 use Rattle.cal_board.specs.declared.opened.Slot.{Slot}
@@ -11,6 +12,7 @@ use Rattle.cal_board.specs.declared.reply.BoardReply as replies
 use Rattle.cal_board.specs.declared.reply.BoardReply.TheVariants as reply
 use Rattle.cal_hand.specs.Boards.{Replies}
 use Rattle.cal_hand.specs.Lasts.{HoldsLast}
+use Rattle.cal_hand.specs.Nodes.{NodeAt}
 use Rattle.cal_once.specs.declared.seat.RowSeat.{RowSeat}
 use Rattle.cal_tree.specs.declared.tree.Tree.{Tree}
 use Rattle.cal_value.specs.declared.attribute.Attribute.{Attribute}
@@ -18,6 +20,15 @@ use Rattle.cal_value.specs.declared.variant.Variant.{Variant}
 use Rattle.cal_words.specs.declared.node.NodeId.{NodeId}
 use Rattle.cal_words.specs.declared.op.OpCode.TheVariants as code
 use Rattle.cal_words.specs.declared.sort.NodeSort.{NodeSort}
+
+-- a new board stands for one on which nothing is open
+pub new_stands : (tree : Tree) (seat : RowSeat NodeSort) (held : Blackboard NodeId)
+    → held ≡ nothing_open → StandsForSome (NodeAt tree seat) held
+new_stands tree seat held fresh = (
+  nothing_open,
+  subst (λ (h : Blackboard NodeId). Stands (NodeAt tree seat) h nothing_open) (sym fresh)
+      (record { references = tt; as_values = refl }),
+)
 
 -- an as-value attribute, and a nested one
 abbrev pub shown : AttrRef

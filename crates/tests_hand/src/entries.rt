@@ -1,4 +1,5 @@
 ghost use Rattle.std.specs.Prelude.{◌≡◌, ◌^◌, ◌<◌, IfOk, length};
+ghost use Rattle.cal_hand.specs.Nodes.{IsPlain};
 ghost use Rattle.cal_tree.specs.Seats.{IsTreeSeat};
 ghost use Rattle.cal_words.specs.Words.{text_length};
 
@@ -49,19 +50,22 @@ fn attributes(alloc: Global) -> Result<Seq<Attribute>, OutOfMemory>
     Ok(attrs)
 }
 
-/// The immediates of a board whose only value is 7 for `iteration`, and the last entry there.
-fn entries_at_7(
+/// The immediates of a board whose only value is this one of `iteration`, and the last entry there.
+fn entries_of_iteration(
     alloc: Global,
     tree: &Tree,
     seat: &mut TreeSeat,
     attrs: &Seq<Attribute>,
+    value: &Variant,
 ) -> Result<(Seq<Entry>, Entry), OutOfMemory>
     requires seat { IsTreeSeat tree.now seat.old }
     requires attrs { length attrs.now ≡ 2 }
+    requires text { text_length value.now < 2 ^ 32 }
+    requires plain { IsPlain value.now }
     ensures { IsTreeSeat tree.now seat.new }
 {
     let mut board = SharedBoard::new(alloc)?;
-    let _ = board.set(tree, seat, ITERATION, &Variant::Int(7));
+    let _ = board.set(tree, seat, ITERATION, value);
     let mut entries = Seq::new(alloc);
     board.immediates(attrs, &mut entries)?;
     let last = board.last(alloc, tree, seat, attrs, ITERATION)?;
@@ -80,7 +84,7 @@ fn shows_7(
     requires attrs { length attrs.now ≡ 2 }
     ensures { IsTreeSeat tree.now seat.new }
 {
-    let (entries, last) = entries_at_7(alloc, tree, seat, attrs)?;
+    let (entries, last) = entries_of_iteration(alloc, tree, seat, attrs, &Variant::Int(7))?;
     let wanted = Entry {
         attr: iteration(alloc)?,
         value: Variant::Int(7),
