@@ -240,12 +240,12 @@ module _ (script : Script) (journal : Journal) (ths : List Reached) (n : ℕ) (x
   -- ---- the whole line
 
   module _ (at : get_or ths x.thread (behind 0) ≡ behind n) (h : List Placed) where
-    first_if : (shared looking : Bool) → List events.Event
+    abbrev first_if : (shared looking : Bool) → List events.Event
     first_if shared looking = if shared then event.Place x.thread x.number ∷ []
         else (if looking then event.Look x.thread x.number ∷ [] else [])
 
     -- the nodes of the line
-    line_nodes : List events.Event
+    abbrev line_nodes : List events.Event
     line_nodes = flat_map (placed_nodes script journal x.thread)
         (slice_range journal.ops x.before (seen_before script x))
         ++ node_if x.thread (needs_node script x.line x.note)
@@ -256,7 +256,7 @@ module _ (script : Script) (journal : Journal) (ths : List Reached) (n : ℕ) (x
         (slice_range journal.ops x.before (seen_before script x)))
         (nodes-if x.thread (needs_node script x.line x.note))
 
-    last : events.Event
+    abbrev last : events.Event
     last = end_event x x.line
 
     ends-so : EndsLine x last

@@ -190,7 +190,7 @@ pub record KnownLine (script : Script) (p : Placed) : Type 0 where
 known-line : (script : Script) (p : Placed) → IsKnown script p → KnownLine script p
 known-line script p known = by (p.line == 0) refl known
   where
-    of : List Line
+    abbrev of : List Line
     of = get_or script.threads p.thread []
 
     found : (o : Option Line) → slice_get of (p.line - 1) ≡ o → 0 < p.line
@@ -219,7 +219,7 @@ module _ (script : Script) (journal : Journal) (lawful : Lawful script journal) 
   lists-are = threads-are script journal 0 [] (zip script.threads journal.threads) refl refl
       (lawful-read script journal lawful).order
 
-  are-placed : ArePlaced script journal.ops 0 (turns_by_thread script journal)
+  pub are-placed : ArePlaced script journal.ops 0 (turns_by_thread script journal)
   are-placed = places-are script journal 0 (zip script.threads journal.threads)
       (lawful-read script journal lawful).order lawful.own
 

@@ -8,3 +8,5 @@ pub mod PlaceLemmas
 pub mod HistoryLemmas
 pub mod JournalLemmas
 pub mod RunLemmas
+pub mod ReplyLemmas
+pub mod FrontLemmas

@@ -5,6 +5,10 @@ use Rattle.std.specs.Prelude.{Option, Some, None, flat_map, slice_get, slice_ran
 use Rattle.std.proofs.lemmas.Bool.{cases_lt}
 use Rattle.std.proofs.lemmas.List.{drop_all, drop_more, take_all}
 use Rattle.std.proofs.lemmas.Option.{slice_get-get_or, slice_get_past}
+use Rattle.cal_script.specs.declared.journal.Journal.{Journal}
+use Rattle.cal_script.specs.declared.journal.Placed.{Placed}
+use Rattle.cal_script.specs.declared.script.Script.{Script}
+use Rattle.cal_world.specs.Events.{nodes_at, placed_nodes}
 
 module _ {A B : Type 0} (f : A → List B) where
   -- what the item of a place gives, if there is one
@@ -77,3 +81,9 @@ module _ {A B : Type 0} (f : A → List B) where
       sym (append-nil had)
       ∙ ap (λ ys. had ++ flat_map f ys) (sym (drop_all i xs past))
       ∙ so_far
+
+-- what the operation of a place needs
+pub nodes-at : (script : Script) (journal : Journal) (thread : ℕ) (o : Option Placed)
+    → nodes_at script journal thread o ≡ at_place (placed_nodes script journal thread) o
+nodes-at script journal thread None = refl
+nodes-at script journal thread (Some p) = refl

@@ -16,10 +16,10 @@ use Rattle.cal_world.specs.Turns.{turns, turns_by_seen, turns_by_thread, turns_i
 use Rattle.cal_world.specs.declared.turn.Turn.{Turn}
 
 module _ (script : Script) (journal : Journal) (lawful : Lawful script journal) where
-  lists : List (List Turn)
+  abbrev lists : List (List Turn)
   lists = turns_by_thread script journal
 
-  last : ℕ
+  abbrev last : ℕ
   last = (length journal.ops + 1) * 2
 
   order-is : turns_in_order script journal ≡ by_key script (all_of script journal lists) 0 last

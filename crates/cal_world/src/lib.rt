@@ -15,6 +15,6 @@ mod sorting;
 mod turn;
 
 pub use event::Event;
-pub use laws::schedule_law;
+pub use laws::{history_law, replies_law, schedule_law};
 pub use scheduling::schedule;
 pub use turn::Turn;
