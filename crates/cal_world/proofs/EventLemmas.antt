@@ -40,11 +40,11 @@ nodes-append : (t : ℕ) (xs ys : List events.Event) → AreNodes t xs → AreNo
 nodes-append t [] ys a b = b
 nodes-append t (x ∷ xs) ys a b = (a.0, nodes-append t xs ys a.1 b)
 
-nodes-if : (t : ℕ) (needed : Bool) → AreNodes t (node_if t needed)
+pub nodes-if : (t : ℕ) (needed : Bool) → AreNodes t (node_if t needed)
 nodes-if t true = (refl, tt)
 nodes-if t false = tt
 
-nodes-of : (script : Script) (journal : Journal) (t : ℕ) (ps : List Placed)
+pub nodes-of : (script : Script) (journal : Journal) (t : ℕ) (ps : List Placed)
     → AreNodes t (flat_map (placed_nodes script journal t) ps)
 nodes-of script journal t [] = tt
 nodes-of script journal t (p ∷ ps) =
@@ -358,7 +358,7 @@ module _ (script : Script) (journal : Journal) where
   lines-run h ns [] follow finds = record { next = tt; ends = refl }
   lines-run h ns (x ∷ xs) follow finds =
       let n : ℕ = get_or ns x.thread 0 in
-      let long = length-map behind ns in
+      let long = length-map ns behind in
       let below : x.thread < length (map behind ns) =
       (let inside = follow.0 in omega (arith, long, inside)) in
       let one = line-run script journal (map behind ns) n x below follow.1

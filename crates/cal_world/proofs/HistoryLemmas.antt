@@ -45,15 +45,13 @@ module _ (script : Script) (journal : Journal) where
   others-run : (h : List Placed) (s : ℕ) (ts : List Turn) → length h ≡ s
       → HistoryRun h (filter (has_seen script false s) ts) h
   others-run h s [] long = record { finds = tt; ends = refl }
-  others-run h s (x ∷ ts) long = by (has_seen script false s x) refl
+  others-run h s (x ∷ ts) long = by (others-run h s ts long) (has_seen script false s x) refl
     where
-      rest : HistoryRun h (filter (has_seen script false s) ts) h
-      rest = others-run h s ts long
-
-      by : (b : Bool) → has_seen script false s x ≡ b
+      by : HistoryRun h (filter (has_seen script false s) ts) h
+          → (b : Bool) → has_seen script false s x ≡ b
           → HistoryRun h (cond b (x ∷ filter (has_seen script false s) ts)
           (filter (has_seen script false s) ts)) h
-      by true e =
+      by rest true e =
           let parts = and_parts (x.note.seen == s) (not (is_process_line script x.line)) e in
           let other : is_process_line script x.line ≡ false = not-true _ parts.1 in
           let seen : x.note.seen ≡ s = eqb-true x.note.seen s parts.0 in
@@ -69,7 +67,7 @@ module _ (script : Script) (journal : Journal) where
             ends = ap (λ k. history_behind script journal k (filter (has_seen script false s) ts))
                 same ∙ rest.ends;
           }
-      by false e = rest
+      by rest false e = rest
 
   -- of the lines that have seen so much, one is a process line, and it is the last that they have
   -- seen

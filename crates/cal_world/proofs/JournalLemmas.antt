@@ -39,7 +39,7 @@ module _ (script : Script) (journal : Journal) where
   -- ---- the lines of a thread
 
   of-from : (t n before : ℕ) (ls : List (Line × LineNote))
-      → AreOf script journal t (turns_from t n before ls)
+      → AreOf t (turns_from t n before ls)
   of-from t n before [] = tt
   of-from t n before (l ∷ ls) = (refl, of-from t (n + 1) l.1.seen ls)
 
@@ -146,7 +146,7 @@ module _ (script : Script) (journal : Journal) where
 
   -- no line is below the first key, and each is below the last one
   starts-are : (k : ℕ) (ps : List (List Line × ThreadNote)) → All InOrder ps
-      → map behind (counts_below script journal 0 (lists_from k ps))
+      → map behind (counts_below script 0 (lists_from k ps))
       ≡ map (λ (ts : List Turn). behind 0) (lists_from k ps)
   starts-are k [] order = refl
   starts-are k (p ∷ ps) order =
@@ -157,7 +157,7 @@ module _ (script : Script) (journal : Journal) where
       ∷ starts-are (k + 1) ps (all-rest InOrder p ps order) j
 
   ends-are : (k : ℕ) (ps : List (List Line × ThreadNote)) → All InOrder ps
-      → map behind (counts_below script journal ((length journal.ops + 1) * 2) (lists_from k ps))
+      → map behind (counts_below script ((length journal.ops + 1) * 2) (lists_from k ps))
       ≡ map (λ (ts : List Turn). behind (length ts)) (lists_from k ps)
   ends-are k [] order = refl
   ends-are k (p ∷ ps) order =
@@ -190,10 +190,7 @@ pub record KnownLine (script : Script) (p : Placed) : Type 0 where
 known-line : (script : Script) (p : Placed) → IsKnown script p → KnownLine script p
 known-line script p known = by (p.line == 0) refl known
   where
-    abbrev of : List Line
-    of = get_or script.threads p.thread []
-
-    found : (o : Option Line) → slice_get of (p.line - 1) ≡ o → 0 < p.line
+    found : (o : Option Line) → slice_get (get_or script.threads p.thread []) (p.line - 1) ≡ o → 0 < p.line
         → names_process_line script o ≡ true → KnownLine script p
     found None e some is = absurd (let no : false ≡ true = is in cc)
     found (Some l) e some is = record {
@@ -201,17 +198,18 @@ known-line script p known = by (p.line == 0) refl known
       some = some;
       within = ⊎_elim (λ less. less)
           (λ past. absurd (let none = ap length (get_or_past script.threads p.thread [] past) in
-          let inside = slice_get_within of (p.line - 1) l e in omega (arith, none, inside)))
+          let inside = slice_get_within (get_or script.threads p.thread []) (p.line - 1) l e in omega (arith, none, inside)))
           (cases_lt p.thread (length script.threads));
       there = e;
       shared = is;
     }
 
     by : (b : Bool) → (p.line == 0) ≡ b
-        → names_process_line script (if b then None else slice_get of (p.line - 1)) ≡ true
+        → names_process_line script (if b then None
+        else slice_get (get_or script.threads p.thread []) (p.line - 1)) ≡ true
         → KnownLine script p
     by true e is = absurd (let no : false ≡ true = is in cc)
-    by false e is = found (slice_get of (p.line - 1)) refl
+    by false e is = found (slice_get (get_or script.threads p.thread []) (p.line - 1)) refl
         (omega (arith, eqb-false p.line 0 e)) is
 
 module _ (script : Script) (journal : Journal) (lawful : Lawful script journal) where
@@ -223,15 +221,15 @@ module _ (script : Script) (journal : Journal) (lawful : Lawful script journal) 
   are-placed = places-are script journal 0 (zip script.threads journal.threads)
       (lawful-read script journal lawful).order lawful.own
 
-  pub all-turns : turns script journal ≡ all_of script journal (turns_by_thread script journal)
+  pub all-turns : turns script journal ≡ all_of (turns_by_thread script journal)
   all-turns = sym (flat_map-map (λ (xs : List Turn). xs) turns_of
       (enumerate_from 0 (zip script.threads journal.threads)))
 
   seen-rows : (s : ℕ) → filter (has_seen script true s) (turns script journal)
-      ≡ keyed script (s * 2) (all_of script journal (turns_by_thread script journal))
+      ≡ keyed script (s * 2) (all_of (turns_by_thread script journal))
   seen-rows s = ap (filter (has_seen script true s)) all-turns
       ∙ (λ j. filter (λ x. seen-key script true s x j)
-      (all_of script journal (turns_by_thread script journal)))
+      (all_of (turns_by_thread script journal)))
 
   pub no-row : filter (has_seen script true 0) (turns script journal) ≡ []
   no-row = seen-rows 0

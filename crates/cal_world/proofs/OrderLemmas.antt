@@ -89,11 +89,11 @@ module _ (script : Script) where
   pub below-next : (k m : ℕ) (xs : List Turn) → Rises m xs
       → below (k + 1) xs ≡ below k xs ++ keyed k xs
   below-next k m [] rises = refl
-  below-next k m (x ∷ xs) rises = ⊎_elim equal (⊎_elim less more) (cases_order (key x) k)
+  below-next k m (x ∷ xs) rises =
+      let rest : below (k + 1) xs ≡ below k xs ++ keyed k xs =
+      below-next k (key x) xs rises.2 in
+      ⊎_elim (equal rest) (⊎_elim (less rest) (more rest)) (cases_order (key x) k)
     where
-      rest : below (k + 1) xs ≡ below k xs ++ keyed k xs
-      rest = below-next k (key x) xs rises.2
-
       by : (next now here : Bool) → nat_lt (key x) (k + 1) ≡ next → nat_lt (key x) k ≡ now
           → (key x == k) ≡ here
           → cond next (x ∷ below (k + 1) xs) (below (k + 1) xs)
@@ -105,8 +105,9 @@ module _ (script : Script) where
           ∙ sym (λ j. cond (eo j) (x ∷ below k xs) (below k xs)
           ++ cond (eh j) (x ∷ keyed k xs) (keyed k xs))
 
-      equal : key x ≡ k → below (k + 1) (x ∷ xs) ≡ below k (x ∷ xs) ++ keyed k (x ∷ xs)
-      equal e =
+      equal : below (k + 1) xs ≡ below k xs ++ keyed k xs → key x ≡ k
+          → below (k + 1) (x ∷ xs) ≡ below k (x ∷ xs) ++ keyed k (x ∷ xs)
+      equal rest e =
           let none : below k xs ≡ [] = none-below k (key x) xs (omega (arith, e)) rises.2 in
           by true false true (lt-ltb (key x) (k + 1) (omega (arith, e)))
           (le-ltb (key x) k (omega (arith, e))) (eq-eqb (key x) k e)
@@ -114,23 +115,24 @@ module _ (script : Script) where
           ∙ ap (λ ys. x ∷ (ys ++ keyed k xs)) none
           ∙ ap (λ ys. ys ++ x ∷ keyed k xs) (sym none))
 
-      less : key x < k → below (k + 1) (x ∷ xs) ≡ below k (x ∷ xs) ++ keyed k (x ∷ xs)
-      less l = by true true false (lt-ltb (key x) (k + 1) (omega (arith, l)))
+      less : below (k + 1) xs ≡ below k xs ++ keyed k xs → key x < k
+          → below (k + 1) (x ∷ xs) ≡ below k (x ∷ xs) ++ keyed k (x ∷ xs)
+      less rest l = by true true false (lt-ltb (key x) (k + 1) (omega (arith, l)))
           (lt-ltb (key x) k l) (ne_eqb (key x) k (λ e. omega (arith, l, e)))
           (ap (λ ys. x ∷ ys) rest)
 
-      more : k < key x → below (k + 1) (x ∷ xs) ≡ below k (x ∷ xs) ++ keyed k (x ∷ xs)
-      more m = by false false false (le-ltb (key x) (k + 1) (omega (arith, m)))
+      more : below (k + 1) xs ≡ below k xs ++ keyed k xs → k < key x
+          → below (k + 1) (x ∷ xs) ≡ below k (x ∷ xs) ++ keyed k (x ∷ xs)
+      more rest m = by false false false (le-ltb (key x) (k + 1) (omega (arith, m)))
           (le-ltb (key x) k (omega (arith, m))) (ne_eqb (key x) k (λ e. omega (arith, m, e)))
           rest
 
   pub below-above : (k m : ℕ) (xs : List Turn) → Rises m xs → xs ≡ below k xs ++ above k xs
   below-above k m [] rises = refl
-  below-above k m (x ∷ xs) rises = ⊎_elim less past (cases_lt (key x) k)
+  below-above k m (x ∷ xs) rises =
+      let rest : xs ≡ below k xs ++ above k xs = below-above k (key x) xs rises.2 in
+      ⊎_elim (less rest) (past rest) (cases_lt (key x) k)
     where
-      rest : xs ≡ below k xs ++ above k xs
-      rest = below-above k (key x) xs rises.2
-
       by : (now : Bool) → nat_lt (key x) k ≡ now
           → x ∷ xs ≡ cond now (x ∷ below k xs) (below k xs)
           ++ cond (not now) (x ∷ above k xs) (above k xs)
@@ -138,11 +140,11 @@ module _ (script : Script) where
       by now eo e = e ∙ sym (λ j. cond (eo j) (x ∷ below k xs) (below k xs)
           ++ cond (not (eo j)) (x ∷ above k xs) (above k xs))
 
-      less : key x < k → x ∷ xs ≡ below k (x ∷ xs) ++ above k (x ∷ xs)
-      less l = by true (lt-ltb (key x) k l) (ap (λ ys. x ∷ ys) rest)
+      less : xs ≡ below k xs ++ above k xs → key x < k → x ∷ xs ≡ below k (x ∷ xs) ++ above k (x ∷ xs)
+      less rest l = by true (lt-ltb (key x) k l) (ap (λ ys. x ∷ ys) rest)
 
-      past : k ≤ key x → x ∷ xs ≡ below k (x ∷ xs) ++ above k (x ∷ xs)
-      past p =
+      past : xs ≡ below k xs ++ above k xs → k ≤ key x → x ∷ xs ≡ below k (x ∷ xs) ++ above k (x ∷ xs)
+      past rest p =
           let none : below k xs ≡ [] = none-below k (key x) xs p rises.2 in
           by false (le-ltb (key x) k p)
           (ap (λ ys. x ∷ ys) (rest ∙ ap (λ ys. ys ++ above k xs) none)
@@ -179,6 +181,19 @@ module _ (script : Script) where
 
 -- ---- the lines of threads
 
+-- lines of one thread
+abbrev pub AreOf : ℕ → List Turn → Type 0
+AreOf t [] = Unit {0}
+AreOf t (x ∷ xs) = (x.thread ≡ t) × AreOf t xs
+
+-- the lines of all threads, in order
+abbrev pub all_of : List (List Turn) → List Turn
+all_of lists = flat_map (λ (xs : List Turn). xs) lists
+
+-- how many lines of each are below a key
+abbrev pub counts_below : Script → ℕ → List (List Turn) → List ℕ
+counts_below script k lists = map (count_below script k) lists
+
 module _ (script : Script) (journal : Journal) where
   lines-append : (ns : List ℕ) (xs ys : List Turn) → LinesFollow script journal ns xs
       → LinesFollow script journal (lines_behind script journal ns xs) ys
@@ -207,18 +222,14 @@ module _ (script : Script) (journal : Journal) where
         ∙ ap (λ ks. lines_behind script journal ks ys) one.ends ∙ two.ends;
   }
 
-  -- lines of one thread
-  abbrev pub AreOf : ℕ → List Turn → Type 0
-  AreOf t [] = Unit {0}
-  AreOf t (x ∷ xs) = (x.thread ≡ t) × AreOf t xs
-
   kept-of : (test : Turn → Bool) (t : ℕ) (xs : List Turn) → AreOf t xs → AreOf t (filter test xs)
   kept-of test t [] of = tt
-  kept-of test t (x ∷ xs) of = by (test x)
+  kept-of test t (x ∷ xs) of = by (kept-of test t xs of.1) (test x)
     where
-      by : (b : Bool) → AreOf t (cond b (x ∷ filter test xs) (filter test xs))
-      by true = (of.0, kept-of test t xs of.1)
-      by false = kept-of test t xs of.1
+      by : AreOf t (filter test xs) → (b : Bool)
+          → AreOf t (cond b (x ∷ filter test xs) (filter test xs))
+      by rest true = (of.0, rest)
+      by rest false = rest
 
   -- a part of a thread's lines, behind those before it
   block-run : (t : ℕ) (all front part back : List Turn) (pre rest : List ℕ)
@@ -270,59 +281,53 @@ module _ (script : Script) (journal : Journal) where
   AreThreads t (xs ∷ more) = (slice_get (turns_by_thread script journal) t ≡ Some xs)
       × Rises script 0 xs × AreOf t xs × AreThreads (t + 1) more
 
-  abbrev pub all_of : List (List Turn) → List Turn
-  all_of lists = flat_map (λ (xs : List Turn). xs) lists
-
-  abbrev pub counts_below : ℕ → List (List Turn) → List ℕ
-  counts_below k lists = map (count_below script k) lists
-
   -- the lines of one key, thread by thread
   round-run : (k t : ℕ) (lists : List (List Turn)) (pre : List ℕ) → AreThreads t lists
       → length pre ≡ t
-      → LinesRun (pre ++ counts_below k lists) (keyed script k (all_of lists))
-      (pre ++ counts_below (k + 1) lists)
+      → LinesRun (pre ++ counts_below script k lists) (keyed script k (all_of lists))
+      (pre ++ counts_below script (k + 1) lists)
   round-run k t [] pre are long = record { follow = tt; ends = refl }
   round-run k t (xs ∷ lists) pre are long =
       let next = below-next script k 0 xs are.1 in
       let whole : xs ≡ (below script k xs ++ keyed script k xs) ++ above script (k + 1) xs =
       below-above script (k + 1) 0 xs are.1 ∙ ap (λ ys. ys ++ above script (k + 1) xs) next in
       let n : ℕ = count_below script (k + 1) xs in
-      let one : LinesRun (pre ++ count_below script k xs ∷ counts_below k lists)
-      (keyed script k xs) (pre ++ n ∷ counts_below k lists) =
-      subst (λ ys. LinesRun (pre ++ count_below script k xs ∷ counts_below k lists)
-      (keyed script k xs) (pre ++ length ys ∷ counts_below k lists)) (sym next)
+      let one : LinesRun (pre ++ count_below script k xs ∷ counts_below script k lists)
+      (keyed script k xs) (pre ++ n ∷ counts_below script k lists) =
+      subst (λ ys. LinesRun (pre ++ count_below script k xs ∷ counts_below script k lists)
+      (keyed script k xs) (pre ++ length ys ∷ counts_below script k lists)) (sym next)
       (block-run t xs (below script k xs) (keyed script k xs) (above script (k + 1) xs) pre
-      (counts_below k lists) whole are.0 (kept-of (at_key script k) t xs are.2) long) in
-      let two : LinesRun ((pre ++ n ∷ []) ++ counts_below k lists) (keyed script k (all_of lists))
-      ((pre ++ n ∷ []) ++ counts_below (k + 1) lists) =
+      (counts_below script k lists) whole are.0 (kept-of (at_key script k) t xs are.2) long) in
+      let two : LinesRun ((pre ++ n ∷ []) ++ counts_below script k lists) (keyed script k (all_of lists))
+      ((pre ++ n ∷ []) ++ counts_below script (k + 1) lists) =
       round-run k (t + 1) lists (pre ++ n ∷ []) are.3 (length_push pre n ∙ ap (λ i. i + 1) long)
       in
-      let both : LinesRun (pre ++ count_below script k xs ∷ counts_below k lists)
+      let both : LinesRun (pre ++ count_below script k xs ∷ counts_below script k lists)
       (keyed script k xs ++ keyed script k (all_of lists))
-      (pre ++ n ∷ counts_below (k + 1) lists) =
-      lines_run-append _ (pre ++ n ∷ counts_below k lists) _ (keyed script k xs)
+      (pre ++ n ∷ counts_below script (k + 1) lists) =
+      lines_run-append _ (pre ++ n ∷ counts_below script k lists) _ (keyed script k xs)
       (keyed script k (all_of lists)) one
-      (subst (λ ks. LinesRun ks (keyed script k (all_of lists)) (pre ++ n ∷ counts_below (k + 1) lists))
-      (append_assoc pre (n ∷ []) (counts_below k lists))
-      (subst (λ ks. LinesRun ((pre ++ n ∷ []) ++ counts_below k lists) (keyed script k (all_of lists)) ks)
-      (append_assoc pre (n ∷ []) (counts_below (k + 1) lists)) two)) in
-      subst (λ ys. LinesRun (pre ++ count_below script k xs ∷ counts_below k lists) ys
-      (pre ++ n ∷ counts_below (k + 1) lists))
+      (subst (λ ks. LinesRun ks (keyed script k (all_of lists)) (pre ++ n ∷ counts_below script (k + 1) lists))
+      (append_assoc pre (n ∷ []) (counts_below script k lists))
+      (subst (λ ks. LinesRun ((pre ++ n ∷ []) ++ counts_below script k lists) (keyed script k (all_of lists)) ks)
+      (append_assoc pre (n ∷ []) (counts_below script (k + 1) lists)) two)) in
+      subst (λ ys. LinesRun (pre ++ count_below script k xs ∷ counts_below script k lists) ys
+      (pre ++ n ∷ counts_below script (k + 1) lists))
       (sym (filter-append (at_key script k) xs (all_of lists))) both
 
   -- the lines of so many keys
   pub keys-run : (lists : List (List Turn)) → AreThreads 0 lists → (k count : ℕ)
-      → LinesRun (counts_below k lists) (by_key script (all_of lists) k count)
-      (counts_below (k + count) lists)
+      → LinesRun (counts_below script k lists) (by_key script (all_of lists) k count)
+      (counts_below script (k + count) lists)
   keys-run lists are k zero = record {
     follow = tt;
-    ends = ap (λ m. counts_below m lists) (let e : k ≡ k + 0 = omega arith in e);
+    ends = ap (λ m. counts_below script m lists) (let e : k ≡ k + 0 = omega arith in e);
   }
   keys-run lists are k (suc count) =
       let e : k + 1 + count ≡ k + suc count = omega arith in
-      lines_run-append (counts_below k lists) (counts_below (k + 1) lists) _
+      lines_run-append (counts_below script k lists) (counts_below script (k + 1) lists) _
       (keyed script k (all_of lists)) (by_key script (all_of lists) (k + 1) count)
       (round-run k 0 lists [] are refl)
-      (subst (λ m. LinesRun (counts_below (k + 1) lists)
-      (by_key script (all_of lists) (k + 1) count) (counts_below m lists)) e
+      (subst (λ m. LinesRun (counts_below script (k + 1) lists)
+      (by_key script (all_of lists) (k + 1) count) (counts_below script m lists)) e
       (keys-run lists are (k + 1) count))

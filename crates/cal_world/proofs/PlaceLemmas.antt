@@ -33,15 +33,13 @@ number_if script l = if is_process_line script l.1 then Some l.0 else None
 pub process-rise : (script : Script) (n : ℕ) (ls : List Line)
     → NumbersRise n (filter_map (number_if script) (enumerate_from n ls))
 process-rise script n [] = tt
-process-rise script n (l ∷ ls) = by (is_process_line script l)
+process-rise script n (l ∷ ls) = by (process-rise script (n + 1) ls) (is_process_line script l)
   where
-    rest : NumbersRise (n + 1) (filter_map (number_if script) (enumerate_from (n + 1) ls))
-    rest = process-rise script (n + 1) ls
-
-    by : (b : Bool) → NumbersRise n (cons_option (if b then Some n else None)
+    by : NumbersRise (n + 1) (filter_map (number_if script) (enumerate_from (n + 1) ls))
+        → (b : Bool) → NumbersRise n (cons_option (if b then Some n else None)
         (filter_map (number_if script) (enumerate_from (n + 1) ls)))
-    by true = (omega arith, rest)
-    by false = rise-sooner n (n + 1) _ (omega arith) rest
+    by rest true = (omega arith, rest)
+    by rest false = rise-sooner n (n + 1) _ (omega arith) rest
 
 abbrev line_if : ℕ → Placed → Option ℕ
 line_if t p = if p.thread == t then Some p.line else None
@@ -60,13 +58,15 @@ module _ (t : ℕ) (p : Placed) (of : p.thread ≡ t) where
       (placed_of t ops))) yes rise in
       let less : n ≤ q.line = here.0 in
       subst (λ (o : Placed). n ≤ o.line) same less
-  not-sooner n (q ∷ ops) (suc i) rise is = by (q.thread == t) rise
+  not-sooner n (q ∷ ops) (suc i) rise is =
+      by (λ m up. not-sooner m ops i up is) (q.thread == t) rise
     where
-      by : (b : Bool) → NumbersRise n (cons_option (if b then Some q.line else None)
-          (placed_of t ops)) → n ≤ p.line
-      by true up = (let less = up.0 in let rest = not-sooner (q.line + 1) ops i up.1 is in omega
-          (arith, less, rest))
-      by false up = not-sooner n ops i up is
+      by : ((m : ℕ) → NumbersRise m (placed_of t ops) → m ≤ p.line) → (b : Bool)
+          → NumbersRise n (cons_option (if b then Some q.line else None) (placed_of t ops))
+          → n ≤ p.line
+      by rest true up = (let less = up.0 in let more = rest (q.line + 1) up.1 in omega
+          (arith, less, more))
+      by rest false up = rest n up
 
   first-only : (n : ℕ) (ops : List Placed) (i : ℕ) → NumbersRise n (placed_of t (p ∷ ops))
       → slice_get ops i ≡ Some p → ⊥
@@ -90,12 +90,14 @@ module _ (t : ℕ) (p : Placed) (of : p.thread ≡ t) where
       let same : q ≡ p = (let e : Some q ≡ Some p = b in cc) in
       absurd (first-only n ops i
       (subst (λ (o : Placed). NumbersRise n (placed_of t (o ∷ ops))) same rise) a)
-  one-place n (q ∷ ops) (suc i) (suc j) rise a b = ap suc (by (q.thread == t) rise)
+  one-place n (q ∷ ops) (suc i) (suc j) rise a b =
+      ap suc (by (λ m up. one-place m ops i j up a b) (q.thread == t) rise)
     where
-      by : (c : Bool) → NumbersRise n (cons_option (if c then Some q.line else None)
-          (placed_of t ops)) → i ≡ j
-      by true up = one-place (q.line + 1) ops i j up.1 a b
-      by false up = one-place n ops i j up a b
+      by : ((m : ℕ) → NumbersRise m (placed_of t ops) → i ≡ j) → (c : Bool)
+          → NumbersRise n (cons_option (if c then Some q.line else None) (placed_of t ops))
+          → i ≡ j
+      by rest true up = rest (q.line + 1) up.1
+      by rest false up = rest n up
 
 -- ---- the lines of a key
 
@@ -170,17 +172,15 @@ module _ (script : Script) where
       (eq-eqb (key script y) (s * 2) ey)
       ∙ ap (λ ys. y ∷ ys) (none-behind s (key script y) xs (omega (arith, ey)) rises.2)
       ∙ ap (λ z. z ∷ []) same
-  one-keyed s m (suc i) (y ∷ xs) x rises is e = by (key script y == s * 2) refl
+  one-keyed s m (suc i) (y ∷ xs) x rises is e =
+      by (one-keyed s (key script y) i xs x rises.2 is e) (key script y == s * 2) refl
     where
-      rest : keyed script (s * 2) xs ≡ x ∷ []
-      rest = one-keyed s (key script y) i xs x rises.2 is e
-
-      by : (b : Bool) → (key script y == s * 2) ≡ b → keyed script (s * 2) (y ∷ xs) ≡ x ∷ []
-      by true eb =
+      by : keyed script (s * 2) xs ≡ x ∷ [] → (b : Bool) → (key script y == s * 2) ≡ b → keyed script (s * 2) (y ∷ xs) ≡ x ∷ []
+      by rest true eb =
           let ey : key script y ≡ s * 2 = eqb-true (key script y) (s * 2) eb in
           let none = none-behind s (key script y) xs (omega (arith, ey)) rises.2 in
           absurd (let no : [] ≡ x ∷ [] = sym none ∙ rest in cc)
-      by false eb = ap (λ b. cond b (y ∷ keyed script (s * 2) xs) (keyed script (s * 2) xs)) eb
+      by rest false eb = ap (λ b. cond b (y ∷ keyed script (s * 2) xs) (keyed script (s * 2) xs)) eb
           ∙ rest
 
   -- ---- over all threads

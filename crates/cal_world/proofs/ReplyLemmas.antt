@@ -46,7 +46,8 @@ module _ (script : Script) (journal : Journal) where
       → All (λ (n : NotedLine). is_accepted (Some n.note.reply)
       ≡ is_accepted (found_reply script journal.ops n.line n.note n.state))
       (noted_lines script journal)
-  accepted-all lawful k d below = accepted-is _ (lawful.answered k d below)
+  accepted-all lawful k d below =
+      accepted-is (get_or (noted_lines script journal) k d) (lawful.answered k d below)
 
   pub looking-all : Lawful script journal
       → All (λ (n : NotedLine). is_looking script n.line n.note

@@ -22,27 +22,27 @@ module _ (script : Script) (journal : Journal) (lawful : Lawful script journal) 
   abbrev last : ℕ
   last = (length journal.ops + 1) * 2
 
-  order-is : turns_in_order script journal ≡ by_key script (all_of script journal lists) 0 last
+  order-is : turns_in_order script journal ≡ by_key script (all_of lists) 0 last
   order-is = ap (λ ts. turns_by_seen script ts 0 (length journal.ops + 1))
       (all-turns script journal lawful)
-      ∙ seen-by_key script (all_of script journal lists) 0 (length journal.ops + 1)
+      ∙ seen-by_key script (all_of lists) 0 (length journal.ops + 1)
 
-  lines : LinesRun script journal (counts_below script journal 0 lists)
-      (turns_in_order script journal) (counts_below script journal last lists)
-  lines = subst (λ xs. LinesRun script journal (counts_below script journal 0 lists) xs
-      (counts_below script journal last lists)) (sym order-is)
+  lines : LinesRun script journal (counts_below script 0 lists)
+      (turns_in_order script journal) (counts_below script last lists)
+  lines = subst (λ xs. LinesRun script journal (counts_below script 0 lists) xs
+      (counts_below script last lists)) (sym order-is)
       (keys-run script journal lists (lists-are script journal lawful) 0 last)
 
   history : HistoryRun script journal [] (turns_in_order script journal) journal.ops
   history = history-run script journal journal.ops (turns script journal)
       (no-row script journal lawful) (has-row script journal lawful) 0 (length journal.ops + 1) refl
 
-  start-is : progress_of [] (counts_below script journal 0 lists) ≡ at_start script journal
+  start-is : progress_of [] (counts_below script 0 lists) ≡ at_start script journal
   start-is = ap (λ ts. record { history = []; threads = ts })
       (starts-are script journal 0 (zip script.threads journal.threads)
       (lawful-read script journal lawful).order)
 
-  end-is : progress_of journal.ops (counts_below script journal last lists) ≡ at_end script journal
+  end-is : progress_of journal.ops (counts_below script last lists) ≡ at_end script journal
   end-is = ap (λ ts. record { history = journal.ops; threads = ts })
       (ends-are script journal 0 (zip script.threads journal.threads)
       (lawful-read script journal lawful).order)
@@ -51,10 +51,10 @@ module _ (script : Script) (journal : Journal) (lawful : Lawful script journal) 
       (at_end script journal)
   run = subst (λ p. Run script journal p (schedule_of script journal) (at_end script journal))
       start-is
-      (subst (λ q. Run script journal (progress_of [] (counts_below script journal 0 lists))
+      (subst (λ q. Run script journal (progress_of [] (counts_below script 0 lists))
       (schedule_of script journal) q)
       ((λ j. progress_of (history.ends j) (lines.ends j)) ∙ end-is)
-      (lines-run script journal [] (counts_below script journal 0 lists)
+      (lines-run script journal [] (counts_below script 0 lists)
       (turns_in_order script journal) lines.follow history.finds))
 
   pub whole-run : IsWholeRun script journal (schedule_of script journal)

@@ -27,17 +27,17 @@ module _ {B : Type 0} (f : Turn → List B) (script : Script) (ts : List Turn) (
       (filter (has_seen script false seen) ts))
 
   -- the lines that have seen so much are done
-  pub given-next : (seen : ℕ) (had mid has all : List B) (placed others : List Turn) → seen < count
-      → placed ≡ filter (has_seen script true seen) ts
-      → others ≡ filter (has_seen script false seen) ts
-      → mid ≡ had ++ flat_map f placed → has ≡ mid ++ flat_map f others
+  pub rows-next : (seen : ℕ) (had mid has all : List B) (listed : List Turn) → listed ≡ ts
+      → seen < count
+      → mid ≡ had ++ flat_map f (filter (has_seen script true seen) listed)
+      → has ≡ mid ++ flat_map f (filter (has_seen script false seen) listed)
       → had ++ flat_map f (turns_by_seen script ts seen (count - seen)) ≡ all
       → has ++ flat_map f (turns_by_seen script ts (seen + 1) (count - (seen + 1))) ≡ all
-  given-next seen had mid has all placed others less placed-is others-is one two so_far =
+  rows-next seen had mid has all listed listed-is less one two so_far =
       let first : mid ≡ had ++ given_by true seen =
-      one ∙ ap (λ xs. had ++ flat_map f xs) placed-is in
+      one ∙ ap (λ xs. had ++ flat_map f (filter (has_seen script true seen) xs)) listed-is in
       let second : has ≡ mid ++ given_by false seen =
-      two ∙ ap (λ xs. mid ++ flat_map f xs) others-is in
+      two ∙ ap (λ xs. mid ++ flat_map f (filter (has_seen script false seen) xs)) listed-is in
       ap (λ (xs : List B). xs ++ given_from (seen + 1))
       (second ∙ ap (λ (xs : List B). xs ++ given_by false seen) first
       ∙ append_assoc had (given_by true seen) (given_by false seen))
@@ -46,9 +46,9 @@ module _ {B : Type 0} (f : Turn → List B) (script : Script) (ts : List Turn) (
       ∙ so_far
 
   -- and all lines are
-  pub given-end : (seen : ℕ) (had all : List B) → count ≤ seen
+  pub rows-end : (seen : ℕ) (had all : List B) → count ≤ seen
       → had ++ flat_map f (turns_by_seen script ts seen (count - seen)) ≡ all → had ≡ all
-  given-end seen had all past so_far =
+  rows-end seen had all past so_far =
       let left : count - seen ≡ 0 = omega (arith, past) in
       sym (append-nil had)
       ∙ ap (λ n. had ++ flat_map f (turns_by_seen script ts seen n)) (sym left)

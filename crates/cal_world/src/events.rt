@@ -4,6 +4,7 @@ ghost use Rattle.cal_world.specs.Events.{end_event, events_of, first_events, nod
 ghost use Rattle.cal_world.specs.Events.{placed_nodes, seen_before};
 
 use crate::needs::{is_looking, needs_node, placed_node};
+use crate::turn::turn_at;
 use crate::{Event, Turn};
 use cal_run::is_process_line;
 use cal_script::{Journal, Line, Script};
@@ -20,7 +21,8 @@ pub(crate) fn push_turns(
         ≡ events.old ++ flat_map (events_of script.now journal.now) turns.now) }
 {
     for place in 0..turns.len() {
-        push_events(script, journal, turns[place], events)?;
+        let turn = turn_at(turns, place);
+        push_events(script, journal, turn, events)?;
     }
     Ok(())
 }

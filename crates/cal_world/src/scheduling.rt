@@ -1,13 +1,18 @@
 //! One order of all events that a journal allows.
-ghost use Rattle.std.specs.Prelude.{◌≡◌, IfOk};
+ghost use Rattle.std.specs.Prelude.{◌≡◌, ◌<◌, ◌++◌, ℕ, Bool, List, length, filter, flat_map};
+ghost use Rattle.std.specs.Prelude.{IfOk, OnOk};
 ghost use Rattle.cal_run.specs.Lawful.{HasShape};
 ghost use Rattle.cal_script.specs.Valid.{IsRunnable};
+ghost use Rattle.cal_world.specs.Events.{events_of};
 ghost use Rattle.cal_world.specs.Schedule.{schedule_of};
+ghost use Rattle.cal_world.specs.Sorting.{AreSorted};
+ghost use Rattle.cal_world.specs.Turns.{has_seen};
+ghost use Rattle.cal_world.specs.declared.turn.Turn as turn_of;
 
-use crate::Event;
 use crate::events::push_turns;
 use crate::listing::list_turns;
 use crate::sorting::sort_turns;
+use crate::{Event, Turn};
 use cal_script::{Journal, Script};
 use cal_value::{OutOfMemory, Seq};
 use std::alloc::Global;
@@ -24,14 +29,33 @@ pub fn schedule(
     requires shape { HasShape script.now journal.now }
     ensures scheduled { IfOk result (λ events. events ≡ schedule_of script.now journal.now) }
 {
-    let turns = list_turns(alloc, script, journal)?;
+    let listed = list_turns(alloc, script, journal)?;
+    let turns = listed.as_slice();
     let count = journal.ops.as_slice().len() + 1;
-    let placed = sort_turns(alloc, script, true, count, turns.as_slice())?;
-    let others = sort_turns(alloc, script, false, count, turns.as_slice())?;
+    let placed = sort_turns(alloc, script, true, count, turns)?;
+    let others = sort_turns(alloc, script, false, count, turns)?;
     let mut events = Seq::new(alloc);
     for seen in 0..count {
-        push_turns(script, journal, placed[seen].as_slice(), &mut events)?;
-        push_turns(script, journal, others[seen].as_slice(), &mut events)?;
+        push_row(script, journal, &placed, seen, &mut events)?;
+        push_row(script, journal, &others, seen, &mut events)?;
     }
     Ok(events)
+}
+
+/// The events of the lines of a row.
+fn push_row(
+    script: &Script,
+    journal: &Journal,
+    rows: &Vec<Vec<Turn>>,
+    seen: usize,
+    events: &mut Seq<Event>,
+) -> Result<(), OutOfMemory>
+    requires within { seen < length rows.now.items }
+    ensures { (shared : Bool) (count : ℕ) (ts : List turn_of.Turn)
+        → AreSorted script.now shared count ts rows.now.items
+        → OnOk result (events.new ≡ events.old ++ flat_map (events_of script.now journal.now)
+        (filter (has_seen script.now shared seen) ts)) }
+{
+    let row = rows[seen].as_slice();
+    push_turns(script, journal, row, events)
 }

@@ -1,6 +1,7 @@
 //! A line of a thread, as its journal tells of it.
-ghost use Rattle.std.specs.Prelude.{◌≡◌};
+ghost use Rattle.std.specs.Prelude.{◌≡◌, ◌<◌, length, slice_index_or};
 ghost use Rattle.cal_world.specs.Turns.{is_of_kind};
+ghost use Rattle.cal_world.specs.declared.turn.Turn as turn_of;
 
 use cal_run::is_process_line;
 use cal_script::{Line, LineNote, Script};
@@ -26,4 +27,12 @@ pub(crate) fn is_of_kind(script: &Script, shared: bool, turn: Turn) -> bool
     } else {
         !is_process_line(script, turn.line)
     }
+}
+
+/// The line at a place.
+pub(crate) fn turn_at(turns: &[Turn], place: usize) -> Turn
+    requires { place < length turns.now }
+    ensures { (d : turn_of.Turn) → result ≡ slice_index_or turns.now place d }
+{
+    turns[place]
 }

@@ -9,10 +9,11 @@ pub loop-place-preserved : goal.loop-place-preserved
 loop-place-preserved c =
     let f = events_of c.args.script.now c.args.journal.now in
     let i = c.loop-place.place in
+    let t = c.turn_at-turn.result in
     ap (λ (events : List Event). events ++ flat_map f (drop (i + 1) c.args.turns.now))
     c.in_ok-push_events.ensures
-    ∙ left-next f c.args.turns.now i c.index-turns-place.result c.loop-place.events _
-    c.loop-place-test.true c.index-turns-place.is c.loop-place.invariant
+    ∙ left-next f c.args.turns.now i t c.loop-place.events _
+    c.loop-place-test.true (c.turn_at-turn.ensures t) c.loop-place.invariant
 
 pub returns : goal.returns
 returns c =
