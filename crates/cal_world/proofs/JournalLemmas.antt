@@ -145,7 +145,7 @@ module _ (script : Script) (journal : Journal) where
       (all-back (SeenOwn script journal) one more own))
 
   -- no line is below the first key, and each is below the last one
-  starts-are : (k : ℕ) (ps : List (List Line × ThreadNote)) → All InOrder ps
+  pub starts-are : (k : ℕ) (ps : List (List Line × ThreadNote)) → All InOrder ps
       → map behind (counts_below script 0 (lists_from k ps))
       ≡ map (λ (ts : List Turn). behind 0) (lists_from k ps)
   starts-are k [] order = refl
@@ -156,7 +156,7 @@ module _ (script : Script) (journal : Journal) where
       λ j. behind (length (none j))
       ∷ starts-are (k + 1) ps (all-rest InOrder p ps order) j
 
-  ends-are : (k : ℕ) (ps : List (List Line × ThreadNote)) → All InOrder ps
+  pub ends-are : (k : ℕ) (ps : List (List Line × ThreadNote)) → All InOrder ps
       → map behind (counts_below script ((length journal.ops + 1) * 2) (lists_from k ps))
       ≡ map (λ (ts : List Turn). behind (length ts)) (lists_from k ps)
   ends-are k [] order = refl
@@ -252,9 +252,10 @@ module _ (script : Script) (journal : Journal) (lawful : Lawful script journal) 
       let long : length ns ≡ length ls =
       all_zip-at (λ (thread : List Line) (n : ThreadNote). length n.lines ≡ length thread)
       script.threads journal.threads t [] no_note lawful.shape known.within in
-      let all : List Turn = turns_of (0 + t, (ls, note)) in
+      let all : List Turn = turns_of (t, (ls, note)) in
       let list : slice_get (turns_by_thread script journal) t ≡ Some all =
-      list-at 0 t script.threads journal.threads known.within many in
+      list-at 0 t script.threads journal.threads known.within many
+      ∙ ap (λ u. Some (turns_of (u, (ls, note)))) (let e : 0 + t ≡ t = omega arith in e) in
       let found = turn-at t 1 0 (p.line - 1) ls ns known.line known.there long in
       let x : Turn = found.turn in
       let shared : is_process_line script x.line ≡ true =

@@ -1,5 +1,5 @@
 -- The schedule of a lawful journal is a whole run.
-use Rattle.std.proofs.Common.{◌≡◌, ℕ, ◌+◌, ◌*◌, List, [], length, map, ap, subst, sym, refl, ◌∙◌}
+use Rattle.std.proofs.Common.{◌≡◌, ℕ, ◌+◌, ◌*◌, List, [], length, map, ap, subst, sym, ◌∙◌, arith}
 use Rattle.std.specs.Prelude.{flat_map, zip}
 use Rattle.cal_run.proofs.LawLemmas.{lawful-read}
 use Rattle.cal_run.specs.Lawful.{Lawful}
@@ -31,18 +31,22 @@ module _ (script : Script) (journal : Journal) (lawful : Lawful script journal) 
       (turns_in_order script journal) (counts_below script last lists)
   lines = subst (λ xs. LinesRun script journal (counts_below script 0 lists) xs
       (counts_below script last lists)) (sym order-is)
-      (keys-run script journal lists (lists-are script journal lawful) 0 last)
+      (subst (λ n. LinesRun script journal (counts_below script 0 lists)
+      (by_key script (all_of lists) 0 last) (counts_below script n lists))
+      (let e : 0 + last ≡ last = omega arith in e)
+      (keys-run script journal lists (lists-are script journal lawful) 0 last))
 
   history : HistoryRun script journal [] (turns_in_order script journal) journal.ops
   history = history-run script journal journal.ops (turns script journal)
-      (no-row script journal lawful) (has-row script journal lawful) 0 (length journal.ops + 1) refl
+      (no-row script journal lawful) (has-row script journal lawful) 0 (length journal.ops + 1)
+      (omega arith)
 
-  start-is : progress_of [] (counts_below script 0 lists) ≡ at_start script journal
+  start-is : progress_of script journal [] (counts_below script 0 lists) ≡ at_start script journal
   start-is = ap (λ ts. record { history = []; threads = ts })
       (starts-are script journal 0 (zip script.threads journal.threads)
       (lawful-read script journal lawful).order)
 
-  end-is : progress_of journal.ops (counts_below script last lists) ≡ at_end script journal
+  end-is : progress_of script journal journal.ops (counts_below script last lists) ≡ at_end script journal
   end-is = ap (λ ts. record { history = journal.ops; threads = ts })
       (ends-are script journal 0 (zip script.threads journal.threads)
       (lawful-read script journal lawful).order)
@@ -51,9 +55,9 @@ module _ (script : Script) (journal : Journal) (lawful : Lawful script journal) 
       (at_end script journal)
   run = subst (λ p. Run script journal p (schedule_of script journal) (at_end script journal))
       start-is
-      (subst (λ q. Run script journal (progress_of [] (counts_below script 0 lists))
+      (subst (λ q. Run script journal (progress_of script journal [] (counts_below script 0 lists))
       (schedule_of script journal) q)
-      ((λ j. progress_of (history.ends j) (lines.ends j)) ∙ end-is)
+      ((λ j. progress_of script journal (history.ends j) (lines.ends j)) ∙ end-is)
       (lines-run script journal [] (counts_below script 0 lists)
       (turns_in_order script journal) lines.follow history.finds))
 

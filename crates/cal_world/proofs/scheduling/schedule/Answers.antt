@@ -11,16 +11,16 @@ loop-seen-preserved c =
     let ts : List Turn = turns script c.args.journal.now in
     let listed : c.as_slice-turns.result.now ≡ ts =
     c.as_slice-turns.ensures.value ∙ c.in_ok-listed.ensures in
-    rows-next (events_of script c.args.journal.now) script ts c.loop-seen.count c.loop-seen.seen
+    rows-next (events_of script c.args.journal.now) script ts _ c.loop-seen.seen
     c.loop-seen.events _ _ _ c.as_slice-turns.result.now listed c.loop-seen-test.true
-    (c.in_ok-push_row.ensures true c.loop-seen.count c.as_slice-turns.result.now
+    (c.in_ok-push_row.ensures true _ c.as_slice-turns.result.now
     c.in_ok-placed.ensures)
-    (c.in_ok-push_row-2.ensures false c.loop-seen.count c.as_slice-turns.result.now
+    (c.in_ok-push_row-2.ensures false _ c.as_slice-turns.result.now
     c.in_ok-others.ensures)
     c.loop-seen.invariant
 
 pub returns : goal.returns
 returns c =
     rows-end (events_of c.args.script.now c.args.journal.now) c.args.script.now
-    (turns c.args.script.now c.args.journal.now) c.loop-seen.count c.loop-seen.seen
+    (turns c.args.script.now c.args.journal.now) _ c.loop-seen.seen
     c.loop-seen.events _ c.loop-seen-test.false c.loop-seen.invariant
