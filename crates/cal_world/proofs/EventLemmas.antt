@@ -204,10 +204,13 @@ module _ (script : Script) (journal : Journal) (ths : List Reached) (n : ℕ) (x
       → events_of script journal x ≡ pre ++ (ns ++ e ∷ []) → length pre ≡ k
       → Run script journal (within_line h k) (ns ++ e ∷ []) (behind_line h)
   nodes-run h k pre [] e end nodes whole long = record {
-    next = (event-next h k e end.thread
-        (ap (λ es. slice_get es k) whole
-        ∙ ap (slice_get (pre ++ e ∷ [])) (sym long)
-        ∙ seam pre e []) (end.finds h), tt);
+    next = (
+      event-next h k e end.thread
+          (ap (λ es. slice_get es k) whole
+          ∙ ap (slice_get (pre ++ e ∷ [])) (sym long)
+          ∙ seam pre e []) (end.finds h),
+      tt,
+    );
     ends = event-after h k e end.thread
         ∙ (λ j. record {
           history = end.history h j;
@@ -228,12 +231,14 @@ module _ (script : Script) (journal : Journal) (ths : List Reached) (n : ℕ) (x
       nodes-run h (k + 1) (pre ++ m ∷ []) ns e end nodes.1
       (whole ∙ sym (append_assoc pre (m ∷ []) (ns ++ e ∷ []))) more in
       record {
-        next = (event-next h k m is
-            (ap (λ es. slice_get es k) whole
-            ∙ ap (slice_get (pre ++ m ∷ (ns ++ e ∷ []))) (sym long)
-            ∙ seam pre m (ns ++ e ∷ []))
-            (subst (FindsHistory h x) (sym nodes.0) tt),
-            subst (λ q. AreNext script journal q (ns ++ e ∷ [])) (sym after) rest.next);
+        next = (
+          event-next h k m is
+              (ap (λ es. slice_get es k) whole
+              ∙ ap (slice_get (pre ++ m ∷ (ns ++ e ∷ []))) (sym long)
+              ∙ seam pre m (ns ++ e ∷ []))
+              (subst (FindsHistory h x) (sym nodes.0) tt),
+          subst (λ q. AreNext script journal q (ns ++ e ∷ [])) (sym after) rest.next,
+        );
         ends = ap (λ q. progress_behind q (ns ++ e ∷ [])) after ∙ rest.ends;
       }
 
@@ -286,9 +291,11 @@ module _ (script : Script) (journal : Journal) (ths : List Reached) (n : ℕ) (x
         (behind_line h2) =
         nodes-run h2 1 (e ∷ []) line_nodes last ends-so are-nodes whole refl in
         record {
-          next = (event-next h 0 e is (ap (λ es. slice_get es 0) whole) finds,
-              subst (λ q. AreNext script journal q (line_nodes ++ last ∷ [])) (sym after)
-              rest.next);
+          next = (
+            event-next h 0 e is (ap (λ es. slice_get es 0) whole) finds,
+            subst (λ q. AreNext script journal q (line_nodes ++ last ∷ [])) (sym after)
+                rest.next,
+          );
           ends = ap (λ q. progress_behind q (line_nodes ++ last ∷ [])) after ∙ rest.ends;
         }
 

@@ -62,8 +62,11 @@ module _ (script : Script) (journal : Journal) where
             looks = λ is looks. long ∙ sym seen;
           } in
           record {
-            finds = (finds, subst (λ k. HistoryFinds script journal k
-                (filter (has_seen script false s) ts)) (sym same) rest.finds);
+            finds = (
+              finds,
+              subst (λ k. HistoryFinds script journal k
+                  (filter (has_seen script false s) ts)) (sym same) rest.finds,
+            );
             ends = ap (λ k. history_behind script journal k (filter (has_seen script false s) ts))
                 same ∙ rest.ends;
           }
@@ -90,10 +93,13 @@ module _ (script : Script) (journal : Journal) where
       let whole : s - 1 + 1 ≡ s = omega (arith, some) in
       subst (λ xs. HistoryRun (take (s - 1) ops) xs (take s ops)) (sym row.only)
       (record {
-        finds = (record {
-          own = λ is. omega (arith, long, seen);
-          looks = λ is looks. absurd (let no : true ≡ false = sym row.shared ∙ is in cc);
-        }, tt);
+        finds = (
+          record {
+            own = λ is. omega (arith, long, seen);
+            looks = λ is looks. absurd (let no : true ≡ false = sym row.shared ∙ is in cc);
+          },
+          tt,
+        );
         ends = ap (λ b. take (s - 1) ops ++ placed_if x b) row.shared
             ∙ ap (λ q. take (s - 1) ops ++ q ∷ [])
             (sym (get_or_from_slice_get ops (s - 1) p p row.placed))

@@ -57,11 +57,12 @@ module _ (script : Script) (journal : Journal) where
         state = state;
       } in
       let here : SeenOwn script journal noted = all 0 noted (omega arith) in
-      let after = state_after script journal.ops l.0 l.1 state in
-      ((λ is. record { some = (here is).some; place = (here is).own }),
-      own-from t (n + 1) l.1.seen after ls
-      (all-rest (SeenOwn script journal) noted
-      (noted_from script journal.ops t (n + 1) l.1.seen after ls) all))
+      let after = state_after script journal.ops l.0 l.1 state in (
+        (λ is. record { some = (here is).some; place = (here is).own }),
+        own-from t (n + 1) l.1.seen after ls
+            (all-rest (SeenOwn script journal) noted
+            (noted_from script journal.ops t (n + 1) l.1.seen after ls) all),
+      )
 
   -- a line's key is no less than that of a line before it
   key-rises : (k before seen : ℕ) (b : Bool) → k ≤ before * 2 + 1 → before ≤ seen
@@ -117,15 +118,16 @@ module _ (script : Script) (journal : Journal) where
   threads-are k pre [] long whole order = tt
   threads-are k pre (p ∷ ps) long whole order =
       let xs : List Turn = turns_of (k, p) in
-      let here : InOrder p = order 0 p (omega arith) in
-      (ap (λ (l : List (List Turn)). slice_get l k) whole
-      ∙ ap (slice_get (pre ++ xs ∷ lists_from (k + 1) ps)) (sym long)
-      ∙ seam pre xs (lists_from (k + 1) ps),
-      rises-from k 1 0 0 (zip p.0 p.1.lines) (omega arith) here,
-      of-from k 1 0 (zip p.0 p.1.lines),
-      threads-are (k + 1) (pre ++ xs ∷ []) ps (length_push pre xs ∙ ap (λ i. i + 1) long)
-      (whole ∙ sym (append_assoc pre (xs ∷ []) (lists_from (k + 1) ps)))
-      (all-rest InOrder p ps order))
+      let here : InOrder p = order 0 p (omega arith) in (
+        ap (λ (l : List (List Turn)). slice_get l k) whole
+            ∙ ap (slice_get (pre ++ xs ∷ lists_from (k + 1) ps)) (sym long)
+            ∙ seam pre xs (lists_from (k + 1) ps),
+        rises-from k 1 0 0 (zip p.0 p.1.lines) (omega arith) here,
+        of-from k 1 0 (zip p.0 p.1.lines),
+        threads-are (k + 1) (pre ++ xs ∷ []) ps (length_push pre xs ∙ ap (λ i. i + 1) long)
+            (whole ∙ sym (append_assoc pre (xs ∷ []) (lists_from (k + 1) ps)))
+            (all-rest InOrder p ps order),
+      )
 
   places-are : (k : ℕ) (ps : List (List Line × ThreadNote)) → All InOrder ps
       → All (SeenOwn script journal)
@@ -136,13 +138,14 @@ module _ (script : Script) (journal : Journal) where
       let one : List NotedLine = noted_of script journal.ops (k, p) in
       let more : List NotedLine =
       flat_map (noted_of script journal.ops) (enumerate_from (k + 1) ps) in
-      let here : InOrder p = order 0 p (omega arith) in
-      (rises-from k 1 0 0 (zip p.0 p.1.lines) (omega arith) here,
-      of-from k 1 0 (zip p.0 p.1.lines),
-      own-from k 1 0 at_start (zip p.0 p.1.lines)
-      (all-front (SeenOwn script journal) one more own),
-      places-are (k + 1) ps (all-rest InOrder p ps order)
-      (all-back (SeenOwn script journal) one more own))
+      let here : InOrder p = order 0 p (omega arith) in (
+        rises-from k 1 0 0 (zip p.0 p.1.lines) (omega arith) here,
+        of-from k 1 0 (zip p.0 p.1.lines),
+        own-from k 1 0 at_start (zip p.0 p.1.lines)
+            (all-front (SeenOwn script journal) one more own),
+        places-are (k + 1) ps (all-rest InOrder p ps order)
+            (all-back (SeenOwn script journal) one more own),
+      )
 
   -- no line is below the first key, and each is below the last one
   pub starts-are : (k : ℕ) (ps : List (List Line × ThreadNote)) → All InOrder ps

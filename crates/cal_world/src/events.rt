@@ -39,7 +39,11 @@ fn push_events(
     push_first(script, turn, events)?;
     let to = seen_before(script, turn);
     push_taken(script, journal, turn.thread, turn.before, to, events)?;
-    push_node_if(turn.thread, needs_node(script, turn.line, turn.note), events)?;
+    push_node_if(
+        turn.thread,
+        needs_node(script, turn.line, turn.note),
+        events,
+    )?;
     events.push(end_event(turn))?;
     Ok(())
 }

@@ -51,9 +51,9 @@ fn push_row(
     events: &mut Seq<Event>,
 ) -> Result<(), OutOfMemory>
     requires within { seen < length rows.now.items }
-    ensures { (shared : Bool) (count : ℕ) (ts : List turn_of.Turn)
+    ensures { OnOk result ((shared : Bool) (count : ℕ) (ts : List turn_of.Turn)
         → AreSorted script.now shared count ts rows.now.items
-        → OnOk result (events.new ≡ events.old ++ flat_map (events_of script.now journal.now)
+        → events.new ≡ events.old ++ flat_map (events_of script.now journal.now)
         (filter (has_seen script.now shared seen) ts)) }
 {
     let row = rows[seen].as_slice();

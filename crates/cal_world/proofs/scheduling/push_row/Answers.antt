@@ -11,10 +11,16 @@ use Rattle.cal_world.proofs.scheduling.push_row.Goals as goal
 pub returns : goal.returns
 returns c =
     let f = events_of c.args.script.now c.args.journal.now in
-    λ shared count ts are.
     on_ok_weaker c.push_turns.result
-    (λ pushed. pushed
+    (λ pushed shared count ts are. pushed
     ∙ ap (λ (xs : List Turn). c.args.events.now ++ flat_map f xs)
-    (grind (arith, common_steps, are.long, are.each c.args.seen c.index.result.now,
-    c.requires.within, c.as_slice-row.ensures.value, c.index.ensures)))
+    (grind (
+      arith,
+      common_steps,
+      are.long,
+      are.each c.args.seen c.index.result.now,
+      c.requires.within,
+      c.as_slice-row.ensures.value,
+      c.index.ensures,
+    )))
     c.push_turns.ensures
