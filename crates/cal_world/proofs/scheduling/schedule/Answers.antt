@@ -20,7 +20,8 @@ loop-seen-preserved c =
     c.loop-seen.invariant
 
 pub returns : goal.returns
-returns c =
-    rows-end (events_of c.args.script.now c.args.journal.now) c.args.script.now
-    (turns c.args.script.now c.args.journal.now) _ c.loop-seen.seen
-    c.loop-seen.events _ c.loop-seen-test.false c.loop-seen.invariant
+returns c = record {
+  scheduled = rows-end (events_of c.args.script.now c.args.journal.now) c.args.script.now
+      (turns c.args.script.now c.args.journal.now) _ c.loop-seen.seen
+      c.loop-seen.events _ c.loop-seen-test.false c.loop-seen.invariant;
+}
