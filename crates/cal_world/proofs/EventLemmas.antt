@@ -1,9 +1,9 @@
 -- The events of a line are each the next of their thread, where the line is.
-use Rattle.std.proofs.Common.{◌≡◌, ℕ, suc, zero, ◌+◌, ◌-◌, ◌<◌, Bool, true, false, List, [], ◌∷◌, ◌++◌}
+use Rattle.std.proofs.Common.{◌≡◌, ℕ, ◌+◌, ◌-◌, ◌<◌, Bool, true, false, List, [], ◌∷◌, ◌++◌}
 use Rattle.std.proofs.Common.{length, map, get_or, set, ap, subst, sym, refl, ◌∙◌, arith}
 use Rattle.std.proofs.Common.{append_assoc, append-nil}
 use Rattle.std.proofs.Common.{if◌then◌else◌}
-use Rattle.std.specs.Prelude.{Option, Some, None, flat_map, slice_get, slice_range}
+use Rattle.std.specs.Prelude.{Some, flat_map, slice_get, slice_range}
 use Rattle.std.proofs.lemmas.List.{get_or-map, get_or-set_same, length-map, length-set}
 use Rattle.std.proofs.lemmas.List.{length_push, map-set, set-get_or, set-set}
 use Rattle.cal_run.specs.Lines.{is_process_line}
@@ -12,7 +12,7 @@ use Rattle.cal_script.specs.declared.journal.Placed.{Placed}
 use Rattle.cal_script.specs.declared.script.Line as lines
 use Rattle.cal_script.specs.declared.script.Line.TheVariants as line
 use Rattle.cal_script.specs.declared.script.Script.{Script}
-use Rattle.cal_world.specs.Events.{end_event, events_of, first_events, is_looking, needs_node}
+use Rattle.cal_world.specs.Events.{end_event, events_of, is_looking, needs_node}
 use Rattle.cal_world.specs.Events.{node_if, placed_node, placed_nodes, seen_before}
 use Rattle.cal_world.specs.Progress.{AreNext, FindsHistory, IsNext, Progress, Reached, behind}
 use Rattle.cal_world.specs.Progress.{history_after, progress_after, progress_behind}
@@ -303,7 +303,8 @@ module _ (script : Script) (journal : Journal) (ths : List Reached) (n : ℕ) (x
         → is_looking script x.line x.note ≡ looking
         → (shared ≡ true → length h ≡ x.note.seen - 1)
         → (shared ≡ false → looking ≡ true → length h ≡ x.note.seen)
-        → Run script journal (within_line h 0) (first_if shared looking ++ (line_nodes ++ last ∷ []))
+        → Run script journal (within_line h 0)
+        (first_if shared looking ++ (line_nodes ++ last ∷ []))
         (behind_line (h ++ placed_if x shared))
     line-run-if true looking es el own looks =
         first-run (h ++ placed_if x true) (event.Place x.thread x.number) refl (own refl) refl refl

@@ -1,8 +1,9 @@
 -- In whatever order events come, each the next of its thread, the history is the first of the
 -- journal's.
-use Rattle.std.proofs.Common.{◌≡◌, ℕ, suc, zero, ◌-◌, Bool, true, false, List, [], ◌∷◌, ◌++◌, length}
+use Rattle.std.proofs.Common.{◌≡◌, ℕ, suc, zero, ◌-◌, Bool, true, false, List, [], ◌∷◌, ◌++◌}
+use Rattle.std.proofs.Common.{length}
 use Rattle.std.proofs.Common.{ap, subst, sym, refl, ◌∙◌, if◌then◌else◌}
-use Rattle.std.specs.Prelude.{Option, Some, None, flat_map, option_and_then, slice_get, slice_range}
+use Rattle.std.specs.Prelude.{Option, Some, None, option_and_then, slice_get, slice_range}
 use Rattle.cal_context.specs.Lists.{IsFront}
 use Rattle.cal_run.specs.Lawful.{Lawful}
 use Rattle.cal_run.specs.Lines.{is_process_line}
@@ -15,7 +16,7 @@ use Rattle.cal_world.proofs.EventLemmas.{AreNodes, nodes-if, nodes-of}
 use Rattle.cal_world.proofs.JournalLemmas.{are-placed}
 use Rattle.cal_world.proofs.PlaceLemmas.{HasPlace, own-at, placed-at}
 use Rattle.cal_world.specs.Events.{end_event, events_of, first_events, is_looking, needs_node}
-use Rattle.cal_world.specs.Events.{placed_nodes, seen_before}
+use Rattle.cal_world.specs.Events.{seen_before}
 use Rattle.cal_world.specs.Progress.{AreNext, IsNext, Progress, at_start, progress_after}
 use Rattle.cal_world.specs.Progress.{progress_behind, turn_behind}
 use Rattle.cal_world.specs.Turns.{turns_by_thread}

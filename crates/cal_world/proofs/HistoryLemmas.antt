@@ -1,6 +1,6 @@
 -- In the order of what lines have seen, each finds the history that it has seen.
 use Rattle.std.proofs.Common.{◌≡◌, ℕ, suc, zero, ◌+◌, ◌-◌, ◌<◌, ◌≤◌, Bool, true, false, List, []}
-use Rattle.std.proofs.Common.{◌∷◌, ◌++◌, length, get_or, take, ap, subst, sym, refl, ◌∙◌, arith}
+use Rattle.std.proofs.Common.{◌∷◌, ◌++◌, length, take, ap, subst, sym, refl, ◌∙◌, arith}
 use Rattle.std.proofs.Common.{cond, append-nil}
 use Rattle.std.specs.Prelude.{Some, filter, not, slice_get, ◌==◌}
 use Rattle.std.proofs.lemmas.Bool.{and_parts, eqb-true, not-true}
@@ -10,7 +10,8 @@ use Rattle.cal_run.specs.Lines.{is_process_line}
 use Rattle.cal_script.specs.declared.journal.Journal.{Journal}
 use Rattle.cal_script.specs.declared.journal.Placed.{Placed}
 use Rattle.cal_script.specs.declared.script.Script.{Script}
-use Rattle.cal_world.proofs.EventLemmas.{FindsAs, HistoryFinds, history_behind, placed_by, placed_if}
+use Rattle.cal_world.proofs.EventLemmas.{FindsAs, HistoryFinds, history_behind, placed_by}
+use Rattle.cal_world.proofs.EventLemmas.{placed_if}
 use Rattle.cal_world.specs.Turns.{has_seen, turns_by_seen}
 use Rattle.cal_world.specs.declared.turn.Turn.{Turn}
 

@@ -1,5 +1,6 @@
 -- What a lawful journal says of its lines, thread by thread.
-use Rattle.std.proofs.Common.{◌≡◌, ℕ, suc, zero, ◌+◌, ◌-◌, ◌*◌, ◌<◌, ◌≤◌, Bool, true, false, List, []}
+use Rattle.std.proofs.Common.{◌≡◌, ℕ, suc, zero, ◌+◌, ◌-◌, ◌*◌, ◌<◌, ◌≤◌, Bool, true, false, List}
+use Rattle.std.proofs.Common.{[]}
 use Rattle.std.proofs.Common.{◌∷◌, ◌++◌, length, map, get_or, ap, subst, sym, refl, ◌∙◌, arith}
 use Rattle.std.proofs.Common.{cond, if◌then◌else◌, append_assoc, ⊎_elim}
 use Rattle.std.specs.Prelude.{Option, Some, None, filter, flat_map, slice_get, zip, ◌==◌}
@@ -10,9 +11,9 @@ use Rattle.std.proofs.lemmas.List.Folds.{flat_map-map}
 use Rattle.std.proofs.lemmas.Option.{slice_get-get_or, slice_get_within}
 use Rattle.cal_run.proofs.LawLemmas.{all-back, all-front, all-rest, lawful-read}
 use Rattle.cal_run.proofs.NumberLemmas.{all_zip-at}
-use Rattle.cal_run.specs.Lawful.{HasShape, IsKnown, Lawful, NotedLine, SeenOwn, names_process_line}
+use Rattle.cal_run.specs.Lawful.{IsKnown, Lawful, NotedLine, SeenOwn, names_process_line}
 use Rattle.cal_run.specs.Lawful.{noted_from, noted_of}
-use Rattle.cal_run.specs.Lines.{is_process_line, line_at}
+use Rattle.cal_run.specs.Lines.{is_process_line}
 use Rattle.cal_run.specs.Seeing.{SeesInOrder}
 use Rattle.cal_run.specs.Steps.{ThreadState, at_start, state_after}
 use Rattle.cal_script.specs.declared.journal.Journal.{Journal}
@@ -23,12 +24,12 @@ use Rattle.cal_script.specs.declared.script.Line.{Line}
 use Rattle.cal_script.specs.declared.script.Script.{Script}
 use Rattle.cal_world.proofs.EventLemmas.{seam}
 use Rattle.cal_world.proofs.HistoryLemmas.{HasRow}
-use Rattle.cal_world.proofs.OrderLemmas.{AreOf, AreThreads, Rises, all_of, at_key, below, counts_below}
+use Rattle.cal_world.proofs.OrderLemmas.{AreOf, AreThreads, Rises, all_of, below, counts_below}
 use Rattle.cal_world.proofs.OrderLemmas.{key, key_if, keyed, none-below, seen-key}
 use Rattle.cal_world.proofs.PlaceLemmas.{ArePlaced, NumbersRise, OwnPlaces, none-of_all, one-of_all}
 use Rattle.cal_world.proofs.PlaceLemmas.{one-place, own-at, placed-at, process-rise, turn-at}
 use Rattle.cal_world.proofs.TurnLemmas.{notes-long}
-use Rattle.cal_world.specs.Progress.{Reached, behind}
+use Rattle.cal_world.specs.Progress.{behind}
 use Rattle.cal_world.specs.Turns.{has_seen, turns, turns_by_thread, turns_from, turns_of}
 use Rattle.cal_world.specs.declared.turn.Turn.{Turn}
 
@@ -193,7 +194,8 @@ pub record KnownLine (script : Script) (p : Placed) : Type 0 where
 known-line : (script : Script) (p : Placed) → IsKnown script p → KnownLine script p
 known-line script p known = by (p.line == 0) refl known
   where
-    found : (o : Option Line) → slice_get (get_or script.threads p.thread []) (p.line - 1) ≡ o → 0 < p.line
+    found : (o : Option Line) → slice_get (get_or script.threads p.thread []) (p.line - 1) ≡ o
+        → 0 < p.line
         → names_process_line script o ≡ true → KnownLine script p
     found None e some is = absurd (let no : false ≡ true = is in cc)
     found (Some l) e some is = record {
@@ -201,7 +203,8 @@ known-line script p known = by (p.line == 0) refl known
       some = some;
       within = ⊎_elim (λ less. less)
           (λ past. absurd (let none = ap length (get_or_past script.threads p.thread [] past) in
-          let inside = slice_get_within (get_or script.threads p.thread []) (p.line - 1) l e in omega (arith, none, inside)))
+          let inside = slice_get_within (get_or script.threads p.thread []) (p.line - 1) l e in
+          omega (arith, none, inside)))
           (cases_lt p.thread (length script.threads));
       there = e;
       shared = is;

@@ -1,8 +1,9 @@
 -- In the order of what lines have seen, each line is the next of its thread.
 use Rattle.std.proofs.Common.{◌≡◌, ℕ, suc, zero, ◌+◌, ◌*◌, ◌<◌, ◌≤◌, Bool, true, false, List, []}
 use Rattle.std.proofs.Common.{◌∷◌, ◌++◌, length, map, get_or, set, ap, subst, sym, refl, ◌∙◌, arith}
-use Rattle.std.proofs.Common.{if◌then◌else◌, cond, append_assoc, append-nil, ⊎_elim}
-use Rattle.std.specs.Prelude.{Some, filter, flat_map, not, nat_lt, option_and_then, slice_get, ◌==◌, ◌&&◌}
+use Rattle.std.proofs.Common.{cond, append_assoc, append-nil, ⊎_elim}
+use Rattle.std.specs.Prelude.{Some, filter, flat_map, not, nat_lt, option_and_then, slice_get, ◌==◌}
+use Rattle.std.specs.Prelude.{◌&&◌}
 use Rattle.std.proofs.lemmas.Bool.{cases_eq, cases_lt, cases_order, eq-eqb, le-ltb, lt-ltb, ne_eqb}
 use Rattle.std.proofs.lemmas.List.{length-append, length_push, set_at}
 use Rattle.std.proofs.lemmas.List.Elements.{filter-append}
@@ -140,10 +141,12 @@ module _ (script : Script) where
       by now eo e = e ∙ sym (λ j. cond (eo j) (x ∷ below k xs) (below k xs)
           ++ cond (not (eo j)) (x ∷ above k xs) (above k xs))
 
-      less : xs ≡ below k xs ++ above k xs → key x < k → x ∷ xs ≡ below k (x ∷ xs) ++ above k (x ∷ xs)
+      less : xs ≡ below k xs ++ above k xs → key x < k
+          → x ∷ xs ≡ below k (x ∷ xs) ++ above k (x ∷ xs)
       less rest l = by true (lt-ltb (key x) k l) (ap (λ ys. x ∷ ys) rest)
 
-      past : xs ≡ below k xs ++ above k xs → k ≤ key x → x ∷ xs ≡ below k (x ∷ xs) ++ above k (x ∷ xs)
+      past : xs ≡ below k xs ++ above k xs → k ≤ key x
+          → x ∷ xs ≡ below k (x ∷ xs) ++ above k (x ∷ xs)
       past rest p =
           let none : below k xs ≡ [] = none-below k (key x) xs p rises.2 in
           by false (le-ltb (key x) k p)
@@ -202,7 +205,8 @@ module _ (script : Script) (journal : Journal) where
   lines-append ns (x ∷ xs) ys one two =
       (one.0, one.1, lines-append (set ns x.thread (get_or ns x.thread 0 + 1)) xs ys one.2 two)
 
-  lines_behind-append : (ns : List ℕ) (xs ys : List Turn) → lines_behind script journal ns (xs ++ ys)
+  lines_behind-append : (ns : List ℕ) (xs ys : List Turn)
+      → lines_behind script journal ns (xs ++ ys)
       ≡ lines_behind script journal (lines_behind script journal ns xs) ys
   lines_behind-append ns [] ys = refl
   lines_behind-append ns (x ∷ xs) ys =
@@ -298,7 +302,8 @@ module _ (script : Script) (journal : Journal) where
       (keyed script k xs) (pre ++ length ys ∷ counts_below script k lists)) (sym next)
       (block-run t xs (below script k xs) (keyed script k xs) (above script (k + 1) xs) pre
       (counts_below script k lists) whole are.0 (kept-of (at_key script k) t xs are.2) long) in
-      let two : LinesRun ((pre ++ n ∷ []) ++ counts_below script k lists) (keyed script k (all_of lists))
+      let two : LinesRun ((pre ++ n ∷ []) ++ counts_below script k lists)
+      (keyed script k (all_of lists))
       ((pre ++ n ∷ []) ++ counts_below script (k + 1) lists) =
       round-run k (t + 1) lists (pre ++ n ∷ []) are.3 (length_push pre n ∙ ap (λ i. i + 1) long)
       in
@@ -307,9 +312,11 @@ module _ (script : Script) (journal : Journal) where
       (pre ++ n ∷ counts_below script (k + 1) lists) =
       lines_run-append _ (pre ++ n ∷ counts_below script k lists) _ (keyed script k xs)
       (keyed script k (all_of lists)) one
-      (subst (λ ks. LinesRun ks (keyed script k (all_of lists)) (pre ++ n ∷ counts_below script (k + 1) lists))
+      (subst (λ ks. LinesRun ks (keyed script k (all_of lists))
+      (pre ++ n ∷ counts_below script (k + 1) lists))
       (append_assoc pre (n ∷ []) (counts_below script k lists))
-      (subst (λ ks. LinesRun ((pre ++ n ∷ []) ++ counts_below script k lists) (keyed script k (all_of lists)) ks)
+      (subst (λ ks. LinesRun ((pre ++ n ∷ []) ++ counts_below script k lists)
+      (keyed script k (all_of lists)) ks)
       (append_assoc pre (n ∷ []) (counts_below script (k + 1) lists)) two)) in
       subst (λ ys. LinesRun (pre ++ count_below script k xs ∷ counts_below script k lists) ys
       (pre ++ n ∷ counts_below script (k + 1) lists))

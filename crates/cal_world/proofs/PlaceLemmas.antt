@@ -1,10 +1,11 @@
 -- Each place of the history is that of one process line.
-use Rattle.std.proofs.Common.{◌≡◌, ℕ, suc, zero, ◌+◌, ◌-◌, ◌*◌, ◌<◌, ◌≤◌, Bool, true, false, List, []}
+use Rattle.std.proofs.Common.{◌≡◌, ℕ, suc, zero, ◌+◌, ◌-◌, ◌*◌, ◌<◌, ◌≤◌, Bool, true, false, List}
+use Rattle.std.proofs.Common.{[]}
 use Rattle.std.proofs.Common.{◌∷◌, ◌++◌, length, ap, subst, sym, refl, ◌∙◌, arith}
 use Rattle.std.proofs.Common.{if◌then◌else◌, cond}
-use Rattle.std.specs.Prelude.{Option, Some, None, filter, filter_map, slice_get, zip, ◌==◌}
+use Rattle.std.specs.Prelude.{Option, Some, None, filter_map, slice_get, zip, ◌==◌}
 use Rattle.std.specs.List.{cons_option, enumerate_from}
-use Rattle.std.proofs.lemmas.Bool.{cases_Bool, eq-eqb, eqb-true, ne_eqb}
+use Rattle.std.proofs.lemmas.Bool.{eq-eqb, eqb-true, ne_eqb}
 use Rattle.std.proofs.lemmas.List.Elements.{filter-append}
 use Rattle.cal_run.specs.Lawful.{placed_of}
 use Rattle.cal_run.specs.Lines.{is_process_line}
@@ -175,7 +176,8 @@ module _ (script : Script) where
   one-keyed s m (suc i) (y ∷ xs) x rises is e =
       by (one-keyed s (key script y) i xs x rises.2 is e) (key script y == s * 2) refl
     where
-      by : keyed script (s * 2) xs ≡ x ∷ [] → (b : Bool) → (key script y == s * 2) ≡ b → keyed script (s * 2) (y ∷ xs) ≡ x ∷ []
+      by : keyed script (s * 2) xs ≡ x ∷ [] → (b : Bool) → (key script y == s * 2) ≡ b
+          → keyed script (s * 2) (y ∷ xs) ≡ x ∷ []
       by rest true eb =
           let ey : key script y ≡ s * 2 = eqb-true (key script y) (s * 2) eb in
           let none = none-behind s (key script y) xs (omega (arith, ey)) rises.2 in
@@ -248,7 +250,8 @@ module _ (script : Script) where
   one-of_all ops s t (suc i) p (xs ∷ lists) all place x is thread are list there e =
       filter-append (at_key script (s * 2)) xs (all_of lists)
       ∙ (λ j. none-other ops s t p xs (λ f. omega (arith, f, thread)) is are.1 are.2 j
-      ++ one-of_all ops s (t + 1) i p lists all place x is (omega (arith, thread)) are.3 list there e j)
+      ++ one-of_all ops s (t + 1) i p lists all place x is (omega (arith, thread)) are.3 list there
+      e j)
 
   pub none-of_all : (ops : List Placed) (t : ℕ) (lists : List (List Turn)) → ArePlaced ops t lists
       → keyed script 0 (all_of lists) ≡ []

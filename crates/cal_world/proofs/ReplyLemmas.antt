@@ -1,5 +1,5 @@
 -- The replies of a lawful journal are those that are found.
-use Rattle.std.proofs.Common.{◌≡◌, ℕ, Bool, false, ap, get_or, refl}
+use Rattle.std.proofs.Common.{◌≡◌, ℕ, false, ap, get_or, refl}
 use Rattle.std.specs.Prelude.{Option, Some, None, not, ◌&&◌}
 use Rattle.std.specs.List.{All, list_any}
 use Rattle.cal_run.specs.Lawful.{IsAnswer, IsAnswered, IsFlushReply, Lawful, NotedLine, noted_lines}

@@ -1,15 +1,16 @@
 -- The schedule of a lawful journal is a whole run.
-use Rattle.std.proofs.Common.{◌≡◌, ℕ, ◌+◌, ◌*◌, List, [], length, map, ap, subst, sym, ◌∙◌, arith}
-use Rattle.std.specs.Prelude.{flat_map, zip}
+use Rattle.std.proofs.Common.{◌≡◌, ℕ, ◌+◌, ◌*◌, List, [], length, ap, subst, sym, ◌∙◌, arith}
+use Rattle.std.specs.Prelude.{zip}
 use Rattle.cal_run.proofs.LawLemmas.{lawful-read}
 use Rattle.cal_run.specs.Lawful.{Lawful}
 use Rattle.cal_script.specs.declared.journal.Journal.{Journal}
 use Rattle.cal_script.specs.declared.script.Script.{Script}
 use Rattle.cal_world.proofs.EventLemmas.{Run, lines-run, progress_of}
 use Rattle.cal_world.proofs.HistoryLemmas.{HistoryRun, history-run}
-use Rattle.cal_world.proofs.JournalLemmas.{all-turns, ends-are, has-row, lists-are, no-row, starts-are}
-use Rattle.cal_world.proofs.OrderLemmas.{LinesRun, all_of, by_key, counts_below, keys-run, seen-by_key}
-use Rattle.cal_world.specs.Events.{events_of}
+use Rattle.cal_world.proofs.JournalLemmas.{all-turns, ends-are, has-row, lists-are}
+use Rattle.cal_world.proofs.JournalLemmas.{no-row, starts-are}
+use Rattle.cal_world.proofs.OrderLemmas.{LinesRun, all_of, by_key, counts_below}
+use Rattle.cal_world.proofs.OrderLemmas.{keys-run, seen-by_key}
 use Rattle.cal_world.specs.Progress.{IsWholeRun, Progress, at_end, at_start}
 use Rattle.cal_world.specs.Schedule.{schedule_of}
 use Rattle.cal_world.specs.Turns.{turns, turns_by_seen, turns_by_thread, turns_in_order}
@@ -46,7 +47,8 @@ module _ (script : Script) (journal : Journal) (lawful : Lawful script journal) 
       (starts-are script journal 0 (zip script.threads journal.threads)
       (lawful-read script journal lawful).order)
 
-  end-is : progress_of script journal journal.ops (counts_below script last lists) ≡ at_end script journal
+  end-is : progress_of script journal journal.ops (counts_below script last lists)
+      ≡ at_end script journal
   end-is = ap (λ ts. record { history = journal.ops; threads = ts })
       (ends-are script journal 0 (zip script.threads journal.threads)
       (lawful-read script journal lawful).order)

@@ -33,7 +33,13 @@ module _ (thread number before : ℕ) (lines : List Line) (notes : List LineNote
   pub turns-next : (l : Line) (n : LineNote) (had all : List Turn) → l ≡ get_or lines i l
       → n ≡ get_or notes i n → i < length lines → length notes ≡ length lines
       → had ++ turns_from thread number before (drop i (zip lines notes)) ≡ all
-      → (had ++ record { thread = thread; number = number; line = l; note = n; before = before } ∷ [])
+      → (had ++ record {
+        thread = thread;
+        number = number;
+        line = l;
+        note = n;
+        before = before;
+      } ∷ [])
       ++ turns_from thread (number + 1) n.seen (drop (i + 1) (zip lines notes)) ≡ all
   turns-next l n had all line-is note-is below long so_far =
       append_assoc had _ _

@@ -13,7 +13,7 @@ use Rattle.cal_book.specs.Seats.{view}
 use Rattle.cal_book.specs.Views.{joined, with_account}
 use Rattle.cal_book.proofs.Joined.{joined-below}
 use Rattle.tests_book.specs.declared.tally.Tally.{Tally}
-use Rattle.tests_book.specs.declared.workers.Worker.{Worker}
+use Rattle.tests_book.specs.declared.worker.Worker.{Worker}
 use Rattle.tests_book.specs.Workers.{AreWorkers, IsWorker}
 
 module _ (cell : FlushCell Tally ℕ) where

@@ -2,7 +2,7 @@ use Rattle.std.specs.Prelude.{◌≡◌, ℕ, ◌<◌, Some, List, length, slice
 use Rattle.cal_book.specs.declared.cell.FlushCell.{FlushCell}
 use Rattle.cal_book.specs.Seats.{IsSeatOf, view}
 use Rattle.tests_book.specs.declared.tally.Tally.{Tally}
-use Rattle.tests_book.specs.declared.workers.Worker.{Worker}
+use Rattle.tests_book.specs.declared.worker.Worker.{Worker}
 
 -- the worker has the seat of the thread of a number, and knows how much that has given
 pub record IsWorker (cell : FlushCell Tally ℕ) (number : ℕ) (worker : Worker) : Type 0 where

@@ -7,9 +7,9 @@
 
 #[cfg(test)]
 mod refusals;
-#[cfg(test)]
 mod tally;
 #[cfg(test)]
 mod two;
+mod worker;
 #[cfg(test)]
 mod workers;

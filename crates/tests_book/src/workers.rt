@@ -5,22 +5,13 @@ ghost use Rattle.cal_book.specs.Views.{first_seat};
 ghost use Rattle.tests_book.specs.Workers.{AreWorkers, IsWorker};
 
 use crate::tally::Tally;
+use crate::worker::Worker;
 use cal_book::{FlushAnswer, FlushCell, FlushSeat};
 use cal_value::OutOfMemory;
 use std::alloc::Global;
 use std::process::Abort;
 use std::thread;
 use std::thread::Threads;
-
-/// A thread: how many snapshots it has given, how many it has left, and whether it met another
-/// thread's turn.
-#[derive(Drop)]
-struct Worker {
-    seat: FlushSeat<Tally, u32>,
-    given: u64,
-    left: u64,
-    busy: bool,
-}
 
 // Flushes what the worker has left with so many snapshots more, and keeps what comes back.
 fn flush(cell: &FlushCell<Tally, u32>, worker: &mut Worker, count: u64)

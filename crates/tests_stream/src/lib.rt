@@ -9,7 +9,17 @@ mod bytes;
 #[cfg(test)]
 mod clocks;
 #[cfg(test)]
+mod decimals;
+#[cfg(test)]
 mod line;
+#[cfg(test)]
+mod lists;
+#[cfg(test)]
+mod orders;
+#[cfg(test)]
+mod properties;
+#[cfg(test)]
+mod records;
 #[cfg(test)]
 mod table;
 #[cfg(test)]

@@ -146,16 +146,6 @@ fn is_rewritten(alloc: Global, text: &str) -> bool {
     }
 }
 
-/// The first text that isn't the one that is written of the records that it means.
-fn wrong_text(alloc: Global, texts: &[&str]) -> Option<usize> {
-    for row in 0..texts.len() {
-        if !is_rewritten(alloc, texts[row]) {
-            return Some(row);
-        }
-    }
-    None
-}
-
 /// Worked rows; kinds, escapes and records in turn; globals and built-in nodes.
 const TEXTS: [&str; 10] = [
     MAIN,
@@ -170,9 +160,24 @@ const TEXTS: [&str; 10] = [
     OF_BUILT_IN,
 ];
 
+fn texts() -> &'static [&'static str] {
+    &TEXTS
+}
+
+/// The first text that isn't the one that is written of the records that it means.
+fn wrong_text(alloc: Global) -> Option<usize> {
+    let texts = texts();
+    for row in 0..texts.len() {
+        if !is_rewritten(alloc, texts[row]) {
+            return Some(row);
+        }
+    }
+    None
+}
+
 #[test]
 fn records_are_written_as_they_were_read(rt: HostRuntime) {
-    all_hold(&rt, wrong_text(rt.alloc(), &TEXTS));
+    all_hold(&rt, wrong_text(rt.alloc()));
 }
 
 fn function(alloc: Global) -> Result<Attribute, OutOfMemory> {

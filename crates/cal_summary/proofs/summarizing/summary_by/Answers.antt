@@ -20,5 +20,5 @@ returns c =
     let traced = c.requires.counted.traced in
     let groups : c.args.measure.rows - c.args.counts.traced ≡ group_count script (plain script) =
     omega (arith, split, rows, traced) in
-    summary_one _ _ c.len-threads.ensures c.in_ok-lines.ensures c.requires.counted.nodes
+    summary_one _ _ c.len-threads.ensures c.count_lines-lines.ensures c.requires.counted.nodes
     c.requires.counted.in_all groups c.requires.measured.bytes

@@ -1,10 +1,8 @@
-use Rattle.std.proofs.Common.{Global, List, Vec, ◌≡◌, ◌∙◌, ◌++◌, ap, arith}
+use Rattle.std.proofs.Common.{List, ◌∙◌, ◌++◌, ap, arith}
 use Rattle.std.proofs.lemmas.Grind.{common_steps}
-use Rattle.std.specs.Prelude.{filter, flat_map}
+use Rattle.std.specs.Prelude.{flat_map}
 use Rattle.std.proofs.lemmas.Result.{on_ok_weaker}
 use Rattle.cal_world.specs.Events.{events_of}
-use Rattle.cal_world.specs.Turns.{has_seen}
-use Rattle.cal_world.specs.declared.event.Event.{Event}
 use Rattle.cal_world.specs.declared.turn.Turn.{Turn}
 use Rattle.cal_world.proofs.scheduling.push_row.Goals as goal
 

@@ -1,4 +1,4 @@
-use Rattle.std.proofs.Common.{List, ◌≡◌, ◌∙◌, false, subst, sym, true}
+use Rattle.std.proofs.Common.{List, ◌≡◌, ◌∙◌, false, true}
 use Rattle.cal_world.proofs.ScheduleLemmas.{rows-end, rows-next}
 use Rattle.cal_world.specs.Events.{events_of}
 use Rattle.cal_world.specs.Turns.{turns}

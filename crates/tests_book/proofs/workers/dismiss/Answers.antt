@@ -1,6 +1,6 @@
 use Rattle.std.proofs.Common.{◌++◌, ◌∷◌, [], ◌∙◌, ap, subst, All, IsSome, drop, List, length, length-append}
 use Rattle.cal_book.specs.Seats.{view}
-use Rattle.tests_book.specs.declared.workers.Worker.{Worker}
+use Rattle.tests_book.specs.declared.worker.Worker.{Worker}
 use Rattle.tests_book.specs.Workers.{AreWorkers}
 use Rattle.tests_book.proofs.Joining.{AreWorkers-front, AreWorkers-last, joined-last}
 use Rattle.tests_book.proofs.workers.dismiss.Goals as goal
