@@ -1,0 +1,12 @@
+pub mod ListLemmas
+pub mod SortLemmas
+pub mod TurnLemmas
+pub mod ScheduleLemmas
+pub mod EventLemmas
+pub mod OrderLemmas
+pub mod PlaceLemmas
+pub mod HistoryLemmas
+pub mod JournalLemmas
+pub mod RunLemmas
+pub mod ReplyLemmas
+pub mod FrontLemmas
