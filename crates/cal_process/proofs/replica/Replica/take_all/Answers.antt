@@ -4,7 +4,7 @@ use Rattle.cal_plog.specs.Seats.{slots_of}
 use Rattle.cal_process.proofs.TakingLemmas.{count-more, count-same, seen-within, takes-end}
 use Rattle.cal_process.proofs.TakingLemmas.{takes-looks, takes-none, takes-nothing, takes-one}
 use Rattle.cal_process.proofs.TakingLemmas.{takes-then}
-use Rattle.cal_process.proofs.taking.Replica.take_all.Goals as goal
+use Rattle.cal_process.proofs.replica.Replica.take_all.Goals as goal
 
 pub loop-init : goal.loop-init
 loop-init c = record {

@@ -4,7 +4,7 @@ use Rattle.cal_once.specs.Views.{IsLater}
 use Rattle.cal_process.specs.Replicas.{HasTaken}
 use Rattle.cal_process.specs.Takings.{KeepsLooks, TakesMore}
 use Rattle.cal_words.specs.declared.op.OpRec.{OpRec}
-use Rattle.cal_process.proofs.taking.Replica.take_to.Given as goal
+use Rattle.cal_process.proofs.replica.Replica.take_to.Given as goal
 
 -- whatever was taken in before, more is now
 abbrev pub invariant-loop-next : goal.invariant-loop-next

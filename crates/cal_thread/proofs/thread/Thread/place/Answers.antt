@@ -14,7 +14,7 @@ use Rattle.cal_run.specs.History.{process_board}
 use Rattle.cal_thread.proofs.ThreadLemmas.{below-more, own-later, shared-found}
 use Rattle.cal_words.specs.declared.op.OpRec.{OpRec}
 use Rattle.cal_words.specs.declared.sort.OpSort.{OpSort}
-use Rattle.cal_thread.proofs.placing.Thread.place.Goals as goal
+use Rattle.cal_thread.proofs.thread.Thread.place.Goals as goal
 
 pub place-requires-clause-taken : goal.place-requires-clause-taken
 place-requires-clause-taken c =

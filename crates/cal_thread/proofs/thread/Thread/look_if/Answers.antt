@@ -7,7 +7,7 @@ use Rattle.cal_plog.specs.Seats.{slots_of}
 use Rattle.cal_process.proofs.OperationLemmas.{Held-later}
 use Rattle.cal_thread.proofs.ThreadLemmas.{own-later}
 use Rattle.cal_thread.specs.Lines.{Looks}
-use Rattle.cal_thread.proofs.looking.Thread.look_if.Goals as goal
+use Rattle.cal_thread.proofs.thread.Thread.look_if.Goals as goal
 
 pub returns-in_ok-take_all-clause-looks : goal.returns-in_ok-take_all-clause-looks
 returns-in_ok-take_all-clause-looks c done h state w =

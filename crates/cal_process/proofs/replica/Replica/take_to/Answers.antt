@@ -4,8 +4,8 @@ use Rattle.cal_plog.proofs.Reading.{knows_below_later}
 use Rattle.cal_plog.specs.Seats.{slots_of}
 use Rattle.cal_process.proofs.TakingLemmas.{count-more, must-take, takes-looks, takes-one}
 use Rattle.cal_process.proofs.TakingLemmas.{takes-nothing, takes-then}
-use Rattle.cal_process.proofs.taking.Replica.take_to.Goals as goal
-use Rattle.cal_process.proofs.taking.Replica.take_to.Goals.{In_ok-_more}
+use Rattle.cal_process.proofs.replica.Replica.take_to.Goals as goal
+use Rattle.cal_process.proofs.replica.Replica.take_to.Goals.{In_ok-_more}
 
 is-more : (c : In_ok-_more) → c.in_ok-_more._more ≡ true
 is-more c =

@@ -3,7 +3,7 @@ use Rattle.std.proofs.lemmas.List.{length_push}
 use Rattle.cal_once.specs.declared.view.View.{View}
 use Rattle.cal_words.specs.declared.sort.NodeSort.{NodeSort}
 use Rattle.cal_words.specs.declared.sort.OpSort.{OpSort}
-use Rattle.cal_thread.proofs.hiring.Thread.hire.Goals as goal
+use Rattle.cal_thread.proofs.thread.Thread.hire.Goals as goal
 
 pub split-own_tree-requires-clause-some_left : goal.split-own_tree-requires-clause-some_left
 split-own_tree-requires-clause-some_left c =

@@ -1,7 +1,7 @@
 use Rattle.std.proofs.Common.{◌≡◌, ◌∙◌}
 use Rattle.cal_board.specs.Readings.{readings_after}
 use Rattle.cal_thread.proofs.ThreadLemmas.{taken-later}
-use Rattle.cal_thread.proofs.changing.Thread.operate.Goals as goal
+use Rattle.cal_thread.proofs.thread.Thread.operate.Goals as goal
 
 pub perform-requires-clause-seat : goal.perform-requires-clause-seat
 perform-requires-clause-seat c = c.requires.thread.2.taken.at_tree

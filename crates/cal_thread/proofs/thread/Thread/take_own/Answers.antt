@@ -12,7 +12,7 @@ use Rattle.cal_process.specs.Replicas.{AddsWords, HasTaken}
 use Rattle.cal_thread.proofs.ThreadLemmas.{own-later}
 use Rattle.cal_words.specs.declared.op.OpRec.{OpRec}
 use Rattle.cal_words.specs.declared.sort.OpSort.{OpSort}
-use Rattle.cal_thread.proofs.placing.Thread.take_own.Goals as goal
+use Rattle.cal_thread.proofs.thread.Thread.take_own.Goals as goal
 
 pub take_next-requires-clause-taken : goal.take_next-requires-clause-taken
 take_next-requires-clause-taken c =

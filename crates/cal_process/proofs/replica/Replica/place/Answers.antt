@@ -5,7 +5,7 @@ use Rattle.cal_once.specs.Seats.{view}
 use Rattle.cal_plog.proofs.Reading.{read_of}
 use Rattle.cal_plog.specs.Seats.{plan_of, slots_of}
 use Rattle.cal_process.proofs.TakingLemmas.{seen-later, seen-within}
-use Rattle.cal_process.proofs.placing.Replica.place.Goals as goal
+use Rattle.cal_process.proofs.replica.Replica.place.Goals as goal
 
 pub append-requires-clause-from : goal.append-requires-clause-from
 append-requires-clause-from c =

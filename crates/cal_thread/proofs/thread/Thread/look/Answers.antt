@@ -10,7 +10,7 @@ use Rattle.cal_script.specs.declared.journal.Reply.{Reply}
 use Rattle.cal_script.specs.declared.script.Channel.{Channel}
 use Rattle.cal_thread.proofs.ThreadLemmas.{own-found, own-looks}
 use Rattle.cal_thread.specs.Lines.{Looks}
-use Rattle.cal_thread.proofs.looking.Thread.look.Goals as goal
+use Rattle.cal_thread.proofs.thread.Thread.look.Goals as goal
 
 pub returns-in_ok-look_if-clause-meets : goal.returns-in_ok-look_if-clause-meets
 returns-in_ok-look_if-clause-meets c done h state w =

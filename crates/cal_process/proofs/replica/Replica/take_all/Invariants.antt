@@ -5,7 +5,7 @@ use Rattle.cal_plog.specs.Seats.{slots_of}
 use Rattle.cal_words.specs.declared.op.OpRec.{OpRec}
 use Rattle.cal_process.specs.Takings.{KeepsLooks, TakesMore}
 use Rattle.cal_process.specs.Replicas.{HasTaken}
-use Rattle.cal_process.proofs.taking.Replica.take_all.Given as goal
+use Rattle.cal_process.proofs.replica.Replica.take_all.Given as goal
 
 -- whatever was taken in before, more is now
 abbrev pub invariant-loop : goal.invariant-loop

@@ -15,7 +15,7 @@ use Rattle.cal_run.specs.Steps.{readings_changed}
 use Rattle.cal_run.specs.declared.operation.Operation.{Operation}
 use Rattle.cal_thread.proofs.ThreadLemmas.{clock-stands}
 use Rattle.cal_thread.specs.Lines.{words_if}
-use Rattle.cal_thread.proofs.changing.Thread.change.Goals as goal
+use Rattle.cal_thread.proofs.thread.Thread.change.Goals as goal
 
 pub operate-requires-clause-may : goal.operate-requires-clause-may
 operate-requires-clause-may c = placed-may c.args.common.now.script.now c.args.line c.in-Some.op
