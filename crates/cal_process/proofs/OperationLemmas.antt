@@ -1,10 +1,10 @@
 -- What an operation does to a board over the shared tree.
-use Rattle.std.proofs.Common.{◌≡◌, ℕ, ◌<◌, ◌+◌, ◌≤◌, ◌^◌, List, [], ◌∷◌, ◌++◌, length, map, Bool, refl}
-use Rattle.std.proofs.Common.{sym, ap, subst, ◌∙◌, arith, ⊎_elim, inl, inr, ◌⊎◌}
+use Rattle.std.proofs.Common.{◌≡◌, ℕ, ◌<◌, ◌+◌, ◌≤◌, ◌^◌, [], ◌∷◌, ◌++◌, length, map, refl, sym}
+use Rattle.std.proofs.Common.{subst, arith, ⊎_elim}
 use Rattle.std.specs.Prelude.{Option, Some, None, slice_get, slice_index_or, option_and_then, true}
-use Rattle.std.specs.Prelude.{IsTrue}
+use Rattle.std.proofs.lemmas.Bool.{leb-true}
 use Rattle.std.proofs.lemmas.List.Elements.{All-nil}
-use Rattle.std.proofs.lemmas.Option.{get_or_from_slice_get, slice_get_within}
+use Rattle.std.proofs.lemmas.Option.{get_or_from_slice_get}
 use Rattle.cal_board.proofs.StandingLemmas.{Stands-grows}
 use Rattle.cal_board.specs.Blackboard.{Blackboard, nothing_open}
 use Rattle.cal_board.specs.PathBoards.{AreKnown}
@@ -19,14 +19,13 @@ use Rattle.cal_once.specs.Views.{KnowsMore}
 use Rattle.cal_once.specs.declared.seat.RowSeat.{RowSeat}
 use Rattle.cal_once.specs.declared.view.View.{View}
 use Rattle.cal_process.specs.Boards.{Held, HeldThen}
-use Rattle.cal_process.specs.Operations.{IsOpOf, IsShort, MayDo, operation_in, placed_as}
+use Rattle.cal_process.specs.Operations.{IsOpOf, IsShort, MayDo, operation_in}
 use Rattle.cal_process.specs.declared.common.Common.{Common}
 use Rattle.cal_run.proofs.HeldLemmas.{after-known, line_at-placed, placed-HasPlaces}
-use Rattle.cal_run.specs.Held.{HoldsBy, IsKnown}
 use Rattle.cal_run.specs.History.{board_with}
 use Rattle.cal_run.specs.Lines.{attr_ref, line_at, operation_of, value_of}
 use Rattle.cal_run.specs.declared.operation.Operation.{Operation}
-use Rattle.cal_script.specs.Parts.{is_allowed, is_short_number}
+use Rattle.cal_script.specs.Parts.{is_allowed}
 use Rattle.cal_script.specs.Valid.{IsOpening, IsPlaced, IsRunnable}
 use Rattle.cal_script.specs.declared.script.Line as lines
 use Rattle.cal_script.specs.declared.script.Line.TheVariants as line
@@ -53,8 +52,8 @@ allowed-short : (v : variants.Variant) → is_allowed v ≡ true → text_length
 allowed-short (variant.Int n) is = omega arith
 allowed-short (variant.Fixed n) is = omega arith
 allowed-short (variant.Uint n) is = omega arith
-allowed-short (variant.Text t) is = grind (arith, is)
-allowed-short (variant.Real t) is = grind (arith, is)
+allowed-short (variant.Text t) is = let le = leb-true (length t) 4096 is in omega (arith, le)
+allowed-short (variant.Real t) is = let le = leb-true (length t) 4096 is in omega (arith, le)
 allowed-short (variant.Bool b) is = omega arith
 allowed-short (variant.Addr a) is = omega arith
 allowed-short (variant.Kind k) is = omega arith

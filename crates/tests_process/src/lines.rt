@@ -67,3 +67,29 @@ fn reply_to(
         }
     }
 }
+
+/// The reply to a line that is the thread's own.
+fn own_reply(
+    alloc: Global,
+    common: &Common<'_>,
+    thread: &mut Thread,
+    done: u32,
+    line: Line,
+) -> Result<Option<Reply>, OutOfMemory>
+    requires common { IsCommon common.now }
+    requires thread { (h : List words.OpRec) × (state : ThreadState)
+        × IsThread common.now thread.old done h state }
+    requires placed { IsPlaced common.now.script.now.attributes common.now.script.now.channels
+        common.now.script.now.values line }
+    requires own { is_process_line common.now.script.now line ≡ false }
+    ensures thread { OnOk result ((h : List words.OpRec) × (state : ThreadState)
+        × IsThread common.now thread.new (done + 1) h state) }
+    ensures number { OnOk result (thread.new.number ≡ thread.old.number) }
+{
+    let met = thread.look(alloc, common, line)?;
+    if met.accepted {
+        thread.change(alloc, common, line, 0)?;
+    }
+    line_done_law();
+    Ok(met.reply)
+}
