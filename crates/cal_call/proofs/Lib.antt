@@ -1,5 +1,6 @@
 pub mod Deciding
 pub mod Decimals
+pub mod FewGenerated
 pub mod FewLines
 pub mod Fronts
 pub mod RunFaults

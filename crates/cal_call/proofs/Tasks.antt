@@ -45,3 +45,14 @@ module _ (input output : Change) (journal : Journal) (same : input.new ≡ input
       rw memory (ran_out join (reading (text_at words q)))
   text_refused words q join f (inr refused) =
       told (task_of words (command.Query q join)) f (refused join)
+
+leaves_read : (join : Bool) (read : Result Query Fault)
+    → LeavesInput (query_task join read) → IsErr (query_task join read)
+leaves_read join (Err found) leaves = refl
+leaves_read join (Ok query) leaves = absurd leaves
+
+-- a query reads its input, unless its text is refused
+pub leaves_query : (words : List (String Global)) (q : Option ℕ) (join : Bool)
+    → LeavesInput (task_of words (command.Query q join))
+    → IsErr (task_of words (command.Query q join))
+leaves_query words q join leaves = leaves_read join (reading (text_at words q)) leaves

@@ -1,5 +1,5 @@
 //! `gen`: the script of a seed and two sizes, or how large its run is.
-ghost use Rattle.std.specs.Prelude.{◌≡◌, false, IfOk, Ok};
+ghost use Rattle.std.specs.Prelude.{◌≡◌, ◌*◌, ◌≤◌, false, IfOk, Ok};
 ghost use Rattle.std.specs.Result.{result_err};
 ghost use Rattle.cal_base.specs.Change.{change_of};
 ghost use Rattle.cal_gen.specs.Generated.{generated};
@@ -18,8 +18,8 @@ use cal_value::{OutOfMemory, Text};
 use std::alloc::Global;
 use std::thread::Threads;
 
-/// Generates the script of a seed and two sizes, and writes it or how large its run is. It leaves
-/// the input as it is.
+/// Generates the script of a seed and two sizes, which are within the limits of scripts, and writes
+/// it or how large its run is. It leaves the input as it is.
 pub fn write_generated<R: Threads + Sync, S: Source, W: Sink>(
     rt: &R,
     alloc: Global,
@@ -30,6 +30,8 @@ pub fn write_generated<R: Threads + Sync, S: Source, W: Sink>(
     input: &mut S,
     output: &mut W,
 ) -> Result<(), Fault>
+    requires threads { threads ≤ 64 }
+    requires lines { threads * lines ≤ 1048576 }
     ensures answers { Answers (Ok (GenTask seed threads lines print))
         (change_of S.left S.faults input.old input.new)
         (change_of W.written W.faults output.old output.new) no_journal (result_err result) }
@@ -52,6 +54,8 @@ fn printed<R: Threads + Sync>(
     lines: u32,
     print: Print,
 ) -> Result<Text, OutOfMemory>
+    requires threads { threads ≤ 64 }
+    requires lines { threads * lines ≤ 1048576 }
     ensures { IfOk result (IsPrinted print (generated seed threads lines)) }
 {
     match print {

@@ -1,5 +1,5 @@
 //! How large the run of a generated script is, in six lines.
-ghost use Rattle.std.specs.Prelude.{◌≡◌, IfOk};
+ghost use Rattle.std.specs.Prelude.{◌≡◌, ◌*◌, ◌≤◌, IfOk};
 ghost use Rattle.cal_gen.specs.Generated.{generated};
 ghost use Rattle.cal_run.specs.Plain.{plain};
 ghost use Rattle.cal_script.specs.Valid.{IsRunnable};
@@ -16,7 +16,7 @@ use std::alloc::Global;
 use std::thread::Threads;
 
 /// The six lines of how large the run is that the script of a seed and two sizes and its plain
-/// journal give. The script's text isn't made.
+/// journal give, which are within the limits of scripts. The script's text isn't made.
 pub fn summary_lines<R: Threads + Sync>(
     rt: &R,
     alloc: Global,
@@ -24,6 +24,8 @@ pub fn summary_lines<R: Threads + Sync>(
     threads: u32,
     lines: u32,
 ) -> Result<Text, OutOfMemory>
+    requires threads { threads ≤ 64 }
+    requires lines { threads * lines ≤ 1048576 }
     ensures { IfOk result (IsPrinted print.Summary (generated seed threads lines)) }
 {
     valid_script_law();

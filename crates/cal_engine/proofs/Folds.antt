@@ -63,12 +63,38 @@ module _ (q : Query) (rs : List Rec) (r : Rec) (old : Folded) (is : old ≡ fold
           ∙ ap (λ b. if b then [] else rs) so
           ∙ ap (λ b. if b then [] else rs ++ r ∷ []) (sym so)
 
+  -- and else at the end of the kept ones
+  pub folded_row : is_aggregated old.query ≡ false
+      → record { query = old.query; groups = old.groups; rows = old.rows ++ r ∷ [] } ≡ folded q (rs ++ r ∷ [])
+  folded_row aggregated =
+      λ i. record { query = query_is i; groups = groups i; rows = rows i }
+    where
+      so : is_aggregated q ≡ false
+      so = ap is_aggregated (sym query_is) ∙ aggregated
+
+      groups : old.groups ≡ (if is_aggregated q then groups_over q (rs ++ r ∷ []) else no_groups)
+      groups =
+          ap (λ f. f.groups) is
+          ∙ ap (λ b. if b then groups_over q rs else no_groups) so
+          ∙ ap (λ b. if b then groups_over q (rs ++ r ∷ []) else no_groups) (sym so)
+
+      rows : old.rows ++ r ∷ [] ≡ (if is_aggregated q then [] else rs ++ r ∷ [])
+      rows =
+          ap (λ f. f.rows ++ r ∷ []) is
+          ∙ ap (λ b. (if b then [] else rs) ++ r ∷ []) so
+          ∙ ap (λ b. if b then [] else rs ++ r ∷ []) (sym so)
+
 -- what is kept of one more record
 pub kept_more : (q : Query) (rs : List Rec) (r : Rec) (o : Option Rec) → o ≡ kept q r
     → filter_map (kept q) (rs ++ r ∷ []) ≡ filter_map (kept q) rs ++ cons_option o []
 kept_more q rs r o is =
     filter_map-append (kept q) rs (r ∷ [])
     ∙ ap (λ p. filter_map (kept q) rs ++ cons_option p []) (sym is)
+
+-- a record that WHERE drops leaves the fold
+pub stands_without : (q : Query) (rs : List Rec) (r : Rec) (fold : Folded) → None ≡ kept q r → StandsFor q rs fold → StandsFor q (rs ++ r ∷ []) fold
+stands_without q rs r fold dropped stands =
+    stands ∙ ap (folded q) (sym (kept_more q rs r None dropped ∙ append-nil (filter_map (kept q) rs)))
 
 -- and one that it keeps is added
 pub stands_with : (q : Query) (rs : List Rec) (r made : Rec) (new : Folded) → Some made ≡ kept q r

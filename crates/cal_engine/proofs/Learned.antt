@@ -22,6 +22,38 @@ use Rattle.cal_engine.proofs.Takings.{same_texts}
 abbrev same_text : List ℕ → List ℕ → Bool
 same_text = eq_by_cmp text_cmp
 
+-- one more name
+learned_next : (done : List (List ℕ)) (name : List ℕ) → learned_one (firsts same_text done) name ≡ firsts same_text (done ++ name ∷ [])
+learned_next done name =
+    ap (λ b. if b then firsts same_text done else firsts same_text done ++ name ∷ []) (list_any-firsts (exact_equiv text_exact) (exact_tells text_exact) name done)
+    ∙ sym (firsts-push (exact_equiv text_exact) (exact_tells text_exact) done name)
+
+learned_all : (done more : List (List ℕ)) → learned (firsts same_text done) more ≡ firsts same_text (done ++ more)
+learned_all done [] = ap (firsts same_text) (sym (append-nil done))
+learned_all done (name ∷ names) =
+    ap (λ seen. learned seen names) (learned_next done name)
+    ∙ learned_all (done ++ name ∷ []) names
+    ∙ ap (firsts same_text) (append_assoc done (name ∷ []) names)
+
+first_seen-firsts : (texts : List (List ℕ)) → firsts same_text texts ≡ first_seen texts
+first_seen-firsts [] = refl
+first_seen-firsts (text ∷ texts) =
+    ap (λ seen. text ∷ filter (λ other. not (same_text other text)) seen) (first_seen-firsts texts)
+    ∙ (λ i. text ∷ filter (λ other. not (sym (same_texts other text) i)) (first_seen texts))
+
+pub learned_shown : (rows : List Rec) (first now : List (List ℕ)) → first ≡ path_first rows
+    → now ≡ learned first (flat_map (λ row. map (λ e. e.attr.name) (other_entries row)) rows)
+    → now ≡ shown_names rows
+learned_shown rows first now is step =
+    step
+    ∙ ap (λ f. learned f (flat_map (λ row. map (λ e. e.attr.name) (other_entries row)) rows)) (is ∙ alone (list_any (λ row. has_entries (hierarchy row)) rows))
+    ∙ learned_all (path_first rows) (flat_map (λ row. map (λ e. e.attr.name) (other_entries row)) rows)
+    ∙ first_seen-firsts (path_first rows ++ flat_map (λ row. map (λ e. e.attr.name) (other_entries row)) rows)
+  where
+    alone : (b : Bool) → (if b then codes "path" ∷ [] else []) ≡ firsts same_text (if b then codes "path" ∷ [] else [])
+    alone true = refl
+    alone false = refl
+
 -- the names of a row: those of its paths beside the hierarchy, and of its immediates
 pub learned_row : (names mid now : List (List ℕ)) (row : Rec)
     → mid ≡ learned names (names_beside true (joined row.paths))

@@ -35,7 +35,6 @@ pub filter_other : (p : Entry → Bool) (es : List Entry) (e : Entry) → p e �
 filter_other p es e isnt = filter-append p es (e ∷ []) ∙ ap (λ b. filter p es ++ (if b then e ∷ [] else [])) isnt ∙ append-nil (filter p es)
 
 module _ (t own : Tree) (s : Sieve) where
-
   module _ (l : Link) (n : NodeNumber) (linked : IsLinked t l n) where
     abbrev last : Entry
     last = record { attr = attribute_at t l.attribute; value = value_at t l.value }

@@ -64,7 +64,6 @@ All-front : {A : Type 0} (P : A → Type 0) (xs ys : List A) → All P (xs ++ ys
 All-front P xs ys all k d l = subst P (get_or_append_left xs ys d k l) (all k d (omega (arith, l, length-append xs ys)))
 
 module _ (Q : Attribute → Type 0) (t : Tree) where
-
   module _ (old new : Visits) (node top : NodeNumber) (visit : IsVisit t old node new top) (met : MetWith Q t old) where
     -- what holds on the paths of nodes that were met holds up to where the way up ended
     pub holds_above : All Q (attributes_on t top)

@@ -19,6 +19,10 @@ pub header_read : (bytes : List ℕ) (script : Script) → bytes ≡ header → 
 header_read bytes script is means =
     only_script script (generated_script 0 0 0) (meaning header) (sym (ap meaning is) ∙ means) (generated_means 0 0 0 (lit≤ tt) (lit≤ tt))
 
+-- and it means a script
+pub header_stands : (bytes : List ℕ) → bytes ≡ header → (script : Script) × Means bytes script
+header_stands bytes is = (generated_script 0 0 0, ap meaning is ∙ generated_means 0 0 0 (lit≤ tt) (lit≤ tt))
+
 -- what the header declares, with the threads and their values
 pub made_means : (seed threads lines : ℕ) (declared : Script) (none values : List Variant) (all : List (List Line))
     → threads ≤ 64 → threads * lines ≤ 1048576 → declared ≡ generated_script 0 0 0 → none ≡ []

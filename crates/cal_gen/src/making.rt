@@ -1,4 +1,4 @@
-ghost use Rattle.std.specs.Prelude.{◌≡◌, ◌≤◌, ◌++◌, ◌∷◌, [], IfOk, OnOk};
+ghost use Rattle.std.specs.Prelude.{◌≡◌, ◌<◌, ◌≤◌, ◌+◌, ◌*◌, ◌++◌, ◌∷◌, [], length, IfOk, OnOk};
 ghost use Rattle.cal_gen.specs.Generated.{generated};
 ghost use Rattle.cal_gen.specs.Steps.{last_draw, next_lines, next_step, next_threads};
 ghost use Rattle.cal_script.specs.Reading.{Means};
@@ -6,31 +6,22 @@ ghost use Rattle.cal_gen.specs.GeneratedScript.{generated_script, look_line};
 
 use crate::opened::Opened;
 use crate::{Draws, Move, header};
-use cal_script::{Line, Script, Ticks, read_script};
+use cal_script::{Line, Script, ScriptEnd, Ticks, meaning_law, read_script};
 use cal_value::{OutOfMemory, Seq};
 use std::alloc::Global;
 
-const MOST_THREADS: u32 = 64;
-
-/// The most lines in all threads.
-const MOST_LINES: u64 = 1_048_576;
-
-/// The script that the text of a seed and two sizes means. It takes time in their product. Sizes
-/// that pass the limits of scripts are answered as want of memory is.
+/// The script that the text of a seed and two sizes means, which are within the limits of scripts.
+/// It takes time in their product.
 pub fn generate_script(
     alloc: Global,
     seed: u32,
     threads: u32,
     lines: u32,
 ) -> Result<Script, OutOfMemory>
+    requires threads { threads ≤ 64 }
+    requires lines { threads * lines ≤ 1048576 }
     ensures { IfOk result (Means (generated seed threads lines)) }
 {
-    if threads > MOST_THREADS {
-        return Err(OutOfMemory);
-    }
-    if u64::from(threads) * u64::from(lines) > MOST_LINES {
-        return Err(OutOfMemory);
-    }
     let mut opened = Opened::new(alloc);
     let all = all_threads(alloc, seed, threads, lines, &mut opened)?;
     let values = opened.into_values(alloc)?;
@@ -48,9 +39,11 @@ pub fn generate_script(
 fn read_header(alloc: Global) -> Result<Script, OutOfMemory>
     ensures { IfOk result (λ script. script ≡ generated_script 0 0 0) }
 {
+    meaning_law();
     match read_script(alloc, header().as_bytes()) {
         Ok(script) => Ok(script),
-        Err(_) => Err(OutOfMemory),
+        Err(ScriptEnd::OutOfMemory) => Err(OutOfMemory),
+        Err(ScriptEnd::BadLine { .. }) => unreachable!(),
     }
 }
 
@@ -62,6 +55,7 @@ fn all_threads(
     lines: u32,
     opened: &mut Opened,
 ) -> Result<Seq<Seq<Line>>, OutOfMemory>
+    requires room { length opened.old + threads * lines ≤ 1048576 }
     ensures threads { IfOk result (λ all. all
         ≡ (next_threads threads lines opened.old seed).threads) }
     ensures values { OnOk result (opened.new
@@ -82,11 +76,13 @@ fn thread_lines(
     draws: &mut Draws,
     opened: &mut Opened,
 ) -> Result<Seq<Line>, OutOfMemory>
+    requires room { length opened.old + count ≤ 1048576 }
     ensures lines { IfOk result (λ lines. lines
         ≡ (next_lines count opened.old draws.old.x 0).lines) }
     ensures values { OnOk result (opened.new
         ≡ opened.old ++ (next_lines count opened.old draws.old.x 0).values) }
     ensures draws { OnOk result (draws.new.x ≡ last_draw count draws.old.x 0) }
+    ensures few { OnOk result (length opened.new ≤ length opened.old + count) }
 {
     let mut lines = Seq::from_vec(Vec::with_capacity(alloc, count as usize)?);
     let mut depth = 0;
@@ -103,7 +99,8 @@ fn push_line(
     opened: &mut Opened,
     depth: u32,
 ) -> Result<u32, OutOfMemory>
-    requires { depth ≤ 32 }
+    requires depth { depth ≤ 32 }
+    requires room { length opened.old < 1048576 }
     ensures line { OnOk result (lines.new
         ≡ lines.old ++ (next_step opened.old draws.old.x depth).line ∷ []) }
     ensures values { OnOk result (opened.new
@@ -113,6 +110,7 @@ fn push_line(
     ensures depth { IfOk result (λ after. after
         ≡ (next_step opened.old draws.old.x depth).after.depth) }
     ensures within { IfOk result (λ after. after ≤ 32) }
+    ensures few { OnOk result (length opened.new ≤ length opened.old + 1) }
 {
     match Move::of(draws.draw(8), depth) {
         Move::Begin => {

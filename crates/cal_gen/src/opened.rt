@@ -46,7 +46,8 @@ impl Opened {
 
     /// Adds a name, and gives its place in the list.
     pub(crate) fn push_name(&mut self, name: u32) -> Result<u32, OutOfMemory>
-        requires { name < 16 }
+        requires name { name < 16 }
+        requires room { length self.old < 1048576 }
         ensures added { OnOk result (self.new ≡ self.old ++ name_value name ∷ []) }
         ensures place { IfOk result (λ place. place ≡ length self.old) }
     {
@@ -55,7 +56,8 @@ impl Opened {
 
     /// Adds a number, and gives its place in the list.
     pub(crate) fn push_number(&mut self, number: u32) -> Result<u32, OutOfMemory>
-        requires { number < 1000 }
+        requires number { number < 1000 }
+        requires room { length self.old < 1048576 }
         ensures added { OnOk result (self.new ≡ self.old ++ number_value number ∷ []) }
         ensures place { IfOk result (λ place. place ≡ length self.old) }
     {
@@ -63,14 +65,12 @@ impl Opened {
     }
 
     fn push_place(&mut self, place: u32) -> Result<u32, OutOfMemory>
-        requires { place < 1016 }
+        requires place { place < 1016 }
+        requires room { length self.old < 1048576 }
         ensures added { OnOk result (self.new ≡ self.old ++ value_at place ∷ []) }
         ensures place { IfOk result (λ place. place ≡ length self.old) }
     {
         let count = self.places.len();
-        if count > u32::MAX as usize {
-            return Err(OutOfMemory);
-        }
         self.places.push(place)?;
         Ok(count as u32)
     }

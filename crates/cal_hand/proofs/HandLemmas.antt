@@ -2,14 +2,17 @@
 use Rattle.std.proofs.Common.{◌≡◌, ◌⊎◌, ℕ, ◌+◌, ◌<◌, List, [], ◌∷◌, ◌++◌, map, refl, inl, inr, sym, ap, subst, arith}
 use Rattle.std.specs.Prelude.{Option, Some, None, Ok, true, false, Bool}
 use Rattle.std.proofs.lemmas.List.{map-append}
-use Rattle.cal_board.specs.Blackboard.{opened_more}
-use Rattle.cal_board.specs.Standing.{IsParent}
+use Rattle.cal_board.proofs.StandingLemmas.{Stands-grows}
+use Rattle.cal_board.specs.Blackboard.{Blackboard, opened_more}
+use Rattle.cal_board.specs.Standing.{IsParent, Stands}
 use Rattle.cal_board.specs.declared.opened.Opened.{Opened}
 use Rattle.cal_hand.specs.Nodes.{IsNodeFor, PublishedOne, node_entry, parent_number}
 use Rattle.cal_once.specs.Puts.{Answers}
+use Rattle.cal_once.specs.Views.{KnowsMore}
 use Rattle.cal_once.specs.declared.answer.Put.TheVariants.{Placed}
 use Rattle.cal_once.specs.declared.view.Plan.{Plan}
 use Rattle.cal_once.specs.declared.view.View.{View}
+use Rattle.cal_tree.proofs.Ways.{leads_later}
 use Rattle.cal_tree.specs.Children.{IsAnswer, child_ask}
 use Rattle.cal_tree.specs.Paths.{HasPath, NodeEntry}
 use Rattle.cal_value.specs.declared.variant.Variant.{Variant}
@@ -58,3 +61,14 @@ made_below slots w path parent node a x makes at =
     subst (λ (p : List NodeEntry). HasPath slots w p node)
     (sym (map-append node_entry path (record { attribute = a; value = x } ∷ [])))
     (makes (map node_entry path) at)
+
+-- a board stands for what it stood for, as a seat that has learned more knows
+pub board_later : (slots : ℕ) (v w : View NodeSort) (held : Blackboard NodeId)
+    (b : Blackboard Variant) → KnowsMore v w → Stands (IsNodeFor slots v) held b
+    → Stands (IsNodeFor slots w) held b
+board_later slots v w held b more is =
+    Stands-grows (IsNodeFor slots v) (IsNodeFor slots w)
+    (λ (n : NodeId) (path : List (Opened Variant)) (at : IsNodeFor slots v n path). record {
+      below = at.below;
+      has_path = leads_later slots v w 0 0 (map node_entry path) n.0 more at.has_path;
+    }) held b is

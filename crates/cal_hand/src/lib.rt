@@ -11,10 +11,12 @@ mod by_hand;
 mod change;
 mod hand;
 mod last;
+mod laws;
 mod opening;
 mod shared_board;
 
 pub use change::{Change, operate};
 pub use hand::Hand;
+pub use laws::boards_for_good;
 pub use opening::{begin, set};
 pub use shared_board::SharedBoard;

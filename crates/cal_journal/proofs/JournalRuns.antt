@@ -159,3 +159,18 @@ told_at : (line : ℕ) (kind : JournalKind) (k m : ℕ) (ls ms : List (List ℕ)
 told_at line kind k m ls ms place left told =
     let at : HasFaultBehind m ls line kind = (let P : List (List ℕ) → Type 0 = λ lines. HasFaultBehind m lines line kind in subst P (sym left) told) in
     let P : ℕ → Type 0 = λ before. HasFaultBehind before ls line kind in subst P (sym place) at
+
+pub both_said : (bytes : List ℕ) (script : Script) (line : ℕ) (rest : List ℕ) (text : Option JournalText) → IsFront bytes script line rest
+    → SaysJournalBehind line (lines_of rest) text → MeansBoth bytes (script, text)
+both_said bytes script line rest text front says = record {
+  script = front.said;
+  journal = said_at text _ line _ (lines_of rest) front.place front.left says;
+}
+
+-- a refusal of the journal behind a script that stands
+pub both_told : (bytes : List ℕ) (script : Script) (line : ℕ) (rest : List ℕ) (told : ends.BothEnd) → IsFront bytes script line rest
+    → IsJournalRefusal line (lines_of rest) told → IsRefusalOf bytes told
+both_told bytes script line rest (end.Script at kind) front told = absurd told
+both_told bytes script line rest (end.Journal at kind) front told =
+    ((front.said.0, front.said.1), told_at at kind _ line _ (lines_of rest) front.place front.left told)
+both_told bytes script line rest end.OutOfMemory front told = tt

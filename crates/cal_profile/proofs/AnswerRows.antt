@@ -109,7 +109,7 @@ module _ (q : Query) (aggregated : is_aggregated q ≡ true) where
       → Contains (rows_of q rs) row → Contains (rows_of q ss) row
   rows_to rs ss groups same row there =
       let found = mapped_from (row_of q rs) (groups_of q.group rs) row
-          (subst (λ xs. Contains xs row) (rows_are rs) there) in
+      (subst (λ xs. Contains xs row) (rows_are rs) there) in
       subst (λ xs. Contains xs row) (sym (rows_are ss))
       (subst (Contains (map (row_of q ss) (groups_of q.group ss)))
       (sym (same found.0) ∙ found.2)

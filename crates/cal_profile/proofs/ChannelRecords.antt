@@ -35,9 +35,9 @@ pub records_answer : (attributes : List Attribute) (channel : ChannelQuery) (tra
 records_answer attributes channel trace q is coarser =
     let records = group_records (channel_query channel) trace in
     let alike : AnswerAlike q records trace =
-        subst (λ rs. AnswerAlike q rs trace) (sym (group_records_are channel trace))
-        (sorted_profile_answers attributes channel trace is q coarser
-        (rows_cmp (channel_query channel).aggs)) in
+    subst (λ rs. AnswerAlike q rs trace) (sym (group_records_are channel trace))
+    (sorted_profile_answers attributes channel trace is q coarser
+    (rows_cmp (channel_query channel).aggs)) in
     record {
       alike = alike;
       rows = same_answers q coarser.aggregated records trace alike;

@@ -88,7 +88,7 @@ module _ (key f : Rec → Rec) where
       by true e rest =
           let same = group_same (key w) g e in
           let none : list_any (is_group (key w)) gs ≡ false =
-              ap (λ k. list_any (is_group k) gs) same ∙ once.0 in
+          ap (λ k. list_any (is_group k) gs) same ∙ once.0 in
           let empty : filter (ties below w) (map f gs) ≡ [] = rest ∙ ap one none in
           ap front (test ∙ e)
           ∙ (λ i. f (sym same i) ∷ empty i)

@@ -85,7 +85,7 @@ module _ (attributes : List Attribute) where
   among_declared name [] all h = absurd (true≢false (sym h))
   among_declared name (key ∷ keys) all h =
       elim (or_cases (is_same name key) (list_any (is_same name) keys) h) [
-        inl here ↦ ap (λ n. is_some (props_of attributes n)) (same_text name key here) ∙ all.0
+        | inl here ↦ ap (λ n. is_some (props_of attributes n)) (same_text name key here) ∙ all.0
         | inr there ↦ among_declared name keys all.1 there
       ]
 
@@ -95,7 +95,7 @@ module _ (attributes : List Attribute) where
   key_declared name plain [] all h = absurd (true≢false (sym h))
   key_declared name plain (key ∷ keys) all h =
       elim (or_cases (is_same name key) (list_any (is_same name) keys) h) [
-        inl here ↦ by all.0 (same_text name key here)
+        | inl here ↦ by all.0 (same_text name key here)
         | inr there ↦ among_declared name keys all.1 there
       ]
     where
@@ -112,7 +112,7 @@ module _ (attributes : List Attribute) where
   kept_declared (Some keys) all name plain h =
       elim (or_cases (list_any (is_same name) keys)
       (list_any is_path keys && is_of attributes is_nested name) h) [
-        inl key ↦ key_declared name plain keys all key
+        | inl key ↦ key_declared name plain keys all key
         | inr nested ↦ of_declared is_nested name
             (and_parts (list_any is_path keys) (is_of attributes is_nested name) nested).1
       ]
@@ -131,7 +131,7 @@ module _ (attributes : List Attribute) where
       → e.attr.props ≡ props
   own_props name props is e declared named =
       let one : Some e.attr.props ≡ Some props =
-          sym declared ∙ ap (props_of attributes) named ∙ is in
+      sym declared ∙ ap (props_of attributes) named ∙ is in
       cc
 
   -- an entry in a path is nested where it is of the hierarchy
@@ -226,7 +226,7 @@ module _ (attributes : List Attribute) where
       by false t = t
       by true t =
           let same : e.attr.props ≡ props =
-              own_props name props is e d.declared (taken_name false name e plain t) in
+          own_props name props is e d.declared (taken_name false name e plain t) in
           absurd (true≢false
           (sym reference ∙ ap is_reference (sym same) ∙ ap not d.value))
 

@@ -141,7 +141,7 @@ pub known_among : (aggs : List Agg) (agg : Agg) → Contains aggs agg
 known_among [] agg there = absurd (Contains-nil agg there)
 known_among (a ∷ aggs) agg (zero, short, is) =
     let own : is_same a.name agg.name ≡ true =
-        (bytes_decides a.name agg.name).1 (ap (λ x. x.name) is) in
+    (bytes_decides a.name agg.name).1 (ap (λ x. x.name) is) in
     rw own refl
 known_among (a ∷ aggs) agg (suc k, short, is) =
     or_true (is_same a.name agg.name) _ (known_among aggs agg (k, omega arith, is))

@@ -57,7 +57,7 @@ sum_brought ns there = by (brought kernel.Sum ns) refl
             ∙ ap (λ b. if b then Some (Fixed z) else None) is ∙ sym e
         at false is =
             let absent : sum_of ns ≡ None = ap (option_and_then kept) e
-                ∙ ap (λ b. if b then Some (Fixed z) else None) is in
+            ∙ ap (λ b. if b then Some (Fixed z) else None) is in
             let none : Some (Fixed z) ≡ None = sym e ∙ ap (brought kernel.Sum) (there absent) in
             cc
 
@@ -189,7 +189,7 @@ module _ (attributes : List Attribute) (channel : ChannelQuery) (trace : List Re
         let has = has_records (channel_query channel) trace group seen in
         let all = members_are group trace is.snapshots in
         let first : IsMember group has.first =
-            (subst (AllByRecursion (IsMember group)) has.are all).0 in
+        (subst (AllByRecursion (IsMember group)) has.are all).0 in
         record {
           some = subst (λ rs. 0 < length rs) (sym has.are) (omega arith);
           alike = all_weaker (IsMember group) (IsAlike q (own_row group)) (alike_member group)
@@ -238,9 +238,9 @@ module _ (attributes : List Attribute) (channel : ChannelQuery) (trace : List Re
     profile_answers : AnswerAlike q (rows_of (channel_query channel) trace) trace
     profile_answers =
         let stand = stand_ins_answer q addable (map own_row (groups_of keys trace))
-            (map members (groups_of keys trace))
-            (rows_stand (groups_of keys trace)
-            (keys_seen (channel_query channel) trace (map (group_of keys) trace))) in
+        (map members (groups_of keys trace))
+        (rows_stand (groups_of keys trace)
+        (keys_seen (channel_query channel) trace (map (group_of keys) trace))) in
         subst (λ rs. AnswerAlike q rs trace) (sym profile_is)
         (after q (map own_row (groups_of keys trace)) by_group trace
         (subst (λ rs. AnswerAlike q (map own_row (groups_of keys trace)) rs)

@@ -34,15 +34,15 @@ module _ (q : Query) where
       → IsKept (λ rs. brought agg.kernel (contributed agg (f rs))) (bringing agg.kernel)
   brings_kept agg f parts = record {
     merges = λ rs ss.
-      ap (λ xs. brought agg.kernel (contributed agg xs)) (parts rs ss)
-      ∙ ap (brought agg.kernel) (contributed-append agg (f rs) (f ss))
-      ∙ brought-append agg.kernel (contributed agg (f rs)) (contributed agg (f ss));
+        ap (λ xs. brought agg.kernel (contributed agg xs)) (parts rs ss)
+        ∙ ap (brought agg.kernel) (contributed-append agg (f rs) (f ss))
+        ∙ brought-append agg.kernel (contributed agg (f rs)) (contributed agg (f ss));
     commutes = λ rs ss.
-      ap (λ xs. brought agg.kernel (contributed agg xs)) (parts rs ss)
-      ∙ ap (brought agg.kernel) (contributed-append agg (f rs) (f ss))
-      ∙ brought-swap agg.kernel (contributed agg (f rs)) (contributed agg (f ss))
-      ∙ ap (brought agg.kernel) (sym (contributed-append agg (f ss) (f rs)))
-      ∙ ap (λ xs. brought agg.kernel (contributed agg xs)) (sym (parts ss rs));
+        ap (λ xs. brought agg.kernel (contributed agg xs)) (parts rs ss)
+        ∙ ap (brought agg.kernel) (contributed-append agg (f rs) (f ss))
+        ∙ brought-swap agg.kernel (contributed agg (f rs)) (contributed agg (f ss))
+        ∙ ap (brought agg.kernel) (sym (contributed-append agg (f ss) (f rs)))
+        ∙ ap (λ xs. brought agg.kernel (contributed agg xs)) (sym (parts ss rs));
   }
 
   or_swap : (a b : Bool) → (a || b) ≡ (b || a)
@@ -55,13 +55,13 @@ module _ (q : Query) where
   seen_kept : (group : Rec) (p : Rec → Bool) → IsKept (λ rs. seen q group (filter p rs)) ◌||◌
   seen_kept group p = record {
     merges = λ rs ss.
-      ap (seen q group) (filter-append p rs ss) ∙ seen-append q group (filter p rs) (filter p ss);
+        ap (seen q group) (filter-append p rs ss) ∙ seen-append q group (filter p rs) (filter p ss);
     commutes = λ rs ss.
-      ap (seen q group) (filter-append p rs ss)
-      ∙ seen-append q group (filter p rs) (filter p ss)
-      ∙ or_swap (seen q group (filter p rs)) (seen q group (filter p ss))
-      ∙ sym (seen-append q group (filter p ss) (filter p rs))
-      ∙ ap (seen q group) (sym (filter-append p ss rs));
+        ap (seen q group) (filter-append p rs ss)
+        ∙ seen-append q group (filter p rs) (filter p ss)
+        ∙ or_swap (seen q group (filter p rs)) (seen q group (filter p ss))
+        ∙ sym (seen-append q group (filter p ss) (filter p rs))
+        ∙ ap (seen q group) (sym (filter-append p ss rs));
   }
 
   -- So lists of which alike is kept, whatever it is, answer alike.

@@ -63,9 +63,9 @@ module _ (attributes : List Attribute) where
       by false t = t
       by true t =
           let is : e.attr.name ≡ name =
-              same_text e.attr.name name (same_texts e.attr.name name ∙ t) in
+          same_text e.attr.name name (same_texts e.attr.name name ∙ t) in
           let one : None ≡ Some e.attr.props =
-              sym none ∙ ap (props_of attributes) (sym is) ∙ declared in
+          sym none ∙ ap (props_of attributes) (sym is) ∙ declared in
           cc
 
   module _ (name : List ℕ) (none : props_of attributes name ≡ None) (m : Rec)
@@ -116,7 +116,7 @@ module _ (attributes : List Attribute) where
         by false plain =
             let kept : is_kept attributes (Some keys) name ≡ true = at false plain in
             let found = some_of (props_of attributes name)
-                (kept_declared attributes (Some keys) all name plain kept) in
+            (kept_declared attributes (Some keys) all name plain kept) in
             whole_in_paths attributes name found.0 found.1 plain keys
             (sym (is_kept_by attributes (Some keys) name found.0 found.1) ∙ kept)
 
@@ -141,138 +141,138 @@ module _ (attributes : List Attribute) where
             (whole_in_imms attributes name plain keys e) m.imms snap.imms
         by false e =
             let nested : (list_any is_path keys && is_nested props) ≡ true =
-                sym (ap (λ b. b || (list_any is_path keys && is_nested props)) e) ∙ h in
+            sym (ap (λ b. b || (list_any is_path keys && is_nested props)) e) ∙ h in
             let both = and_parts (list_any is_path keys) (is_nested props) nested in
             let none = imms_none (Some keys) name props is
-                (and_parts (is_of_hierarchy_props props) (is_reference props) both.1).1 plain in
+            (and_parts (is_of_hierarchy_props props) (is_reference props) both.1).1 plain in
             taken_empty (IsImmediate attributes) false (takes false name) keys m.imms none
             ∙ sym none
 
   -- ---- a group with results
 
   module _ (channel : ChannelQuery) (named : IsNamed attributes channel) (o : Agg → Option Num)
-      where
-    -- the entries of the results
-    abbrev pub entries : List Entry
-    entries = filter_map (entry_of o) (channel_query channel).aggs
+    where
+      -- the entries of the results
+      abbrev pub entries : List Entry
+      entries = filter_map (entry_of o) (channel_query channel).aggs
 
-    abbrev pub with_entries : Rec → Rec
-    with_entries group = record { paths = group.paths; imms = group.imms ++ entries }
+      abbrev pub with_entries : Rec → Rec
+      with_entries group = record { paths = group.paths; imms = group.imms ++ entries }
 
-    -- no result has the name of a declared attribute
-    pub no_result : (name : List ℕ) → IsDeclared attributes name
-        → list_any (λ agg. is_same agg.name name) (channel_query channel).aggs ≡ false
-    no_result name declared = among (channel_query channel).aggs
-        (holds_of_all (λ agg. props_of attributes agg.name ≡ None) (channel_query channel).aggs
-        named.results)
-      where
-        apart : (agg : Agg) → props_of attributes agg.name ≡ None → is_same agg.name name ≡ false
-        apart agg none = by (is_same agg.name name) refl
+      -- no result has the name of a declared attribute
+      pub no_result : (name : List ℕ) → IsDeclared attributes name
+          → list_any (λ agg. is_same agg.name name) (channel_query channel).aggs ≡ false
+      no_result name declared = among (channel_query channel).aggs
+          (holds_of_all (λ agg. props_of attributes agg.name ≡ None) (channel_query channel).aggs
+          named.results)
+        where
+          apart : (agg : Agg) → props_of attributes agg.name ≡ None → is_same agg.name name ≡ false
+          apart agg none = by (is_same agg.name name) refl
+            where
+              by : (b : Bool) → is_same agg.name name ≡ b → is_same agg.name name ≡ false
+              by false e = e
+              by true e = absurd (true≢false (sym declared
+                  ∙ ap (λ n. is_some (props_of attributes n)) (sym (same_text agg.name name e))
+                  ∙ ap is_some none))
+
+          among : (aggs : List Agg) → AllByRecursion (λ agg. props_of attributes agg.name ≡ None) aggs
+              → list_any (λ agg. is_same agg.name name) aggs ≡ false
+          among [] all = refl
+          among (agg ∷ aggs) all = λ i. apart agg all.0 i || among aggs all.1 i
+
+      module _ (m : Rec) (snap : IsSnapshot attributes m) where
+        abbrev own : Rec
+        own = group_of (keys_of channel) m
+
+        imms_agree : (name : List ℕ) → keeps_group attributes (keys_of channel) name ≡ true
+            → filter (takes false name) (with_entries own).imms ≡ filter (takes false name) m.imms
+        imms_agree name h = by (is_path name) refl
           where
-            by : (b : Bool) → is_same agg.name name ≡ b → is_same agg.name name ≡ false
-            by false e = e
-            by true e = absurd (true≢false (sym declared
-                ∙ ap (λ n. is_some (props_of attributes n)) (sym (same_text agg.name name e))
-                ∙ ap is_some none))
+            by : (b : Bool) → is_path name ≡ b
+                → filter (takes false name) (with_entries own).imms ≡ filter (takes false name) m.imms
+            by true path =
+                nothing_path name path (with_entries own).imms ∙ sym (nothing_path name path m.imms)
+            by false plain =
+                let kept : is_kept attributes (keys_of channel) name ≡ true =
+                sym (ap (λ p. if p then keeps_path (keys_of channel)
+                else is_kept attributes (keys_of channel) name) plain) ∙ h in
+                let declared =
+                kept_declared attributes (keys_of channel) named.keys name plain kept in
+                let found = some_of (props_of attributes name) declared in
+                filter-append (takes false name) own.imms entries
+                ∙ (λ i. imms_by m snap (keys_of channel) name found.0 found.1 plain
+                (sym (is_kept_by attributes (keys_of channel) name found.0 found.1) ∙ kept) i
+                ++ results_apart o (takes false name) name
+                (λ n e is apart. takes_plain false name e plain ∙ ap (λ x. is_same x name) is ∙ apart)
+                (channel_query channel).aggs (no_result name declared) i)
+                ∙ append-nil (filter (takes false name) m.imms)
 
-        among : (aggs : List Agg) → AllByRecursion (λ agg. props_of attributes agg.name ≡ None) aggs
-            → list_any (λ agg. is_same agg.name name) aggs ≡ false
-        among [] all = refl
-        among (agg ∷ aggs) all = λ i. apart agg all.0 i || among aggs all.1 i
+        paths_agree : (name : List ℕ) → keeps_group attributes (keys_of channel) name ≡ true
+            → filter (takes true name) (joined own.paths) ≡ filter (takes true name) (joined m.paths)
+        paths_agree name h = paths_taken m snap (keys_of channel) named.keys named.path name h
 
-    module _ (m : Rec) (snap : IsSnapshot attributes m) where
-      abbrev own : Rec
-      own = group_of (keys_of channel) m
+        -- WHERE takes `path` as a plain name, which no entry has
+        named_path : (name : List ℕ) → is_path name ≡ true
+            → entries_named name (with_entries own) ≡ entries_named name m
+        named_path name path =
+            filter-append (is_named name) (joined own.paths) (own.imms ++ entries)
+            ∙ (λ i. group_paths_without name none m snap (keys_of channel) i
+            ++ filter-append (is_named name) own.imms entries i)
+            ∙ (λ i. group_imms_without name none m snap (keys_of channel) i ++ results i)
+            ∙ sym (filter-append (is_named name) (joined m.paths) m.imms
+            ∙ (λ i. paths_without name none m snap i ++ imms_without name none m snap i))
+          where
+            is : name ≡ codes "path"
+            is = same_text name (codes "path") path
 
-      imms_agree : (name : List ℕ) → keeps_group attributes (keys_of channel) name ≡ true
-          → filter (takes false name) (with_entries own).imms ≡ filter (takes false name) m.imms
-      imms_agree name h = by (is_path name) refl
-        where
-          by : (b : Bool) → is_path name ≡ b
-              → filter (takes false name) (with_entries own).imms ≡ filter (takes false name) m.imms
-          by true path =
-              nothing_path name path (with_entries own).imms ∙ sym (nothing_path name path m.imms)
-          by false plain =
-              let kept : is_kept attributes (keys_of channel) name ≡ true =
-                  sym (ap (λ p. if p then keeps_path (keys_of channel)
-                  else is_kept attributes (keys_of channel) name) plain) ∙ h in
-              let declared =
-                  kept_declared attributes (keys_of channel) named.keys name plain kept in
-              let found = some_of (props_of attributes name) declared in
-              filter-append (takes false name) own.imms entries
-              ∙ (λ i. imms_by m snap (keys_of channel) name found.0 found.1 plain
-              (sym (is_kept_by attributes (keys_of channel) name found.0 found.1) ∙ kept) i
-              ++ results_apart o (takes false name) name
-              (λ n e is apart. takes_plain false name e plain ∙ ap (λ x. is_same x name) is ∙ apart)
-              (channel_query channel).aggs (no_result name declared) i)
-              ∙ append-nil (filter (takes false name) m.imms)
+            none : props_of attributes name ≡ None
+            none = ap (props_of attributes) is ∙ named.path
 
-      paths_agree : (name : List ℕ) → keeps_group attributes (keys_of channel) name ≡ true
-          → filter (takes true name) (joined own.paths) ≡ filter (takes true name) (joined m.paths)
-      paths_agree name h = paths_taken m snap (keys_of channel) named.keys named.path name h
+            results : filter (is_named name) entries ≡ []
+            results = results_apart o (is_named name) name (named_other name)
+                (channel_query channel).aggs
+                (ap (λ n. list_any (λ agg. is_same agg.name n) (channel_query channel).aggs) is
+                ∙ path_no_result channel named.once)
 
-      -- WHERE takes `path` as a plain name, which no entry has
-      named_path : (name : List ℕ) → is_path name ≡ true
-          → entries_named name (with_entries own) ≡ entries_named name m
-      named_path name path =
-          filter-append (is_named name) (joined own.paths) (own.imms ++ entries)
-          ∙ (λ i. group_paths_without name none m snap (keys_of channel) i
-          ++ filter-append (is_named name) own.imms entries i)
-          ∙ (λ i. group_imms_without name none m snap (keys_of channel) i ++ results i)
-          ∙ sym (filter-append (is_named name) (joined m.paths) m.imms
-          ∙ (λ i. paths_without name none m snap i ++ imms_without name none m snap i))
-        where
-          is : name ≡ codes "path"
-          is = same_text name (codes "path") path
+        named_plain : (name : List ℕ) → is_path name ≡ false
+            → is_kept attributes (keys_of channel) name ≡ true
+            → entries_named name (with_entries own) ≡ entries_named name m
+        named_plain name plain kept =
+            filter-append (is_named name) (joined own.paths) (with_entries own).imms
+            ∙ (λ i. in_paths i ++ in_imms i)
+            ∙ sym (filter-append (is_named name) (joined m.paths) m.imms)
+          where
+            h : keeps_group attributes (keys_of channel) name ≡ true
+            h = ap (λ p. if p then keeps_path (keys_of channel)
+                else is_kept attributes (keys_of channel) name) plain ∙ kept
 
-          none : props_of attributes name ≡ None
-          none = ap (props_of attributes) is ∙ named.path
+            in_paths : filter (is_named name) (joined own.paths)
+                ≡ filter (is_named name) (joined m.paths)
+            in_paths =
+                filter_agree (is_named name) (takes true name) (named_is true name plain)
+                (joined own.paths)
+                ∙ paths_agree name h
+                ∙ sym (filter_agree (is_named name) (takes true name) (named_is true name plain)
+                (joined m.paths))
 
-          results : filter (is_named name) entries ≡ []
-          results = results_apart o (is_named name) name (named_other name)
-              (channel_query channel).aggs
-              (ap (λ n. list_any (λ agg. is_same agg.name n) (channel_query channel).aggs) is
-              ∙ path_no_result channel named.once)
+            in_imms : filter (is_named name) (with_entries own).imms ≡ filter (is_named name) m.imms
+            in_imms =
+                filter_agree (is_named name) (takes false name) (named_is false name plain)
+                (with_entries own).imms
+                ∙ imms_agree name h
+                ∙ sym (filter_agree (is_named name) (takes false name) (named_is false name plain)
+                m.imms)
 
-      named_plain : (name : List ℕ) → is_path name ≡ false
-          → is_kept attributes (keys_of channel) name ≡ true
-          → entries_named name (with_entries own) ≡ entries_named name m
-      named_plain name plain kept =
-          filter-append (is_named name) (joined own.paths) (with_entries own).imms
-          ∙ (λ i. in_paths i ++ in_imms i)
-          ∙ sym (filter-append (is_named name) (joined m.paths) m.imms)
-        where
-          h : keeps_group attributes (keys_of channel) name ≡ true
-          h = ap (λ p. if p then keeps_path (keys_of channel)
-              else is_kept attributes (keys_of channel) name) plain ∙ kept
-
-          in_paths : filter (is_named name) (joined own.paths)
-              ≡ filter (is_named name) (joined m.paths)
-          in_paths =
-              filter_agree (is_named name) (takes true name) (named_is true name plain)
-              (joined own.paths)
-              ∙ paths_agree name h
-              ∙ sym (filter_agree (is_named name) (takes true name) (named_is true name plain)
-              (joined m.paths))
-
-          in_imms : filter (is_named name) (with_entries own).imms ≡ filter (is_named name) m.imms
-          in_imms =
-              filter_agree (is_named name) (takes false name) (named_is false name plain)
-              (with_entries own).imms
-              ∙ imms_agree name h
-              ∙ sym (filter_agree (is_named name) (takes false name) (named_is false name plain)
-              m.imms)
-
-      -- So a group with results agrees with each of its records.
-      pub row_agrees : Agree attributes (keys_of channel) (with_entries own) m
-      row_agrees = record {
-        named = λ name kept. by name kept (is_path name) refl;
-        paths = paths_agree;
-        imms = imms_agree;
-        whole = λ none. ap (λ keys. (group_of keys m).paths) none;
-      }
-        where
-          by : (name : List ℕ) → is_kept attributes (keys_of channel) name ≡ true → (b : Bool)
-              → is_path name ≡ b → entries_named name (with_entries own) ≡ entries_named name m
-          by name kept true path = named_path name path
-          by name kept false plain = named_plain name plain kept
+        -- So a group with results agrees with each of its records.
+        pub row_agrees : Agree attributes (keys_of channel) (with_entries own) m
+        row_agrees = record {
+          named = λ name kept. by name kept (is_path name) refl;
+          paths = paths_agree;
+          imms = imms_agree;
+          whole = λ none. ap (λ keys. (group_of keys m).paths) none;
+        }
+          where
+            by : (name : List ℕ) → is_kept attributes (keys_of channel) name ≡ true → (b : Bool)
+                → is_path name ≡ b → entries_named name (with_entries own) ≡ entries_named name m
+            by name kept true path = named_path name path
+            by name kept false plain = named_plain name plain kept

@@ -50,7 +50,7 @@ module _ (attributes : List Attribute) (name : List ℕ) (props : Props)
       → is_named name e ≡ true → e.attr.props ≡ props
   own_props e declared h =
       let one : Some e.attr.props ≡ Some props =
-          sym declared ∙ ap (props_of attributes) (named_text name e h) ∙ is in
+      sym declared ∙ ap (props_of attributes) (named_text name e h) ∙ is in
       cc
 
   -- ---- keys that don't keep a name take none of its entries
@@ -160,7 +160,7 @@ module _ (attributes : List Attribute) (channel : ChannelQuery) (named : IsNamed
   value_gone attr declared left =
       let found = some_of (props_of attributes attr) declared in
       let gone : kept_by (keys_of channel) attr found.0 ≡ false =
-          sym (is_kept_by attributes (keys_of channel) attr found.0 found.1) ∙ left in
+      sym (is_kept_by attributes (keys_of channel) attr found.0 found.1) ∙ left in
       ap last_in
       (in_row attr (paths_left attributes attr found.0 found.1 m snap (keys_of channel) gone)
       (imms_left attributes attr found.0 found.1 m snap (keys_of channel) gone)

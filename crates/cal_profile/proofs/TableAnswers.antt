@@ -125,165 +125,165 @@ keys_cases attributes (key ∷ keys) are = (
 -- ---- the groups of snapshots
 
 module _ (attributes : List Attribute) (channel : ChannelQuery) (named : IsNamed attributes channel)
-    where
-  abbrev IsOther : Entry → Type 0
-  IsOther e = is_result (channel_query channel).aggs e ≡ false
+  where
+    abbrev IsOther : Entry → Type 0
+    IsOther e = is_result (channel_query channel).aggs e ≡ false
 
-  abbrev IsPlain : Rec → Type 0
-  IsPlain group = AllByRecursion IsOther group.imms
+    abbrev IsPlain : Rec → Type 0
+    IsPlain group = AllByRecursion IsOther group.imms
 
-  -- no immediate of a snapshot has the name of a result
-  others : (m : Rec) → IsSnapshot attributes m → AllByRecursion IsOther m.imms
-  others m snap = all_weaker (IsImmediate attributes) IsOther
-      (λ e d. no_result attributes channel named (λ agg. None) e.attr.name
-      (ap is_some d.declared)) m.imms snap.imms
+    -- no immediate of a snapshot has the name of a result
+    others : (m : Rec) → IsSnapshot attributes m → AllByRecursion IsOther m.imms
+    others m snap = all_weaker (IsImmediate attributes) IsOther
+        (λ e d. no_result attributes channel named (λ agg. None) e.attr.name
+        (ap is_some d.declared)) m.imms snap.imms
 
-  -- so none of its group has
-  taken_others : (names : List (List ℕ)) (es : List Entry) → AllByRecursion IsOther es
-      → AllByRecursion IsOther (joined (taken false names es))
-  taken_others [] es all = tt
-  taken_others (name ∷ names) es all = both (filter (takes false name) es)
-      (joined (taken false names (filter (λ e. not (takes false name e)) es)))
-      (all-filter IsOther (takes false name) es all)
-      (taken_others names (filter (λ e. not (takes false name e)) es)
-      (all-filter IsOther (λ e. not (takes false name e)) es all))
-    where
-      both : (es fs : List Entry) → AllByRecursion IsOther es → AllByRecursion IsOther fs
-          → AllByRecursion IsOther (es ++ fs)
-      both [] fs one other = other
-      both (e ∷ es) fs one other = (one.0, both es fs one.1 other)
-
-  group_plain : (keys : Option (List (List ℕ))) (m : Rec) → IsSnapshot attributes m
-      → IsPlain (group_of keys m)
-  group_plain None m snap = tt
-  group_plain (Some names) m snap = taken_others names m.imms (others m snap)
-
-  firsts_all : (gs : List Rec) → AllByRecursion IsPlain gs
-      → AllByRecursion IsPlain (firsts is_group gs)
-  firsts_all [] all = tt
-  firsts_all (g ∷ gs) all = (
-    all.0,
-    all-filter IsPlain (λ other. not (is_group other g)) (firsts is_group gs) (firsts_all gs all.1),
-  )
-
-  groups_plain : (keys : Option (List (List ℕ))) (trace : List Rec)
-      → AllByRecursion (IsSnapshot attributes) trace
-      → AllByRecursion IsPlain (map (group_of keys) trace)
-  groups_plain keys [] all = tt
-  groups_plain keys (m ∷ trace) all = (group_plain keys m all.0, groups_plain keys trace all.1)
-
-  pub plain_groups : (trace : List Rec) → AllByRecursion (IsSnapshot attributes) trace
-      → HasPlainGroups (channel_query channel) trace
-  plain_groups trace snaps = firsts_all (map (group_of (keys_of channel)) trace)
-      (groups_plain (keys_of channel) trace snaps)
-
-  -- ---- a record in place of a row
-
-  module _ (trace : List Rec) (row : KeyedRow) (is : IsRowOf channel trace row) where
-    abbrev members : List Rec
-    members = with_key channel row.key trace
-
-    abbrev record_of : Rec
-    record_of = row_record channel row
-
-    module _ (m : Rec) (has : HasKey attributes channel row.key m) where
-      same_paths : m.paths ≡ row.key.paths
-      same_paths = ap (λ (r : Rec). r.paths) has.in_key
-
-      -- what a key takes of the immediates stands in the row's key, and it takes no result
-      taken_alike : (key : List ℕ) → list_any (is_same key) channel.keys ≡ true
-          → (is_path key ≡ true) ⊎ IsDeclared attributes key
-          → filter (takes false key) m.imms ≡ filter (takes false key) record_of.imms
-      taken_alike key there (inl path) =
-          nothing_path key path m.imms ∙ sym (nothing_path key path record_of.imms)
-      taken_alike key there (inr declared) =
-          sym (filter-append (takes false key) row.key.imms (row_entries channel row)
-          ∙ (λ i. kept i ++ gone i) ∙ append-nil (filter (takes false key) m.imms))
-        where
-          plain : is_path key ≡ false
-          plain = declared_plain attributes named.path key declared
-
-          kept : filter (takes false key) row.key.imms ≡ filter (takes false key) m.imms
-          kept =
-              ap (λ (r : Rec). filter (takes false key) r.imms) (sym has.in_key)
-              ∙ filter_implied (IsImmediate attributes) (takes false key)
-              (λ e. list_any (is_same e.attr.name) channel.keys)
-              (λ e d t. ap (λ n. list_any (is_same n) channel.keys)
-              (taken_name false key e plain t) ∙ there)
-              m.imms has.snap.imms
-
-          gone : filter (takes false key) (row_entries channel row) ≡ []
-          gone =
-              ap (filter (takes false key))
-              (entries_are attributes channel named row members is.held)
-              ∙ results_apart (number attributes channel named row members is.held)
-              (takes false key) key
-              (λ n e same apart. takes_plain false key e plain ∙ ap (λ x. is_same x key) same
-              ∙ apart)
-              (channel_query channel).aggs
-              (no_result attributes channel named
-              (number attributes channel named row members is.held) key declared)
-
-      each_alike : (keys : List (List ℕ))
-          → AllByRecursion (λ key. list_any (is_same key) channel.keys ≡ true) keys
-          → AllByRecursion (λ key. (is_path key ≡ true) ⊎ IsDeclared attributes key) keys
-          → AllByRecursion
-          (λ key. filter (takes false key) m.imms ≡ filter (takes false key) record_of.imms) keys
-      each_alike [] there are = tt
-      each_alike (key ∷ keys) there are =
-          (taken_alike key there.0 are.0, each_alike keys there.1 are.1)
-
-      same_group : group_of (keys_of channel) m ≡ group_of (keys_of channel) record_of
-      same_group = by channel.by_default refl
-        where
-          by : (b : Bool) → channel.by_default ≡ b
-              → group_of (keys_of channel) m ≡ group_of (keys_of channel) record_of
-          by true none =
-              subst (λ keys. group_of keys m ≡ group_of keys record_of)
-              (sym (ap (λ b. if b then None else Some channel.keys) none))
-              (λ i. record { paths = same_paths i; imms = [] })
-          by false some =
-              let is_keys : keys_of channel ≡ Some channel.keys =
-                  ap (λ b. if b then None else Some channel.keys) some in
-              let imms = taken_same false channel.keys m.imms record_of.imms
-                  (each_alike channel.keys (among_all channel.keys)
-                  (keys_cases attributes channel.keys
-                  (subst (AreKeys attributes) is_keys named.keys))) in
-              subst (λ keys. group_of keys m ≡ group_of keys record_of) (sym is_keys)
-              (λ i. record {
-                paths = filter has_entries (taken true channel.keys (joined (same_paths i)));
-                imms = joined (imms i);
-              })
-
-    -- the snapshots with the key
-    keyed : (rs : List Rec) → AllByRecursion (IsSnapshot attributes) rs
-        → AllByRecursion (HasKey attributes channel row.key) (with_key channel row.key rs)
-    keyed [] all = tt
-    keyed (r ∷ rs) all = by (is_group (table_key channel r) row.key) refl (keyed rs all.1)
+    -- so none of its group has
+    taken_others : (names : List (List ℕ)) (es : List Entry) → AllByRecursion IsOther es
+        → AllByRecursion IsOther (joined (taken false names es))
+    taken_others [] es all = tt
+    taken_others (name ∷ names) es all = both (filter (takes false name) es)
+        (joined (taken false names (filter (λ e. not (takes false name e)) es)))
+        (all-filter IsOther (takes false name) es all)
+        (taken_others names (filter (λ e. not (takes false name e)) es)
+        (all-filter IsOther (λ e. not (takes false name e)) es all))
       where
-        by : (b : Bool) → is_group (table_key channel r) row.key ≡ b
-            → AllByRecursion (HasKey attributes channel row.key) (with_key channel row.key rs)
-            → AllByRecursion (HasKey attributes channel row.key) (with_key channel row.key (r ∷ rs))
-        by true e rest = rw e (
-          record { in_key = group_same (table_key channel r) row.key e; snap = all.0 },
-          rest,
-        )
-        by false e rest = rw e rest
+        both : (es fs : List Entry) → AllByRecursion IsOther es → AllByRecursion IsOther fs
+            → AllByRecursion IsOther (es ++ fs)
+        both [] fs one other = other
+        both (e ∷ es) fs one other = (one.0, both es fs one.1 other)
 
-    row_stands : AllByRecursion (IsSnapshot attributes) trace → HasSums channel trace
-        → StandsFor (channel_query channel) record_of members
-    row_stands snaps sums =
-        let all = keyed trace snaps in
-        let first = first_there (HasKey attributes channel row.key) members is.some all in
-        record {
-          some = is.some;
-          alike = all_weaker (HasKey attributes channel row.key)
-              (IsAlike (channel_query channel) record_of)
-              (λ m has. record { kept = refl; group = same_group m has }) members all;
-          brings = row_brings attributes channel named row members is.held first.0 first.1 all
-              is.some (λ attr there. sums attr there
-              (λ m. is_group (table_key channel m) row.key));
-        }
+    group_plain : (keys : Option (List (List ℕ))) (m : Rec) → IsSnapshot attributes m
+        → IsPlain (group_of keys m)
+    group_plain None m snap = tt
+    group_plain (Some names) m snap = taken_others names m.imms (others m snap)
+
+    firsts_all : (gs : List Rec) → AllByRecursion IsPlain gs
+        → AllByRecursion IsPlain (firsts is_group gs)
+    firsts_all [] all = tt
+    firsts_all (g ∷ gs) all = (
+      all.0,
+      all-filter IsPlain (λ other. not (is_group other g)) (firsts is_group gs) (firsts_all gs all.1),
+    )
+
+    groups_plain : (keys : Option (List (List ℕ))) (trace : List Rec)
+        → AllByRecursion (IsSnapshot attributes) trace
+        → AllByRecursion IsPlain (map (group_of keys) trace)
+    groups_plain keys [] all = tt
+    groups_plain keys (m ∷ trace) all = (group_plain keys m all.0, groups_plain keys trace all.1)
+
+    pub plain_groups : (trace : List Rec) → AllByRecursion (IsSnapshot attributes) trace
+        → HasPlainGroups (channel_query channel) trace
+    plain_groups trace snaps = firsts_all (map (group_of (keys_of channel)) trace)
+        (groups_plain (keys_of channel) trace snaps)
+
+    -- ---- a record in place of a row
+
+    module _ (trace : List Rec) (row : KeyedRow) (is : IsRowOf channel trace row) where
+      abbrev members : List Rec
+      members = with_key channel row.key trace
+
+      abbrev record_of : Rec
+      record_of = row_record channel row
+
+      module _ (m : Rec) (has : HasKey attributes channel row.key m) where
+        same_paths : m.paths ≡ row.key.paths
+        same_paths = ap (λ (r : Rec). r.paths) has.in_key
+
+        -- what a key takes of the immediates stands in the row's key, and it takes no result
+        taken_alike : (key : List ℕ) → list_any (is_same key) channel.keys ≡ true
+            → (is_path key ≡ true) ⊎ IsDeclared attributes key
+            → filter (takes false key) m.imms ≡ filter (takes false key) record_of.imms
+        taken_alike key there (inl path) =
+            nothing_path key path m.imms ∙ sym (nothing_path key path record_of.imms)
+        taken_alike key there (inr declared) =
+            sym (filter-append (takes false key) row.key.imms (row_entries channel row)
+            ∙ (λ i. kept i ++ gone i) ∙ append-nil (filter (takes false key) m.imms))
+          where
+            plain : is_path key ≡ false
+            plain = declared_plain attributes named.path key declared
+
+            kept : filter (takes false key) row.key.imms ≡ filter (takes false key) m.imms
+            kept =
+                ap (λ (r : Rec). filter (takes false key) r.imms) (sym has.in_key)
+                ∙ filter_implied (IsImmediate attributes) (takes false key)
+                (λ e. list_any (is_same e.attr.name) channel.keys)
+                (λ e d t. ap (λ n. list_any (is_same n) channel.keys)
+                (taken_name false key e plain t) ∙ there)
+                m.imms has.snap.imms
+
+            gone : filter (takes false key) (row_entries channel row) ≡ []
+            gone =
+                ap (filter (takes false key))
+                (entries_are attributes channel named row members is.held)
+                ∙ results_apart (number attributes channel named row members is.held)
+                (takes false key) key
+                (λ n e same apart. takes_plain false key e plain ∙ ap (λ x. is_same x key) same
+                ∙ apart)
+                (channel_query channel).aggs
+                (no_result attributes channel named
+                (number attributes channel named row members is.held) key declared)
+
+        each_alike : (keys : List (List ℕ))
+            → AllByRecursion (λ key. list_any (is_same key) channel.keys ≡ true) keys
+            → AllByRecursion (λ key. (is_path key ≡ true) ⊎ IsDeclared attributes key) keys
+            → AllByRecursion
+            (λ key. filter (takes false key) m.imms ≡ filter (takes false key) record_of.imms) keys
+        each_alike [] there are = tt
+        each_alike (key ∷ keys) there are =
+            (taken_alike key there.0 are.0, each_alike keys there.1 are.1)
+
+        same_group : group_of (keys_of channel) m ≡ group_of (keys_of channel) record_of
+        same_group = by channel.by_default refl
+          where
+            by : (b : Bool) → channel.by_default ≡ b
+                → group_of (keys_of channel) m ≡ group_of (keys_of channel) record_of
+            by true none =
+                subst (λ keys. group_of keys m ≡ group_of keys record_of)
+                (sym (ap (λ b. if b then None else Some channel.keys) none))
+                (λ i. record { paths = same_paths i; imms = [] })
+            by false some =
+                let is_keys : keys_of channel ≡ Some channel.keys =
+                ap (λ b. if b then None else Some channel.keys) some in
+                let imms = taken_same false channel.keys m.imms record_of.imms
+                (each_alike channel.keys (among_all channel.keys)
+                (keys_cases attributes channel.keys
+                (subst (AreKeys attributes) is_keys named.keys))) in
+                subst (λ keys. group_of keys m ≡ group_of keys record_of) (sym is_keys)
+                (λ i. record {
+                  paths = filter has_entries (taken true channel.keys (joined (same_paths i)));
+                  imms = joined (imms i);
+                })
+
+      -- the snapshots with the key
+      keyed : (rs : List Rec) → AllByRecursion (IsSnapshot attributes) rs
+          → AllByRecursion (HasKey attributes channel row.key) (with_key channel row.key rs)
+      keyed [] all = tt
+      keyed (r ∷ rs) all = by (is_group (table_key channel r) row.key) refl (keyed rs all.1)
+        where
+          by : (b : Bool) → is_group (table_key channel r) row.key ≡ b
+              → AllByRecursion (HasKey attributes channel row.key) (with_key channel row.key rs)
+              → AllByRecursion (HasKey attributes channel row.key) (with_key channel row.key (r ∷ rs))
+          by true e rest = rw e (
+            record { in_key = group_same (table_key channel r) row.key e; snap = all.0 },
+            rest,
+          )
+          by false e rest = rw e rest
+
+      row_stands : AllByRecursion (IsSnapshot attributes) trace → HasSums channel trace
+          → StandsFor (channel_query channel) record_of members
+      row_stands snaps sums =
+          let all = keyed trace snaps in
+          let first = first_there (HasKey attributes channel row.key) members is.some all in
+          record {
+            some = is.some;
+            alike = all_weaker (HasKey attributes channel row.key)
+                (IsAlike (channel_query channel) record_of)
+                (λ m has. record { kept = refl; group = same_group m has }) members all;
+            brings = row_brings attributes channel named row members is.held first.0 first.1 all
+                is.some (λ attr there. sums attr there
+                (λ m. is_group (table_key channel m) row.key));
+          }
 
 -- ---- all rows
 

@@ -119,8 +119,8 @@ module _ (attributes : List Attribute) (channel : ChannelQuery) (m : Rec)
         by_sort false value true key = whole (key_imms key) (inr (none_in_paths value))
         by_sort false value false other =
             let gone : last_number name (table_key channel m) ≡ None =
-                ap last_in (named_in_key
-                ∙ (λ i. none_in_paths value i ++ other_imms other i)) in
+            ap last_in (named_in_key
+            ∙ (λ i. none_in_paths value i ++ other_imms other i)) in
             record {
               there = λ n h. let no : None ≡ Some n = sym gone ∙ h in cc;
               else = λ h. ap last_in

@@ -299,7 +299,7 @@ module _ (attributes : List Attribute) (channel : ChannelQuery) (named : IsNamed
               let ns = numbers_of attr members in
               let same = cell_numbers kernel.Sum there is in
               let small : sum_of ns ≡ None → ns ≡ [] =
-                  λ absent. sym same ∙ summed (ap sum_of same ∙ absent) in
+              λ absent. sym same ∙ summed (ap sum_of same ∙ absent) in
               ap (brought kernel.Sum) (own_numbers kernel.Sum there None is
               ∙ second_alone None (number (agg_of kernel.Sum attr)) (sum_of ns) refl
               (result_is None is
@@ -374,14 +374,18 @@ module _ (attributes : List Attribute) (channel : ChannelQuery) (named : IsNamed
         → Brings (row_record channel row) members agg
     row_brings summed agg there = holds_of (Brings (row_record channel row) members)
         (channel_query channel).aggs agg
-        (subst BringsAll (sym (aggs_are channel named.once))
-        (record { same = counts }, values_bring channel.values (holds_of_all
-        (λ attr. BringsAll (value_aggs attr)) channel.values value)))
+        (subst BringsAll (sym (aggs_are channel named.once)) (
+          record { same = counts },
+          values_bring channel.values (holds_of_all
+              (λ attr. BringsAll (value_aggs attr)) channel.values value),
+        ))
         there
       where
         value : (attr : List ℕ) → Contains channel.values attr → BringsAll (value_aggs attr)
         value attr there = (
           record { same = sums_brought attr there (summed attr there) },
-          (record { same = least_brought attr there },
-          (record { same = most_brought attr there }, tt)),
+          (
+            record { same = least_brought attr there },
+            (record { same = most_brought attr there }, tt),
+          ),
         )

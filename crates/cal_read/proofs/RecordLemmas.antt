@@ -63,7 +63,6 @@ module _ (named : List Named) (refs ids : List ℕ) (texts : List (List ℕ)) wh
         filled t snapshot at within (Err end.OutOfMemory) h = tt
 
 module _ (named : List Named) (fields : List Field) where
-
   module _ (even : length (values_of (codes "attr") fields) ≡ length (values_of (codes "data") fields)) where
     evenly : record_of named fields
         ≡ (each id_of (values_of (codes "ref") fields) >>= (λ refs. each id_of (values_of (codes "attr") fields) >>= (λ columns. record_of_ids named refs columns (values_of (codes "data") fields))))

@@ -36,6 +36,13 @@ pub pieces_of_all : (mark : ℕ) (bytes text : List ℕ) → bytes ≡ text → 
 pieces_of_all mark bytes text are none =
     rw (← are) (pieces_of_one mark bytes (λ k below is. none k (omega arith) below (eq-eqb _ _ is)))
 
+eqb_same : (n : ℕ) → eqb n n ≡ true
+eqb_same n = eq-eqb n n refl
+
+-- a text is its first piece, and the pieces behind the mark that ends it
+pub pieces_of_two : (mark : ℕ) (text piece rest : List ℕ) → text ≡ piece ++ (mark ∷ rest) → HasNone mark piece → pieces mark text ≡ piece ∷ pieces mark rest
+pieces_of_two mark text piece rest e h = rw e (slice_split_at _ piece mark rest (no_byte_is mark piece h) (eqb_same mark))
+
 -- what stands behind a mark has a first piece
 pub more_pieces : (mark : ℕ) (text : List ℕ) → (piece : List ℕ) × (others : List (List ℕ)) × (pieces mark text ≡ piece ∷ others)
 more_pieces mark [] = ([], [], refl)
@@ -51,9 +58,33 @@ more_pieces mark (byte ∷ text) =
 pub joined_words : (text : List ℕ) → joined (words_of text) ≡ text
 joined_words text = join_with_byte-slice_split 32 text
 
+-- Words that go on where they must end are none.
+pub one_word_more : (first rest : List ℕ) → one_word (first ∷ words_of rest) ≡ None
+one_word_more first rest = let more = more_pieces 32 rest in rw more.2 refl
+
+pub two_words_more : (first second rest : List ℕ) → two_words (first ∷ second ∷ words_of rest) ≡ None
+two_words_more first second rest = let more = more_pieces 32 rest in rw more.2 refl
+
+pub three_words_more : (first second third rest : List ℕ) → three_words (first ∷ second ∷ third ∷ words_of rest) ≡ None
+three_words_more first second third rest = let more = more_pieces 32 rest in rw more.2 refl
+
 -- a word and what stands behind its space
 pub word_and_rest_of : (first rest : List ℕ) → word_and_rest (first ∷ words_of rest) ≡ cond (is_word first) (Some (first, rest)) None
 word_and_rest_of first rest =
     let more = more_pieces 32 rest in
     let whole : joined (more.0 ∷ more.1) ≡ rest = ap joined (sym more.2) ∙ joined_words rest in
     rw (more.2, whole) refl
+
+pub some_words_of : (text : List ℕ) → some_words (words_of text) ≡ cond (list_all is_word (words_of text)) (Some (words_of text)) None
+some_words_of text = let more = more_pieces 32 text in rw more.2 refl
+
+-- A name without `#` is none of an event, and neither is one with more than one.
+pub is_event_name_one : (declared : List (List ℕ)) (front : List ℕ) → is_event_name declared (front ∷ []) ≡ false
+is_event_name_one declared front = refl
+
+pub is_event_name_more : (declared : List (List ℕ)) (front attribute rest : List ℕ) → is_event_name declared (front ∷ attribute ∷ pieces 35 rest) ≡ false
+is_event_name_more declared front attribute rest = let more = more_pieces 35 rest in rw more.2 refl
+
+-- what stands behind a space has a word
+pub no_word_more : (rest : List ℕ) → no_word (words_of rest) ≡ false
+no_word_more rest = let more = more_pieces 32 rest in rw more.2 refl

@@ -8,6 +8,7 @@ pub mod Plain
 pub mod Kept
 pub mod NewlineCuts
 pub mod Naming
+pub mod Limiting
 pub mod Halves
 pub mod Tallies
 pub mod ShapeLemmas

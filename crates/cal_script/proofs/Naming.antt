@@ -23,6 +23,11 @@ pub attribute_at : (attributes : List Attribute) (place : ℕ) (attribute : Attr
     → place_of (attribute_names attributes) attribute.name ≡ Some place → attribute_named attributes attribute.name ≡ Ok (place, attribute)
 attribute_at attributes place attribute here found = rw (found, here) refl
 
+-- a line that begins with the name of an attribute names it
+pub naming_of : (attributes : List Attribute) (words : List (List ℕ)) (name rest : List ℕ) (named : ℕ × Attribute) → word_and_rest words ≡ Some (name, rest)
+    → attribute_named attributes name ≡ Ok named → naming_said attributes words ≡ Ok (named, rest)
+naming_of attributes words name rest named starts is = rw (starts, is) refl
+
 pub alone_of : (attributes : List Attribute) (words : List (List ℕ)) (name : List ℕ) (named : ℕ × Attribute) → one_word words ≡ Some name
     → attribute_named attributes name ≡ Ok named → alone_said attributes words ≡ Ok named
 alone_of attributes words name named one is = rw (one, is) refl
@@ -54,6 +59,16 @@ pub opening_goes : (state : State) (words : List (List ℕ)) (named : ℕ × Att
 opening_goes state words named rest is =
     opening_by_naming state words
     ∙ ap (λ (found : Result ((ℕ × Attribute) × List ℕ) ScriptKind). found >>= (λ n. value_said n.0.1.kind n.1 >>= (λ value. Ok (opening n.0.0 n.0.1 value)))) (sym is)
+
+by_one : {A : Type 0} (go : ℕ × Attribute → Result A ScriptKind) (attributes : List Attribute) (one : Option (List ℕ))
+    → (ok_or one WrongArity >>= (λ name. attribute_named attributes name >>= go)) ≡ ((ok_or one WrongArity >>= (λ name. attribute_named attributes name)) >>= go)
+by_one go attributes None = refl
+by_one go attributes (Some name) = refl
+
+-- what a line ends, by the attribute that it names
+pub end_by_name : (state : State) (words : List (List ℕ)) → end_after state words
+    ≡ in_thread state (alone_said state.attributes words >>= (λ named. Ok (with_line (line.End named.0) (has_process_scope named.1.props) 0 state)))
+end_by_name state words = ap (in_thread state) (by_one (λ named. Ok (with_line (line.End named.0) (has_process_scope named.1.props) 0 state)) state.attributes (one_word words))
 
 -- an attribute that is declared has a name
 pub named_at : (attributes : List Attribute) (place : ℕ) (attribute : Attribute) → AreNamed attributes → slice_get attributes place ≡ Some attribute → is_name attribute.name ≡ true

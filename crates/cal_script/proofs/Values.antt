@@ -25,6 +25,22 @@ inside_map (Some n) value is = let same : variant.Uint n ≡ value = cc in rw (s
 pub uint_read : (text : List ℕ) (value : Variant) → value_of kind.Uint text ≡ Some value → uint_inside value ≡ uint_of text
 uint_read text value is = inside_map (uint_of text) value is
 
+map_none : (found : Option ℕ) → option_map variant.Uint found ≡ None → found ≡ None
+map_none None is = refl
+map_none (Some n) is = absurd cc
+
+pub uint_unread : (text : List ℕ) → value_of kind.Uint text ≡ None → uint_of text ≡ None
+uint_unread text is = map_none (uint_of text) is
+
+-- a bound below another
+pub at_most-at_most : (few many : ℕ) → few ≤ many → (found : Option ℕ) → at_most few (at_most many found) ≡ at_most few found
+at_most-at_most few many le None = refl
+at_most-at_most few many le (Some n) = grind (arith, nat_tests)
+
+-- properties by the number that a word writes
+pub props_read : (word : List ℕ) → declared_props word ≡ ok_or (option_map (λ bits. record { 0 = bits }) (at_most 65535 (uint_of word))) BadProps
+props_read word = rw (at_most-at_most 65535 18446744073709551615 (lit≤ tt) (number_of 10 word)) refl
+
 text_small : (text : List ℕ) → leb (length text) 4096 ≡ true → length (text_words text) ≤ 512
 text_small text short = let le = leb-true (length text) 4096 short in omega (arith, length-text_words text)
 
@@ -47,3 +63,7 @@ words_small false words le = lit≤ tt
 
 pub made_small : (attribute : Attribute) (value : Variant) → is_allowed value ≡ true → made_words attribute value ≤ 516
 made_small attribute value fine = words_small _ _ (node_small value fine)
+
+-- the words of the node of a text
+pub text_node : (text : List ℕ) → node_length (variant.Text text) ≡ 4 + (length text + 7) / 8
+text_node text = omega (arith, length-text_words text)

@@ -89,9 +89,12 @@ fits_runnable state sound can =
     sum_by-append length state.earlier (option_to_list state.thread) in
     let lines : state.tally.lines ≤ 1048576 = omega
     (arith, all, ended_length state.thread, sound.counted, can.few_lines) in
-    let process : state.tally.process_lines ≤ 65536 = omega
-    (arith, ap (λ (t : Tally). t.process_lines) sound.tallied,
-    process_lines-script_tally (script_of state), can.few_process_lines) in
+    let process : state.tally.process_lines ≤ 65536 = omega (
+      arith,
+      ap (λ (t : Tally). t.process_lines) sound.tallied,
+      process_lines-script_tally (script_of state),
+      can.few_process_lines,
+    ) in
     let area : tree_arena (script_of state) ≡ arena state.tally =
     sym (arena-script_tally (script_of state)) ∙ ap arena sound.tallied in
     let counts : tree_words (length (state.earlier ++ option_to_list state.thread))

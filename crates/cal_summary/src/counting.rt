@@ -1,4 +1,4 @@
-ghost use Rattle.std.specs.Prelude.{◌≡◌, ◌+◌, length, sum_by, IfOk};
+ghost use Rattle.std.specs.Prelude.{◌≡◌, ◌≤◌, length, sum_by, IfOk};
 ghost use Rattle.cal_summary.specs.Counted.{IsCounted};
 ghost use Rattle.cal_script.specs.Valid.{IsRunnable};
 
@@ -19,20 +19,14 @@ pub(crate) fn count_run(alloc: Global, script: &Script) -> Result<PlainCounts, O
     count_plain(alloc, script, &numbers, &mut context)
 }
 
-/// The lines of all threads.
-pub(crate) fn count_lines(script: &Script) -> Result<u64, OutOfMemory>
-    ensures { IfOk result (λ count. count ≡ sum_by length script.now.threads) }
+/// The lines of all threads, of which a script has few.
+pub(crate) fn count_lines(script: &Script) -> u64
+    requires { sum_by length script.now.threads ≤ 1048576 }
+    ensures { result ≡ sum_by length script.now.threads }
 {
     let mut count = 0;
     for thread in script.threads.as_slice() {
-        count = sum(count, thread.len() as u64)?;
+        count += thread.len() as u64;
     }
-    Ok(count)
-}
-
-/// A sum. One beyond 64 bits, which no script comes to, is answered as want of memory is.
-fn sum(one: u64, other: u64) -> Result<u64, OutOfMemory>
-    ensures { IfOk result (λ sum. sum ≡ one + other) }
-{
-    one.checked_add(other).ok_or(OutOfMemory)
+    count
 }

@@ -51,28 +51,25 @@ pub fn summarize<R: Threads + Sync>(
             ensures { IfOk result (IsMeasured script.entry.now) }
         { measure_run(alloc, script) },
     );
-    summary_by(script, counts?, measure?)
+    Ok(summary_by(script, counts?, measure?))
 }
 
 /// The summary of a run that was counted and measured.
-fn summary_by(
-    script: &Script,
-    counts: PlainCounts,
-    measure: Measure,
-) -> Result<Summary, OutOfMemory>
+fn summary_by(script: &Script, counts: PlainCounts, measure: Measure) -> Summary
+    requires runnable { IsRunnable script.now }
     requires counted { IsCounted script.now counts }
     requires measured { IsMeasured script.now measure }
-    ensures { IfOk result (λ summary. summary ≡ summary_of script.now (plain script.now)) }
+    ensures { result ≡ summary_of script.now (plain script.now) }
 {
     let threads = script.threads.len();
-    let lines = count_lines(script)?;
+    let lines = count_lines(script);
     let groups = measure.rows - counts.traced;
-    Ok(Summary {
+    Summary {
         threads: threads as u64,
         lines,
         nodes: counts.nodes as u64,
         snapshots: counts.in_all,
         groups,
         bytes: measure.bytes,
-    })
+    }
 }

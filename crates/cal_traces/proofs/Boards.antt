@@ -168,6 +168,7 @@ module _ (P Q : Opened Variant → Type 0) where
         by reply.Done = changed_on c v opens
         by (reply.Mismatch top) = on
         by reply.NotOpen = on
+        by (reply.TreeFull full) = on
         by reply.TooDeep = on
         by reply.SlotsFull = on
 
@@ -197,7 +198,7 @@ top_closed b a o done is = by (o.attribute == a.number) refl
     by true e = eqb-true o.attribute a.number e
     by false e =
         let refused : reply.Mismatch o.attribute ≡ reply.Done =
-            sym (ap (λ t. if t then reply.Done else reply.Mismatch o.attribute) e) ∙ replied in
+        sym (ap (λ t. if t then reply.Done else reply.Mismatch o.attribute) e) ∙ replied in
         absurd cc
 
 -- and there is one
@@ -205,7 +206,7 @@ pub nothing_closed : (b : Blackboard Variant) (a : AttrRef) → reply_to b code.
     → last_at b a ≡ None → ⊥
 nothing_closed b a done is =
     let refused : reply.NotOpen ≡ reply.Done =
-        ap (λ t. end_reply t a.number) (sym (tops a.as_value is)) ∙ done in
+    ap (λ t. end_reply t a.number) (sym (tops a.as_value is)) ∙ done in
     cc
   where
     tops : (v : Bool)

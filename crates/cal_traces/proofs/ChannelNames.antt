@@ -77,9 +77,9 @@ taken_name is_key declared before name next is =
         }
     by_path false path is =
         let fresh = unless_ok (is_among before name) DuplicateName
-            (cond (is_known declared name) (Ok (before ++ name ∷ [])) (Err UnknownName)) next is in
+        (cond (is_known declared name) (Ok (before ++ name ∷ [])) (Err UnknownName)) next is in
         let known = if_ok (is_known declared name) UnknownName (Ok (before ++ name ∷ [])) next
-            fresh.1 in
+        fresh.1 in
         record {
           pushed = (let e = known.1 in cc);
           fresh = fresh.0;
@@ -94,7 +94,7 @@ next_taken : (is_key : Bool) (declared before : List (List ℕ)) (name : List �
     × (after_lines (with_name is_key declared) (before ++ name ∷ []) names ≡ Ok after)
 next_taken is_key declared before name names after is =
     let next = bind_ok (with_name is_key declared before name)
-        (λ next. after_lines (with_name is_key declared) next names) after is in
+    (λ next. after_lines (with_name is_key declared) next names) after is in
     let taken = taken_name is_key declared before name next.0 next.1 in (
       subst (IsTaken is_key declared before name) taken.pushed taken,
       subst (λ (b : List (List ℕ)). after_lines (with_name is_key declared) b names ≡ Ok after)
@@ -145,7 +145,7 @@ module _ (attributes : List Attribute) where
   among_there [] name h = h
   among_there (a ∷ attributes) name h =
       elim (or_cases (bytes_eq name a.name) (is_among (attribute_names attributes) name) h) [
-        inl here ↦ or_left (is_same a.name name) (is_there attributes name)
+        | inl here ↦ or_left (is_same a.name name) (is_there attributes name)
             (text_same a.name name (sym (same_text name a.name here)))
         | inr behind ↦ or_right (is_same a.name name) (is_there attributes name)
             (among_there attributes name behind)
@@ -185,7 +185,7 @@ module _ (attributes : List Attribute) where
   event_there [] front name is h = h
   event_there (a ∷ attributes) front name is h =
       elim (or_cases (bytes_eq name a.name) (is_among (attribute_names attributes) name) h) [
-        inl here ↦ own (same_text name a.name here)
+        | inl here ↦ own (same_text name a.name here)
         | inr behind ↦ later (named (codes "event.begin")) (named (codes "event.end"))
             (named (codes "event.set")) others (event_there attributes front name is behind)
       ]
@@ -231,16 +231,16 @@ module _ (attributes : List Attribute) where
       own same =
           elim (or_cases (bytes_eq front (codes "event.begin"))
           (is_among (codes "event.end" ∷ codes "event.set" ∷ []) front) is) [
-            inl begins ↦ first (named (codes "event.begin")) (named (codes "event.end"))
+            | inl begins ↦ first (named (codes "event.begin")) (named (codes "event.end"))
                 (named (codes "event.set")) others (at (codes "event.begin") begins same)
             | inr more ↦ elim (or_cases (bytes_eq front (codes "event.end"))
-            (is_among (codes "event.set" ∷ []) front) more) [
-              inl ends ↦ second (named (codes "event.begin")) (named (codes "event.end"))
-                  (named (codes "event.set")) others (at (codes "event.end") ends same)
-              | inr sets ↦ third (named (codes "event.begin")) (named (codes "event.end"))
-                  (named (codes "event.set")) others
-                  (at (codes "event.set") (last (bytes_eq front (codes "event.set")) sets) same)
-            ]
+                (is_among (codes "event.set" ∷ []) front) more) [
+                  | inl ends ↦ second (named (codes "event.begin")) (named (codes "event.end"))
+                      (named (codes "event.set")) others (at (codes "event.end") ends same)
+                  | inr sets ↦ third (named (codes "event.begin")) (named (codes "event.end"))
+                      (named (codes "event.set")) others
+                      (at (codes "event.set") (last (bytes_eq front (codes "event.set")) sets) same)
+                ]
           ]
 
   event_known : (name : List ℕ) (parts : List (List ℕ)) → pieces 35 name ≡ parts
@@ -250,9 +250,9 @@ module _ (attributes : List Attribute) where
   event_known name (front ∷ []) cut h = absurd (true≢false (sym h))
   event_known name (front ∷ attribute ∷ []) cut h =
       let both = and_parts (is_among event_fronts front)
-          (is_among (attribute_names attributes) attribute) h in
+      (is_among (attribute_names attributes) attribute) h in
       let whole : front ++ 35 ∷ attribute ≡ name =
-          ap (λ parts. join_with_byte 35 parts) (sym cut) ∙ join_with_byte-slice_split 35 name in
+      ap (λ parts. join_with_byte 35 parts) (sym cut) ∙ join_with_byte-slice_split 35 name in
       subst (λ (n : List ℕ). is_there (flat_map events_of attributes) n ≡ true) whole
       (event_there attributes front attribute both.0 both.1)
   event_known name (front ∷ attribute ∷ more ∷ parts) cut h = absurd (true≢false (sym h))
@@ -352,10 +352,15 @@ module _ (attributes : List Attribute) where
     values_absent (v ∷ vs) = (
       absent (codes "sum#" ++ v) (λ a is. no_hash a.name (codes "sum") v is) allowed
           (sum_added attributes v),
-      (absent (codes "min#" ++ v) (λ a is. no_hash a.name (codes "min") v is) allowed
-      (least_added attributes v),
-      (absent (codes "max#" ++ v) (λ a is. no_hash a.name (codes "max") v is) allowed
-      (most_added attributes v), values_absent vs)),
+      (
+        absent (codes "min#" ++ v) (λ a is. no_hash a.name (codes "min") v is) allowed
+            (least_added attributes v),
+        (
+          absent (codes "max#" ++ v) (λ a is. no_hash a.name (codes "max") v is) allowed
+              (most_added attributes v),
+          values_absent vs,
+        ),
+      ),
     )
 
     results_absent : (values : List (List ℕ)) → AllByRecursion IsAbsent (aggs_of values)
@@ -375,7 +380,7 @@ module _ (attributes : List Attribute) where
       let next = next_taken true (attribute_names attributes) [] key keys (key ∷ keys) is.1.taken in
       rw own (
         elim next.0.known [
-          inl path ↦ inl path.1
+          | inl path ↦ inl path.1
           | inr known ↦ inr (known_declared key known)
         ],
         all_weaker (λ name. is_known (attribute_names attributes) name ≡ true) (IsDeclared all)

@@ -116,11 +116,11 @@ record IsFresh (done : List Attribute) (a : Attribute) : Type 0 where
 new_fresh : (done : List Attribute) (a : Attribute) → IsNewAttribute done a → IsFresh done a
 new_fresh done a is =
     let named = bind_ok
-        (new_name (is_attribute_name a.name) (attribute_names done) a.name) _ a is.said in
+    (new_name (is_attribute_name a.name) (attribute_names done) a.name) _ a is.said in
     let first = unless_ok (not (is_attribute_name a.name)) BadName _ named.0 named.1 in
     let second =
-        unless_ok (is_among (attribute_names done) a.name) DuplicateName (Ok a.name) named.0
-        first.1 in
+    unless_ok (is_among (attribute_names done) a.name) DuplicateName (Ok a.name) named.0
+    first.1 in
     record { allowed = turned (is_attribute_name a.name) first.0; fresh = second.0 }
   where
     turned : (b : Bool) → not b ≡ false → b ≡ true
@@ -229,16 +229,28 @@ events_from : (name : List ℕ) → is_attribute_name name ≡ true → (attribu
 events_from name allowed [] = tt
 events_from name allowed (a ∷ attributes) = (
   no_hash name (codes "event.begin") a.name allowed,
-  (no_hash name (codes "event.end") a.name allowed,
-  (no_hash name (codes "event.set") a.name allowed, events_from name allowed attributes)),
+  (
+    no_hash name (codes "event.end") a.name allowed,
+    (no_hash name (codes "event.set") a.name allowed, events_from name allowed attributes),
+  ),
 )
 
 added_from : (attributes : List Attribute) (name : List ℕ) → is_attribute_name name ≡ true
     → AreFrom name (attribute_names (added_attributes attributes))
 added_from attributes name allowed =
-    let other = others name allowed in
-    (other.duration, (other.inclusive, (other.depth, (other.regions,
-    events_from name allowed attributes))))
+    let other = others name allowed in (
+      other.duration,
+      (
+        other.inclusive,
+        (
+          other.depth,
+          (
+            other.regions,
+            events_from name allowed attributes,
+          ),
+        ),
+      ),
+    )
 
 -- the times and the probes aren't events
 fixed_apart : (attributes : List Attribute)
@@ -281,8 +293,10 @@ unfolding IsDistinct
 events_apart [] once = tt
 events_apart (a ∷ attributes) once = (
   (refl, (refl, begin_apart a.name attributes once.0)),
-  ((refl, end_apart a.name attributes once.0),
-  (set_apart a.name attributes once.0, events_apart attributes once.1)),
+  (
+    (refl, end_apart a.name attributes once.0),
+    (set_apart a.name attributes once.0, events_apart attributes once.1),
+  ),
 )
 
 added_apart : (attributes : List Attribute) → AreApart attributes

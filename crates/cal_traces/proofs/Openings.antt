@@ -56,7 +56,7 @@ module _ (script : Script) where
       → Fits (attribute_of script attr) (slice_index_or script.values value no_value)
   opening attr value is =
       let attribute = get_or_from_slice_get script.attributes attr is.attribute no_attribute
-          is.declared in
+      is.declared in
       let opened = get_or_from_slice_get script.values value is.opened no_value is.kept in
       record {
         kind = ap kind_of opened ∙ is.said.kind ∙ ap (λ (a : Attribute). a.kind) (sym attribute);

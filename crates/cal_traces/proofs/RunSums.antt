@@ -91,7 +91,7 @@ sum_there ns summed few absent =
     by (decimals all) large =
         let bound = fixed_bound ns all in
         let same : magnitude (together ◌+ℤ◌ (map measure ns)) ≡ unsigned_abs large.total =
-            ap magnitude large.sum in
+        ap magnitude large.sum in
         let above = large.above in
         omega arith
 
@@ -217,7 +217,7 @@ module _ (script : Script) (apart : AreApart (run_attributes script)) (channel :
       earlier =
           let snap = shot_snapshot script apart r shot in
           let none = named.results (agg_of kernel.Sum attr)
-              (sum_kept channel named.once attr value) in
+          (sum_kept channel named.once attr value) in
           ap (λ es. last_or None (filter_map (λ (e : Entry). number_in e.value) es))
           (filter-append (is_named (codes "sum#" ++ attr)) (joined r.paths) r.imms
           ∙ (λ i. paths_without (run_attributes script) (codes "sum#" ++ attr) none r snap i
@@ -242,8 +242,13 @@ module _ (script : Script) (apart : AreApart (run_attributes script)) (channel :
         all-append (IsOne script apart attr (found script apart attr))
             (contributions kernel.Sum attr r) (contributed (agg_of kernel.Sum attr) rs)
             first.one rest.0,
-        omega (arith, length-append (contributions kernel.Sum attr r)
-            (contributed (agg_of kernel.Sum attr) rs), first.few, rest.1),
+        omega (
+          arith,
+          length-append (contributions kernel.Sum attr r)
+              (contributed (agg_of kernel.Sum attr) rs),
+          first.few,
+          rest.1,
+        ),
       )
 
 filter_short : (test : Rec → Bool) (rs : List Rec) → length (filter test rs) ≤ length rs
@@ -262,7 +267,7 @@ pub run_sums : (script : Script) → AreApart (run_attributes script) → (chann
 run_sums script apart channel named trace shots few attr value test absent =
     let rs = filter test trace in
     let all = all_contribute script apart channel named attr value rs
-        (all-filter (IsShot script) test trace shots) in
+    (all-filter (IsShot script) test trace shots) in
     sum_there (contributed (agg_of kernel.Sum attr) rs)
     (summed script apart attr (contributed (agg_of kernel.Sum attr) rs) all.0)
     (omega (arith, all.1, filter_short test trace)) absent

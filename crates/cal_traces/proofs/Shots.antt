@@ -248,7 +248,7 @@ module _ (script : Script) where
     events None operates done = tt
     events (Some op) operates done =
         let fits = value_fits (board_of script sight op) (board_open op) op operates op.code refl
-            done in (
+        done in (
           record {
             of = record {
               there = event_there op.code op.attr operates.within;

@@ -41,6 +41,7 @@ done_reply : (r : boards.BoardReply) → is_accepted (Some (as_reply r)) ≡ tru
 done_reply board.Done h = refl
 done_reply (board.Mismatch top) h = absurd cc
 done_reply board.NotOpen h = absurd cc
+done_reply (board.TreeFull full) h = absurd cc
 done_reply board.TooDeep h = absurd cc
 done_reply board.SlotsFull h = absurd cc
 
@@ -149,8 +150,8 @@ module _ (script : Script) where
         → IsTaken (taken_by_thread script history channel (ls, note)) (length ls)
     thread_taken channel ls note right =
         let taken = lines_taken channel (zip ls note.lines) at_start (unwrap_or note.start 0)
-            (noted_right ls note.lines right)
-            (nothing_on (IsReference script) (IsValue script)) in
+        (noted_right ls note.lines right)
+        (nothing_on (IsReference script) (IsValue script)) in
         record {
           shots = taken.shots;
           few = omega (arith, taken.few, zip_short ls note.lines);
@@ -171,8 +172,13 @@ module _ (script : Script) where
         let others = flat_map (taken_by_thread script history channel) (zip threads notes) in
         record {
           shots = all-append (IsShot script) one others first.shots rest.shots;
-          few = omega (arith, length-append one others, sum_by-cons length ls threads, first.few,
-              rest.few);
+          few = omega (
+            arith,
+            length-append one others,
+            sum_by-cons length ls threads,
+            first.few,
+            rest.few,
+          );
         }
 
 -- ---- the snapshots of a channel
@@ -186,9 +192,9 @@ pub snapshots_shots : (script : Script) → IsRunnable script → (journal : Jou
     (channel : Channel) → AreShots script (snapshots script journal channel)
 snapshots_shots script runnable journal channel =
     let taken = threads_taken script runnable journal.ops channel script.threads journal.threads
-        (recursion_from_All (AllByRecursion IsPlacedHere) script.threads
-        (All-weaker (All IsPlacedHere) (AllByRecursion IsPlacedHere)
-        (λ ls all. recursion_from_All IsPlacedHere ls all) script.threads runnable.places)) in
+    (recursion_from_All (AllByRecursion IsPlacedHere) script.threads
+    (All-weaker (All IsPlacedHere) (AllByRecursion IsPlacedHere)
+    (λ ls all. recursion_from_All IsPlacedHere ls all) script.threads runnable.places)) in
     record { shots = taken.shots; few = omega (arith, taken.few, runnable.few_lines) }
   where
     IsPlacedHere : lines.Line → Type 0

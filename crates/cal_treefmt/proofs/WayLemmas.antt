@@ -152,8 +152,6 @@ LeadsTo-first t from n to left old is leads =
     subst (λ (ns : List NodeNumber). Descends t from ns to) (reverse-append left (n ∷ []))
     (subst (λ (ns : List NodeNumber). LeadsTo t from ns to) is leads)
 
-})
-
 -- ---- descending
 
 -- The hierarchy of some node was gone, from which the nodes that are left lead on.

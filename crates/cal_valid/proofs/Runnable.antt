@@ -92,8 +92,12 @@ runnable state fine =
       few_channels = channels;
       few_threads = omega (arith, length-append state.earlier (option_to_list state.thread), threads);
       few_lines = rw sum_by-append (omega (arith, ended_length state.thread, counted, few));
-      few_process_lines = omega (arith, ap (λ (t : Tally). t.process_lines) fine.sound.tallied,
-          process_lines-script_tally (script_of state), leb-true state.tally.process_lines 65536 passed.4);
+      few_process_lines = omega (
+        arith,
+        ap (λ (t : Tally). t.process_lines) fine.sound.tallied,
+        process_lines-script_tally (script_of state),
+        leb-true state.tally.process_lines 65536 passed.4,
+      );
       room =
           (let shape = leb-true (tree_words (thread_count state) (arena state.tally)) 134217728 passed.5 in
           let area : tree_arena (script_of state) ≡ arena state.tally =

@@ -57,7 +57,7 @@ fn open_values(board: &mut SharedBoard, tree: &Tree, seat: &mut TreeSeat, values
     ensures seat { IsTreeSeat tree.now seat.new }
     ensures stands { StandsForSome (NodeAt tree.now seat.new) board.new }
 {
-    for _ in 0..values {
+    for _value in 0..values {
         let _ = reply_to(board, tree, seat, OpCode::Begin, FUNCTION, 3);
     }
 }

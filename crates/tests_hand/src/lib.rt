@@ -7,6 +7,8 @@
 #[cfg(test)]
 mod boards;
 #[cfg(test)]
+mod entries;
+#[cfg(test)]
 mod lines;
 #[cfg(test)]
 mod threads;

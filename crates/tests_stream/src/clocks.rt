@@ -2,10 +2,9 @@
 use cal_base::{Clock, Gate, MemClock, OpenGate, StdClock};
 use cal_value::Seq;
 use std::alloc::{AllocError, Global};
-use std::io;
 use std::io::ErrorKind;
-use std::time;
 use std::time::Duration;
+use std::{io, time};
 
 /// A clock that may be moved to a thread, which leaves it for good.
 fn sent<K: Clock + Send + Drop>(clock: K) -> K {

@@ -1,6 +1,17 @@
-use Rattle.std.proofs.Common.{refl}
+use Rattle.std.proofs.Common.{refl, sym, subst, ◌∙◌}
+use Rattle.std.specs.Prelude.{Ok}
+use Rattle.cal_call.proofs.FewGenerated.{IsFew, asked_few}
 use Rattle.cal_call.proofs.commands.carry_out.Goals as goal
 use Rattle.cal_call.proofs.commands.carry_out.Goals.{in-Ok-Query, in-Ok-Gen, in-Err}
+
+-- the sizes that words ask for are within the limits
+pub write_generated-requires-threads : goal.write_generated-requires-threads
+write_generated-requires-threads g c =
+    (subst IsFew (sym c.read_words.ensures ∙ c.in-Ok-Gen.is) (asked_few c.args.words.now)).0
+
+pub write_generated-requires-lines : goal.write_generated-requires-lines
+write_generated-requires-lines g c =
+    (subst IsFew (sym c.read_words.ensures ∙ c.in-Ok-Gen.is) (asked_few c.args.words.now)).1
 
 -- each command's answer, with no journal
 pub returns-clause-answers : goal.returns-clause-answers

@@ -9,6 +9,7 @@ loop-preserved c =
     let was = c.loop.invariant in
     record {
       within = line.within;
+      few = omega (arith, line.few, was.few);
       lines = next_line _ _ left c.loop.opened c.loop.draws.x c.loop.depth _ _ _ line.values line.draws line.depth c.loop.lines _ _ line.line was.lines;
       values = line_opened _ _ left c.loop.opened c.loop.draws.x c.loop.depth _ _ _ line.values line.draws line.depth _ was.values;
       draws = line_drawn _ _ left c.loop.opened c.loop.draws.x c.loop.depth _ _ _ line.values line.draws line.depth _ was.draws;
