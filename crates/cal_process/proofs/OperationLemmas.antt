@@ -1,18 +1,18 @@
 -- What an operation does to a board over the shared tree.
-use Rattle.std.proofs.Common.{◌≡◌, ℕ, ◌<◌, ◌+◌, ◌≤◌, ◌^◌, [], ◌∷◌, ◌++◌, length, map, refl, sym}
+use Rattle.std.proofs.Common.{◌≡◌, ℕ, ◌<◌, ◌+◌, ◌≤◌, ◌^◌, [], ◌∷◌, ◌++◌, length, refl, sym}
 use Rattle.std.proofs.Common.{subst, arith, ⊎_elim}
 use Rattle.std.specs.Prelude.{Option, Some, None, slice_get, slice_index_or, option_and_then, true}
 use Rattle.std.proofs.lemmas.Bool.{leb-true}
 use Rattle.std.proofs.lemmas.List.Elements.{All-nil}
 use Rattle.std.proofs.lemmas.Option.{get_or_from_slice_get}
-use Rattle.cal_board.proofs.StandingLemmas.{Stands-grows}
 use Rattle.cal_board.specs.Blackboard.{Blackboard, nothing_open}
 use Rattle.cal_board.specs.PathBoards.{AreKnown}
 use Rattle.cal_board.specs.Standing.{Stands, StandsThen}
 use Rattle.cal_board.specs.declared.opened.Slot.{Slot}
 use Rattle.cal_context.specs.Tree.{no_value}
+use Rattle.cal_hand.proofs.HandLemmas.{board_later}
 use Rattle.cal_hand.specs.Changes.{changed_board}
-use Rattle.cal_hand.specs.Nodes.{NodeAt, PublishedAtMost, node_entry}
+use Rattle.cal_hand.specs.Nodes.{NodeAt, PublishedAtMost}
 use Rattle.cal_hand.specs.declared.change.Change.{Change}
 use Rattle.cal_once.specs.Seats.{view}
 use Rattle.cal_once.specs.Views.{KnowsMore}
@@ -30,7 +30,6 @@ use Rattle.cal_script.specs.Valid.{IsOpening, IsPlaced, IsRunnable}
 use Rattle.cal_script.specs.declared.script.Line as lines
 use Rattle.cal_script.specs.declared.script.Line.TheVariants as line
 use Rattle.cal_script.specs.declared.script.Script.{Script}
-use Rattle.cal_tree.proofs.Ways.{leads_later}
 use Rattle.cal_tree.specs.Seats.{slots_of}
 use Rattle.cal_value.specs.declared.variant.Variant as variants
 use Rattle.cal_value.specs.declared.variant.Variant.TheVariants as variant
@@ -126,12 +125,7 @@ module _ (common : Common) where
       → (held : Blackboard NodeId) (b : Blackboard variants.Variant) → Held common was held b
       → Held common is held b
   Held-later was is more held b h = record {
-    stands = Stands-grows (NodeAt common.tree was) (NodeAt common.tree is)
-        (λ n path s. record {
-          below = s.below;
-          has_path = leads_later (slots_of common.tree) (view was) (view is) 0 0
-              (map node_entry path) n.0 more s.has_path;
-        }) held b h.stands;
+    stands = board_later (slots_of common.tree) (view was) (view is) held b more h.stands;
     known = h.known;
   }
 

@@ -1,17 +1,16 @@
 -- The operations of a script's process lines.
 use Rattle.std.proofs.Common.{◌≡◌, ℕ, zero, suc, ◌+◌, ◌-◌, ◌<◌, ◌≤◌, ◌==◌, List, [], ◌∷◌, ◌++◌, length}
 use Rattle.std.proofs.Common.{append-nil, get_or, Bool, true, false, if◌then◌else◌, refl, sym, ap, ◌∙◌, subst}
-use Rattle.std.proofs.Common.{arith, inl, inr, ◌⊎◌, ⊎_elim}
+use Rattle.std.proofs.Common.{arith, inl, inr, ◌⊎◌}
 use Rattle.std.specs.Prelude.{Option, Some, None, slice_get, slice_index_or, option_and_then}
 use Rattle.std.specs.Prelude.{option_map, option_to_list}
 use Rattle.std.specs.List.{All, Contains}
 use Rattle.std.proofs.lemmas.Bool.{cases_lt, ne_eqb}
-use Rattle.std.proofs.lemmas.List.Elements.{All-push, Contains-append_left, Contains-append_right}
+use Rattle.std.proofs.lemmas.List.Elements.{All-push, Contains-append_right}
 use Rattle.std.proofs.lemmas.Option.{slice_get-get_or, slice_get_within}
-use Rattle.cal_process.specs.Operations.{IsOpOf, op_of_line, operation_in, placed_as, record_of}
-use Rattle.cal_run.specs.History.{placed_operation}
+use Rattle.cal_process.specs.Operations.{IsOpOf, op_of_line, operation_in, record_of}
 use Rattle.cal_run.specs.Lawful.{names_process_line}
-use Rattle.cal_run.specs.Lines.{is_process_line, line_at, operation_of}
+use Rattle.cal_run.specs.Lines.{is_process_line, is_shared, is_such, line_at, operation_of}
 use Rattle.cal_run.specs.declared.operation.Operation.{Operation}
 use Rattle.cal_script.specs.declared.script.Line.{Line}
 use Rattle.cal_script.specs.declared.script.Script.{Script}
@@ -32,6 +31,10 @@ op-record script thread number true (Some o) op is = (
 op-record script thread number true None op is = absurd cc
 op-record script thread number false found op is = absurd cc
 
+unless-some : {A : Type 0} (b : Bool) (x : A) → (if b then Some x else None) ≡ None → b ≡ false
+unless-some true x none = absurd cc
+unless-some false x none = refl
+
 module _ (script : Script) where
   -- the operation of a process line is that of the line at its place
   pub op-is : (thread number : ℕ) (l : Line) (op : OpRec) → line_at script thread number ≡ Some l
@@ -44,6 +47,24 @@ module _ (script : Script) where
         known = ap (names_process_line script) there ∙ r.0;
         does = ap (option_and_then operation_of) there ∙ r.1;
       }
+
+  pub some-shared : (thread number : ℕ) (l : Line) (op : OpRec)
+      → op_of_line script thread number l ≡ Some op
+      → (is_process_line script l ≡ true) × (op.thread ≡ thread) × (op.line ≡ number)
+  some-shared thread number l op is =
+      let r = op-record script thread number (is_process_line script l) (operation_of l) op is in
+      (r.0, r.2, r.3)
+
+  -- a line that has none is its thread's own
+  pub none-own : (thread number : ℕ) (l : Line) → op_of_line script thread number l ≡ None
+      → is_process_line script l ≡ false
+  none-own thread number l is = by (operation_of l) is
+    where
+      by : (found : Option Operation)
+          → (if is_such (is_shared script) found then option_map (record_of thread number) found
+          else None) ≡ None → is_such (is_shared script) found ≡ false
+      by None none = refl
+      by (Some op) none = unless-some (is_shared script op) (record_of thread number op) none
 
   unless-zero : (b : Bool) (o p : Option Line) → b ≡ false → o ≡ p
       → (if b then None else o) ≡ p

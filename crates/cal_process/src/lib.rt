@@ -9,6 +9,7 @@
 #![tactic(auto)]
 
 mod common;
+mod laws;
 mod performing;
 mod placing;
 mod process_ops;
@@ -16,6 +17,7 @@ mod replica;
 mod taking;
 
 pub use common::Common;
+pub use laws::process_line_law;
 pub use performing::perform;
 pub use process_ops::op_of_line;
 pub use replica::Replica;

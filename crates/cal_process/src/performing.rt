@@ -1,4 +1,4 @@
-ghost use Rattle.std.specs.Prelude.{◌≡◌, ◌+◌, ◌<◌, ◌≤◌, ◌^◌, OnOk, length};
+ghost use Rattle.std.specs.Prelude.{◌≡◌, ◌+◌, ◌<◌, ◌≤◌, OnOk, length};
 ghost use Rattle.cal_board.specs.Blackboard.{Blackboard};
 ghost use Rattle.cal_hand.specs.Changes.{HasShortText, changed_board, words_at_most};
 ghost use Rattle.cal_once.specs.Seats.{view};
@@ -9,7 +9,6 @@ ghost use Rattle.cal_run.specs.History.{board_with};
 ghost use Rattle.cal_run.specs.Lines.{attr_ref, value_of};
 ghost use Rattle.cal_tree.specs.Seats.{IsTreeSeat};
 ghost use Rattle.cal_value.specs.declared.variant.Variant as variants;
-ghost use Rattle.cal_words.specs.Words.{text_length};
 
 use crate::Common;
 use cal_board::Board;

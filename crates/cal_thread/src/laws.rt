@@ -1,5 +1,4 @@
-ghost use Rattle.std.specs.Prelude.{◌≡◌, ◌+◌, ◌++◌, ℕ, List, false, if◌then◌else◌, true};
-ghost use Rattle.cal_process.specs.Operations.{history_of};
+ghost use Rattle.std.specs.Prelude.{◌≡◌, ◌+◌, ℕ, List, false, if◌then◌else◌, true};
 ghost use Rattle.cal_process.specs.declared.common.Common.{Common};
 ghost use Rattle.cal_run.specs.Lines.{is_process_line};
 ghost use Rattle.cal_run.specs.Steps.{ThreadState, changed, found_reply, is_accepted, state_after};

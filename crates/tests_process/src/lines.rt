@@ -2,15 +2,15 @@ ghost use Rattle.std.specs.Prelude.{◌≡◌, ◌+◌, ◌<◌, List, OnOk, Som
 ghost use Rattle.cal_process.specs.Replicas.{IsCommon};
 ghost use Rattle.cal_run.specs.Lines.{is_process_line, line_at};
 ghost use Rattle.cal_run.specs.Steps.{ThreadState};
+ghost use Rattle.cal_script.specs.Valid.{IsPlaced};
 ghost use Rattle.cal_thread.specs.Threads.{IsThread};
 ghost use Rattle.cal_words.specs.declared.op.OpRec as words;
 
-use cal_process::{Common, op_of_line};
+use cal_process::{Common, op_of_line, process_line_law};
 use cal_run::line_at;
 use cal_script::{Line, Placed, Reply};
 use cal_thread::{Thread, line_done_law};
 use cal_value::OutOfMemory;
-use cal_words::OpRec;
 use std::alloc::Global;
 
 /// The reply to a thread's next line, behind so many, if it has one and that isn't a flush.
@@ -58,6 +58,7 @@ fn reply_to(
         × IsThread common.now thread.new (done + 1) h state) }
     ensures number { OnOk result (thread.new.number ≡ thread.old.number) }
 {
+    process_line_law();
     match op_of_line(common.script, thread.number, done + 1, line) {
         None => own_reply(alloc, common, thread, done, line),
         Some(op) => {

@@ -10,8 +10,8 @@ use Rattle.cal_process.proofs.performing.perform.Goals as goal
 pub operate-requires-clause-stands : goal.operate-requires-clause-stands
 operate-requires-clause-stands c = (c.requires.held.0, c.requires.held.1.stands)
 
-pub returns-in_ok-_reply-clause-words : goal.returns-in_ok-_reply-clause-words
-returns-in_ok-_reply-clause-words c =
+pub returns-clause-words : goal.returns-clause-words
+returns-clause-words c =
     subst (λ (n : ℕ). (view c.operate.new.seat).used ≤ (view c.args.seat.now).used + n)
     c.change_of-change.ensures.words
     (used-at-most (view c.args.seat.now) (view c.operate.new.seat) _ c.operate.ensures.one)
@@ -22,8 +22,8 @@ returns-in_err-_reply-clause-words c =
     c.change_of-change.ensures.words
     (used-at-most (view c.args.seat.now) (view c.operate.new.seat) _ c.operate.ensures.one)
 
-pub returns-in_ok-_reply-clause-changed : goal.returns-in_ok-_reply-clause-changed
-returns-in_ok-_reply-clause-changed c b h =
+pub returns-clause-changed : goal.returns-clause-changed
+returns-clause-changed c b h =
     let common = c.args.common.now in
     let was = c.args.seat.now in
     let is = c.operate.new.seat in

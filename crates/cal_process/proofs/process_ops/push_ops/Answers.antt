@@ -1,5 +1,5 @@
-use Rattle.std.proofs.Common.{◌≡◌, ℕ, ◌+◌, ◌<◌, ◌≤◌, ◌⊎◌, List, ◌++◌, length, ap, sym, subst, ◌∙◌}
-use Rattle.std.proofs.Common.{arith, inl, inr, ⊎_elim}
+use Rattle.std.proofs.Common.{◌≡◌, ◌+◌, ◌<◌, ◌≤◌, ◌⊎◌, length, ap, sym, subst, ◌∙◌}
+use Rattle.std.proofs.Common.{arith, ⊎_elim}
 use Rattle.std.specs.Prelude.{Some, option_to_list}
 use Rattle.std.specs.List.{All, Contains}
 use Rattle.std.proofs.lemmas.Bool.{cases_lt}
@@ -8,7 +8,6 @@ use Rattle.cal_process.proofs.ScriptLemmas.{All-option, Contains-option, line-th
 use Rattle.cal_process.proofs.ScriptLemmas.{one-op, op-is}
 use Rattle.cal_process.specs.Operations.{IsOpOf, op_of_line}
 use Rattle.cal_run.specs.Lines.{line_at}
-use Rattle.cal_script.specs.declared.script.Line.{Line}
 use Rattle.cal_words.specs.declared.op.OpRec.{OpRec}
 use Rattle.cal_process.proofs.process_ops.push_ops.Goals as goal
 

@@ -1,5 +1,8 @@
-use Rattle.std.proofs.Common.{refl, arith}
+use Rattle.std.proofs.Common.{refl, sym, subst, arith}
+use Rattle.cal_board.specs.Blackboard.{Blackboard, nothing_open}
 use Rattle.cal_process.proofs.OperationLemmas.{nothing-held}
+use Rattle.cal_process.specs.Boards.{Held}
+use Rattle.cal_words.specs.declared.node.NodeId.{NodeId}
 use Rattle.cal_process.proofs.replica.Replica.new.Goals as goal
 
 pub returns-clause-taken : goal.returns-clause-taken
@@ -8,5 +11,6 @@ returns-clause-taken c common seat at_tree at_log = record {
   at_log = at_log;
   read = λ k d l. absurd (omega (arith, l));
   long = refl;
-  held = nothing-held common seat;
+  held = subst (λ (b : Blackboard NodeId). Held common seat b nothing_open) (sym c.new.ensures)
+      (nothing-held common seat);
 }

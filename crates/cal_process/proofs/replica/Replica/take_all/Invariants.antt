@@ -1,4 +1,4 @@
-use Rattle.std.proofs.Common.{◌≡◌, ◌≤◌, ◌-◌, ℕ, List}
+use Rattle.std.proofs.Common.{◌-◌, List}
 use Rattle.cal_once.specs.Seats.{view}
 use Rattle.cal_once.specs.Views.{IsLater}
 use Rattle.cal_plog.specs.Seats.{slots_of}

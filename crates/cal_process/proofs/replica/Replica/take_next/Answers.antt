@@ -1,4 +1,4 @@
-use Rattle.std.proofs.Common.{◌≡◌, ◌+◌, ◌≤◌, ℕ, List, [], ◌∷◌, ◌++◌, length, arith, refl, sym, ap}
+use Rattle.std.proofs.Common.{◌≡◌, ◌+◌, ℕ, [], ◌∷◌, ◌++◌, length, arith, refl, sym, ap}
 use Rattle.std.proofs.Common.{◌∙◌, subst, ⊎_elim}
 use Rattle.std.proofs.lemmas.List.{length-append}
 use Rattle.std.proofs.lemmas.List.Elements.{All-contains}
@@ -13,7 +13,6 @@ use Rattle.cal_process.specs.Boards.{Held}
 use Rattle.cal_process.specs.Operations.{IsOpOf, history_of}
 use Rattle.cal_run.specs.History.{process_board}
 use Rattle.cal_value.specs.declared.variant.Variant.{Variant}
-use Rattle.cal_words.specs.declared.op.OpRec.{OpRec}
 use Rattle.cal_words.specs.declared.sort.OpSort.{OpSort}
 use Rattle.cal_process.proofs.replica.Replica.take_next.Goals as goal
 

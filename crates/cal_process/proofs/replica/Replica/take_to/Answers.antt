@@ -1,9 +1,9 @@
-use Rattle.std.proofs.Common.{◌≡◌, ◌+◌, ◌<◌, ℕ, List, true, arith, ap, ◌∙◌}
+use Rattle.std.proofs.Common.{◌≡◌, ◌+◌, true, arith, ap, ◌∙◌}
 use Rattle.cal_once.specs.Seats.{view}
 use Rattle.cal_plog.proofs.Reading.{knows_below_later}
 use Rattle.cal_plog.specs.Seats.{slots_of}
 use Rattle.cal_process.proofs.TakingLemmas.{count-more, must-take, takes-looks, takes-one}
-use Rattle.cal_process.proofs.TakingLemmas.{takes-nothing, takes-then}
+use Rattle.cal_process.proofs.TakingLemmas.{takes-then}
 use Rattle.cal_process.proofs.replica.Replica.take_to.Goals as goal
 use Rattle.cal_process.proofs.replica.Replica.take_to.Goals.{In_ok-_more}
 

@@ -1,4 +1,4 @@
-use Rattle.std.proofs.Common.{◌≡◌, ◌∙◌, ℕ, ◌+◌, ◌<◌, sym, ap, subst}
+use Rattle.std.proofs.Common.{◌∙◌, ℕ, ◌+◌, ◌<◌, sym, ap, subst}
 use Rattle.std.specs.Prelude.{Option}
 use Rattle.cal_board.specs.Readings.{readings_after}
 use Rattle.cal_once.specs.Layout.{times}

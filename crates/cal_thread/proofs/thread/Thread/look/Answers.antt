@@ -1,4 +1,4 @@
-use Rattle.std.proofs.Common.{◌≡◌, ◌++◌, ◌∙◌, List, sym, ap, subst, Bool}
+use Rattle.std.proofs.Common.{◌≡◌, ◌++◌, ◌∙◌, sym, ap, subst, Bool}
 use Rattle.std.specs.Prelude.{Option, ◌&&◌}
 use Rattle.std.specs.List.{list_any}
 use Rattle.cal_hand.specs.Nodes.{NodeAt}
@@ -12,8 +12,8 @@ use Rattle.cal_thread.proofs.ThreadLemmas.{own-found, own-looks}
 use Rattle.cal_thread.specs.Lines.{Looks}
 use Rattle.cal_thread.proofs.thread.Thread.look.Goals as goal
 
-pub returns-in_ok-look_if-clause-meets : goal.returns-in_ok-look_if-clause-meets
-returns-in_ok-look_if-clause-meets c done h state w =
+pub returns-clause-meets : goal.returns-in_ok-look_if-clause-meets
+returns-clause-meets c done h state w =
     let common = c.args.common.now in
     let script = common.script.now in
     let old = c.args.self.now in

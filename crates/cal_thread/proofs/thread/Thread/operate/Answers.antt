@@ -1,4 +1,4 @@
-use Rattle.std.proofs.Common.{◌≡◌, ◌∙◌}
+use Rattle.std.proofs.Common.{◌∙◌}
 use Rattle.cal_board.specs.Readings.{readings_after}
 use Rattle.cal_thread.proofs.ThreadLemmas.{taken-later}
 use Rattle.cal_thread.proofs.thread.Thread.operate.Goals as goal
@@ -10,8 +10,8 @@ pub perform-requires-clause-held : goal.perform-requires-clause-held
 perform-requires-clause-held c =
     let t = c.requires.thread in (t.1.board, t.2.mine)
 
-pub returns-in_ok-follow_if-clause-operated : goal.returns-in_ok-follow_if-clause-operated
-returns-in_ok-follow_if-clause-operated c h state s =
+pub returns-clause-operated : goal.returns-in_ok-follow_if-clause-operated
+returns-clause-operated c h state s =
     let done = c.in_ok-perform.ensures in
     record {
       taken = taken-later c.args.common.now c.args.self.now.tree c.perform.new.seat

@@ -1,4 +1,4 @@
-use Rattle.std.proofs.Common.{◌≡◌, ◌∙◌, ◌+◌, ◌≤◌, ◌<◌, ◌++◌, ℕ, List, [], ◌∷◌, length, sym, ap, subst}
+use Rattle.std.proofs.Common.{◌≡◌, ◌∙◌, ◌+◌, ◌≤◌, ◌<◌, ◌++◌, ℕ, List, [], ◌∷◌, sym, ap, subst}
 use Rattle.std.proofs.Common.{arith}
 use Rattle.cal_hand.specs.Nodes.{NodeAt}
 use Rattle.cal_once.specs.Layout.{times}

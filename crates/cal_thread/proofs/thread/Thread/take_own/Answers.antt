@@ -1,4 +1,4 @@
-use Rattle.std.proofs.Common.{◌≡◌, ◌∙◌, ◌+◌, ◌<◌, ◌++◌, ℕ, List, [], ◌∷◌, sym, ap, subst, arith, true}
+use Rattle.std.proofs.Common.{◌≡◌, ◌∙◌, ◌+◌, ◌<◌, ◌++◌, ℕ, List, [], ◌∷◌, ap, subst, arith, true}
 use Rattle.cal_once.specs.Layout.{times}
 use Rattle.cal_once.specs.Seats.{view}
 use Rattle.cal_once.specs.declared.view.View.{View}
@@ -18,8 +18,8 @@ pub take_next-requires-clause-taken : goal.take_next-requires-clause-taken
 take_next-requires-clause-taken c =
     let p = c.requires.placed in (p.1, p.3.has.taken)
 
-pub returns-in_ok-_own-clause-takes : goal.returns-in_ok-_own-clause-takes
-returns-in_ok-_own-clause-takes c op h state p =
+pub returns-clause-takes : goal.returns-in_ok-_own-clause-takes
+returns-clause-takes c op h state p =
     let common = c.args.common.now in
     let script = common.script.now in
     let slots = slots_of common.log in
