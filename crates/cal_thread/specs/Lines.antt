@@ -45,7 +45,7 @@ module _ (common : Common) (old new : Thread) where
       : Type 0 where
     pub ops : List OpRec
     pub kept : IsThread common new done (h ++ ops) state
-    pub reply : (note : LineNote)
+    pub found : (note : LineNote)
         → found_reply common.script.now (history_of (h ++ ops)) l note state ≡ met.reply
     pub accepted : met.accepted ≡ is_accepted met.reply
     pub sees : (note : LineNote) → Looks common old.process new.process ops
@@ -82,7 +82,7 @@ module _ (common : Common) (old new : Thread) where
       (state : ThreadState) : Type 0 where
     pub ops : List OpRec
     pub placed : HasPlaced common new op (h ++ ops) state
-    pub reply : (more : List Placed) (note : LineNote) → note.seen ≡ new.process.seen + 1
+    pub found : (more : List Placed) (note : LineNote) → note.seen ≡ new.process.seen + 1
         → found_reply common.script.now (history_of (h ++ ops) ++ more) l note state ≡ reply
     pub published : (view new.process.log).published
         ≡ (view old.process.log).published ++ new.process.seen ∷ []

@@ -33,7 +33,7 @@ returns-clause-meets c done h state w =
     record {
       ops = l.ops;
       kept = l.kept;
-      reply = λ note.
+      found = λ note.
           own-found script (history_of (h ++ l.ops)) line note state c.requires.own o is;
       accepted = c.is_accepted-accepted.ensures;
       sees = λ note. subst

@@ -93,7 +93,7 @@ returns-clause-meets c done h state w line_is =
         below = λ p some. below-more (view old.process.log).published mid.seen p old.process.seen
             w.below behind (subst (λ (ps : List ℕ). 0 < times p ps) published some);
       };
-      reply = λ more note is.
+      found = λ more note is.
           shared-found script g more line note state mid.seen c.requires.shared m.taken.long is
           ∙ sym (reply_to_line-Stands (NodeAt common.tree tree) script mid.board
           (process_board script (history_of g) mid.seen) m.taken.held.stands line)
