@@ -114,7 +114,7 @@ module _ (common : Common) where
   pub nothing-held : (seat : RowSeat NodeSort) → Held common seat nothing_open nothing_open
   nothing-held seat =
       let known = All-nil (λ (s : Slot variants.Variant).
-        AreKnown common.script.now.attributes s.opened) in
+      AreKnown common.script.now.attributes s.opened) in
       record {
         stands = record { references = tt; as_values = refl };
         known = record { references = known; as_values = known };

@@ -42,7 +42,7 @@ module _ (script : Script) where
   op-is thread number l op at is =
       let r = op-record script thread number (is_process_line script l) (operation_of l) op is in
       let there : line_at script op.thread op.line ≡ Some l =
-        (λ j. line_at script (r.2 j) (r.3 j)) ∙ at in
+      (λ j. line_at script (r.2 j) (r.3 j)) ∙ at in
       record {
         known = ap (names_process_line script) there ∙ r.0;
         does = ap (option_and_then operation_of) there ∙ r.1;

@@ -69,11 +69,11 @@ board-more script h op is =
     let long : length (history_of h) ≡ length h = length-map h placed_as in
     let before : Blackboard Variant = process_board script (history_of h) (length h) in
     ap (λ (ps : List Placed). process_board script ps (length h + 1))
-      (map-append placed_as h (op ∷ []))
+    (map-append placed_as h (op ∷ []))
     ∙ ap (λ (n : ℕ). process_board script (history_of h ++ placed_as op ∷ []) (n + 1)) (sym long)
     ∙ process_board-push script (history_of h) (placed_as op)
     ∙ ap (λ (n : ℕ). board_placed script (process_board script (history_of h) n)
-      (placed_operation script (placed_as op))) long
+    (placed_operation script (placed_as op))) long
     ∙ ap (λ (o : Option Operation). board_placed script before o) is.does
 
 -- ---- what a seat learned
@@ -136,7 +136,7 @@ module _ (common : Common) where
       let had = m.words in
       let has = o.words in
       let sum = sum_by_push (λ (op : OpRec). words_made common.script.now (operation_in op)) m.ops
-        o.op in
+      o.op in
       record {
         ops = m.ops ++ o.op ∷ [];
         learns = learns-then (view old.log) (view mid.log) (view new.log) m.learns
@@ -159,8 +159,8 @@ module _ (common : Common) where
       let v = view mid.log in
       let w = view new.log in
       let learns : OnlyLearns v w = ⊎_elim
-        (λ e. subst (λ (x : View OpSort). OnlyLearns v x) (sym e.1) (learns-nothing v))
-        (λ e. only-notes mid.seen v w e.2) n.end in
+      (λ e. subst (λ (x : View OpSort). OnlyLearns v x) (sym e.1) (learns-nothing v))
+      (λ e. only-notes mid.seen v w e.2) n.end in
       record {
         more = record {
           ops = m.ops;
@@ -211,5 +211,5 @@ must-take common t u mid new b place less inside known g taken takes = is-true b
     let n = takes-none common t u mid new b e takes g taken in
     ⊎_elim (λ x. let at = x.0 in absurd (omega (arith, at, less, inside)))
     (λ x.
-      let r = (known mid.seen less).1 in
-      x.1.unknown (was_seen_from (view mid.log).seen (mid.seen + 1) r.slot r.known)) n.end)
+    let r = (known mid.seen less).1 in
+    x.1.unknown (was_seen_from (view mid.log).seen (mid.seen + 1) r.slot r.known)) n.end)

@@ -79,7 +79,7 @@ below-more ps place p seen below behind is = by (cases_lt p (place + 1))
     by (inr more) =
         let sum = times-append p ps (place ∷ []) in
         let none : times p (place ∷ []) ≡ 0 =
-          ap (λ (b : Bool). cond b 1 0 + 0) (ne_eqb place p (λ e. omega (arith, e, more))) in
+        ap (λ (b : Bool). cond b 1 0 + 0) (ne_eqb place p (λ e. omega (arith, e, more))) in
         let less = below p (omega (arith, is, sum, none)) in
         absurd (omega (arith, less, behind, more))
 
@@ -101,9 +101,9 @@ module _ (script : Script) (history : List Placed) (l : lines.Line) (note : Line
       ≡ list_any (λ (c : Channel). is_accepted o && takes script c l) script.channels
   own-looks =
       ap (λ (f : Option Reply). list_any (λ (c : Channel). is_accepted f && takes script c l)
-        script.channels && not (is_process_line script l)) own-found
+      script.channels && not (is_process_line script l)) own-found
       ∙ ap (λ (t : Bool). list_any (λ (c : Channel). is_accepted o && takes script c l)
-        script.channels && not t) own
+      script.channels && not t) own
       ∙ and-true (list_any (λ (c : Channel). is_accepted o && takes script c l) script.channels)
 
 -- the clock stands where a line does something to a board
@@ -129,11 +129,11 @@ shared-found script h more l note state seen shared long is =
     let mapped = length-map h placed_as in
     let back : note.seen - 1 ≡ seen = omega (arith, is) in
     ap (λ (t : Bool). reply_to_line script
-      (if t then process_board script whole (if t then note.seen - 1 else note.seen)
-      else state.board) l) shared
+    (if t then process_board script whole (if t then note.seen - 1 else note.seen)
+    else state.board) l) shared
     ∙ ap (λ (n : ℕ). reply_to_line script (process_board script whole n) l) back
     ∙ ap (λ (b : Blackboard Variant). reply_to_line script b l)
-      (process_board-front script (history_of h) more seen (omega (arith, mapped, long)))
+    (process_board-front script (history_of h) more seen (omega (arith, mapped, long)))
 
 -- ---- behind a line
 

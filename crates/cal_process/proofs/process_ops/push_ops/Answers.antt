@@ -28,11 +28,11 @@ loop-place-preserved c =
     let o = c.op_of_line-op.result in
     let l = c.line_in-line.result in
     let there : line_at script thread (i + 1) ≡ Some l = line-there script thread i
-      c.args.lines.now l c.requires.lines (omega arith) (c.line_in-line.ensures l) in
+    c.args.lines.now l c.requires.lines (omega arith) (c.line_in-line.ensures l) in
     let new = c.in_ok-push_op.ensures in
     let left : (op : OpRec) → Contains c.loop-place.ops op → Contains c.push_op.new.ops op =
-      λ op has. subst (λ xs. Contains xs op) (sym new)
-      (Contains-append_left c.loop-place.ops (option_to_list o) op has) in
+    λ op has. subst (λ xs. Contains xs op) (sym new)
+    (Contains-append_left c.loop-place.ops (option_to_list o) op has) in
     record {
       ops = λ all. subst (All (IsOpOf script)) (sym new)
           (All-option (IsOpOf script) c.loop-place.ops o

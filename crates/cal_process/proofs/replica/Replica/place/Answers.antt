@@ -12,7 +12,7 @@ append-requires-clause-from c =
     let t = c.requires.taken.2 in
     let long = t.long in
     let inside = seen-within (slots_of c.args.common.now.log) (view c.args.self.now.log)
-      c.requires.taken.1 t.read in
+    c.requires.taken.1 t.read in
     omega (arith, long, inside)
 
 pub append-requires-clause-known : goal.append-requires-clause-known
@@ -29,9 +29,9 @@ returns-in-Ok-clause-behind c =
     let v = view c.args.self.now.log in
     ⊎_elim
     (λ (less : c.in-Ok.place < c.args.self.now.seen).
-      let k = (t.read c.in-Ok.place c.args.op (omega (arith, long, less))).1 in
-      absurd (c.in-Ok.ensures.answer.fresh.unknown
-      (was_seen_from v.seen (c.in-Ok.place + 1) k.slot k.known)))
+    let k = (t.read c.in-Ok.place c.args.op (omega (arith, long, less))).1 in
+    absurd (c.in-Ok.ensures.answer.fresh.unknown
+    (was_seen_from v.seen (c.in-Ok.place + 1) k.slot k.known)))
     (λ (more : c.args.self.now.seen ≤ c.in-Ok.place). more)
     (cases_lt c.in-Ok.place c.args.self.now.seen)
 

@@ -23,13 +23,13 @@ loop-smaller c =
     let b = c.in_ok-take_next.field-0 in
     let n = c.take_next.new.self.seen in
     let count : n ≡ c.loop.self.seen + 1 =
-      count-more b n c.loop.self.seen c.if-branch.true c.in_ok-take_next.ensures.count in
+    count-more b n c.loop.self.seen c.if-branch.true c.in_ok-take_next.ensures.count in
     let some = c.loop.invariant.some in
     let o = takes-one common c.loop.seat c.take_next.new.seat c.loop.self
-      c.take_next.new.self b c.if-branch.true c.in_ok-take_next.ensures.takes some.0 some.1 in
+    c.take_next.new.self b c.if-branch.true c.in_ok-take_next.ensures.takes some.0 some.1 in
     let long = o.taken.long in
     let within = seen-within (slots_of common.log) (view c.take_next.new.self.log) _
-      o.taken.read in
+    o.taken.read in
     omega (arith, count, long, within)
 
 pub loop-preserved : goal.loop-preserved
@@ -38,7 +38,7 @@ loop-preserved c =
     let b = c.in_ok-take_next.field-0 in
     let old = c.loop.invariant in
     let one = takes-one common c.loop.seat c.take_next.new.seat c.loop.self
-      c.take_next.new.self b c.if-branch.true c.in_ok-take_next.ensures.takes in
+    c.take_next.new.self b c.if-branch.true c.in_ok-take_next.ensures.takes in
     let a = old.later in
     let z = c.in_ok-take_next.ensures.later in
     record {

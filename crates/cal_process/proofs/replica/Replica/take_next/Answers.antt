@@ -21,7 +21,7 @@ next-requires-clause-place c =
     let t = c.requires.taken.1 in
     let long = t.long in
     let inside = seen-within (slots_of c.args.common.now.log) (view c.args.self.now.log)
-      c.requires.taken.0 t.read in
+    c.requires.taken.0 t.read in
     omega (arith, long, inside)
 
 pub perform-requires-clause-may : goal.perform-requires-clause-may
@@ -35,8 +35,8 @@ returns-in-None-clause-takes c h t =
     let v = view c.args.self.now.log in
     let w = view c.next.new.seat in
     let more : KnowsMore v w = ⊎_elim
-      (λ e. subst (λ (x : View OpSort). KnowsMore v x) (sym e.1) (λ i x saw. saw))
-      (λ e. e.2.more) c.in-None.ensures.answer in
+    (λ e. subst (λ (x : View OpSort). KnowsMore v x) (sym e.1) (λ i x saw. saw))
+    (λ e. e.2.more) c.in-None.ensures.answer in
     record {
       end = c.in-None.ensures.answer;
       taken = record {
@@ -59,12 +59,12 @@ returns-in_ok-perform-in-Some-clause-takes c h t =
     let w = view c.next.new.seat in
     let done = c.in_ok-perform-in-Some.ensures in
     let of : IsOpOf script op = All-contains (IsOpOf script) (ops_of common.log) op
-      c.requires.common.ops answer.among in
+    c.requires.common.ops answer.among in
     let long : length h ≡ c.args.self.now.seen = t.long in
     let before : Held common c.args.seat.now c.args.self.now.board
-        (process_board script (history_of h) (length h)) =
-      subst (λ (n : ℕ). Held common c.args.seat.now c.args.self.now.board
-      (process_board script (history_of h) n)) (sym long) t.held in
+    (process_board script (history_of h) (length h)) =
+    subst (λ (n : ℕ). Held common c.args.seat.now c.args.self.now.board
+    (process_board script (history_of h) n)) (sym long) t.held in
     record {
       op = op;
       has_op = answer.has_op;

@@ -18,7 +18,7 @@ is-more c =
     c.take_next.new.self c.in_ok-_more._more c.args.place (omega (arith, at, less))
     c.requires.within
     (knows_below_later (slots_of c.args.common.now.log) (view c.args.self.now.log)
-      (view c.loop-next.self.log) c.args.place m.learns.more c.requires.known)
+    (view c.loop-next.self.log) c.args.place m.learns.more c.requires.known)
     old.some.0 old.some.1 c.in_ok-_more.ensures.takes
 
 pub loop-next-preserved : goal.loop-next-preserved
@@ -29,7 +29,7 @@ loop-next-preserved c =
     let n = c.take_next.new.self.seen in
     let count = count-more b n c.loop-next.self.seen (is-more c) c.in_ok-_more.ensures.count in
     let one = takes-one common c.loop-next.seat c.take_next.new.seat c.loop-next.self
-      c.take_next.new.self b (is-more c) c.in_ok-_more.ensures.takes in
+    c.take_next.new.self b (is-more c) c.in_ok-_more.ensures.takes in
     let a = old.later in
     let z = c.in_ok-_more.ensures.later in
     record {

@@ -51,16 +51,17 @@ returns-in_ok-operate-in-Some-clause-changed c done h state note reading w =
     let op = c.in-Some.op in
     let e = c.in-Some.ensures in
     let r = c.in_ok-operate-in-Some.ensures.operated h state w.has in
-    record { has = record {
-      taken = r.taken;
-      number = r.number;
-      mine = subst (λ (o : Option Operation). Held c.args.common.now new.tree new.board
-          (board_placed script state.board o)) e r.mine;
-      readings = λ timed. r.readings timed
-          ∙ ap (λ (n : ℕ). readings_after state.readings op.code (attr_ref script op.attr) n)
-          (sym reading)
-          ∙ ap (λ (o : Option Operation). readings_changed script state.readings note o) e;
-      clock = r.clock ∙ clock-stands c.args.line op state.clock e;
+    record {
+      has = record {
+        taken = r.taken;
+        number = r.number;
+        mine = subst (λ (o : Option Operation). Held c.args.common.now new.tree new.board
+            (board_placed script state.board o)) e r.mine;
+        readings = λ timed. r.readings timed
+            ∙ ap (λ (n : ℕ). readings_after state.readings op.code (attr_ref script op.attr) n)
+            (sym reading)
+            ∙ ap (λ (o : Option Operation). readings_changed script state.readings note o) e;
+        clock = r.clock ∙ clock-stands c.args.line op state.clock e;
       };
       own = subst (λ (p : Replica). OwnBefore slots (view p.log) (done + 1)) (sym same) w.own;
       below = λ q some. subst (λ (p : Replica). 0 < times q (view p.log).published → q < p.seen)

@@ -21,15 +21,15 @@ returns-clause-meets c done h state w =
     let o : Option Reply = c.reply_to_line-reply.result in
     let l = c.in_ok-look_if.ensures.looks done h state w in
     let is : reply_to_line script state.board line ≡ o =
-      sym (reply_to_line-Stands (NodeAt common.tree old.tree) script old.board state.board
-      w.has.mine.stands line) ∙ sym c.reply_to_line-reply.ensures in
+    sym (reply_to_line-Stands (NodeAt common.tree old.tree) script old.board state.board
+    w.has.mine.stands line) ∙ sym c.reply_to_line-reply.ensures in
     let takes_as : is_accepted o ≡ c.is_accepted-accepted.result =
-      sym c.is_accepted-accepted.ensures in
+    sym c.is_accepted-accepted.ensures in
     let looks_as : c.is_taken-looks.result
-        ≡ list_any (λ (c : Channel). is_accepted o && takes script c line) script.channels =
-      c.is_taken-looks.ensures
-      ∙ ap (λ (b : Bool). list_any (λ (c : Channel). b && takes script c line) script.channels)
-      (sym takes_as) in
+    ≡ list_any (λ (c : Channel). is_accepted o && takes script c line) script.channels =
+    c.is_taken-looks.ensures
+    ∙ ap (λ (b : Bool). list_any (λ (c : Channel). b && takes script c line) script.channels)
+    (sym takes_as) in
     record {
       ops = l.ops;
       kept = l.kept;

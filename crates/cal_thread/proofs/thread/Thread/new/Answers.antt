@@ -13,7 +13,7 @@ pub returns-clause-thread : goal.returns-clause-thread
 returns-clause-thread c common at_tree at_log =
     let log = c.new-process.ensures.log in
     let published : (view c.new-process.result.log).published ≡ [] =
-      ap (λ (s : RowSeat OpSort). (view s).published) log ∙ c.requires.fresh in
+    ap (λ (s : RowSeat OpSort). (view s).published) log ∙ c.requires.fresh in
     record {
       has = record {
         taken = c.new-process.ensures.taken common c.args.tree at_tree at_log;

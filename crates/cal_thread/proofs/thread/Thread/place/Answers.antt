@@ -67,12 +67,12 @@ returns-clause-meets c done h state w line_is =
     let g : List OpRec = h ++ m.ops in
     let seen : mid.seen ≡ place = c.in_ok-take_to.ensures.seen in
     let known : KnowsBelow slots (view mid.log) (place + 1) = knows_below_later slots
-      (view placed.log) (view mid.log) (place + 1) m.learns.more app.up_to in
+    (view placed.log) (view mid.log) (place + 1) m.learns.more app.up_to in
     let published : (view mid.log).published ≡ (view old.process.log).published ++ mid.seen ∷ [] =
-      m.learns.published ∙ ap (λ (x : View OpSort). x.published) app.learns.same
-      ∙ ap (λ (n : ℕ). (view old.process.log).published ++ n ∷ []) (sym seen) in
+    m.learns.published ∙ ap (λ (x : View OpSort). x.published) app.learns.same
+    ∙ ap (λ (n : ℕ). (view old.process.log).published ++ n ∷ []) (sym seen) in
     let behind : old.process.seen ≤ mid.seen =
-      subst (λ (n : ℕ). old.process.seen ≤ n) (sym seen) c.in_ok-place.ensures.behind in
+    subst (λ (n : ℕ). old.process.seen ≤ n) (sym seen) c.in_ok-place.ensures.behind in
     let later = c.in_ok-take_to.ensures.later in
     record {
       ops = m.ops;

@@ -29,18 +29,18 @@ returns-clause-takes c op h state p =
     let b = c.in_ok-_own._own in
     let inside = p.there.0 in
     let e : b ≡ true = must-take common old.tree tree old.process new b (old.process.seen + 1)
-      (omega arith) (omega (arith, inside)) p.up_to h p.has.taken
-      c.in_ok-_own.ensures.takes in
+    (omega arith) (omega (arith, inside)) p.up_to h p.has.taken
+    c.in_ok-_own.ensures.takes in
     let o = takes-one common old.tree tree old.process new b e c.in_ok-_own.ensures.takes h
-      p.has.taken in
+    p.has.taken in
     let same : o.op ≡ op = one_op (plan_of common.log) (view new.log) o.taken.at_log.sound
-      old.process.seen o.op op o.has_op
-      (has_op_later slots (view old.process.log) (view new.log) old.process.seen op o.learns.more
-      p.there) in
+    old.process.seen o.op op o.has_op
+    (has_op_later slots (view old.process.log) (view new.log) old.process.seen op o.learns.more
+    p.there) in
     let count : new.seen ≡ old.process.seen + 1 =
-      count-more b new.seen old.process.seen e c.in_ok-_own.ensures.count in
+    count-more b new.seen old.process.seen e c.in_ok-_own.ensures.count in
     let published : (view new.log).published ≡ (view old.process.log).published =
-      ap (λ (x : View OpSort). x.published) o.learns.same in
+    ap (λ (x : View OpSort). x.published) o.learns.same in
     record {
       kept = record {
         has = record {
