@@ -12,7 +12,7 @@ use Rattle.cal_thread.proofs.ThreadLemmas.{own-found, own-looks}
 use Rattle.cal_thread.specs.Lines.{Looks}
 use Rattle.cal_thread.proofs.thread.Thread.look.Goals as goal
 
-pub returns-clause-meets : goal.returns-in_ok-look_if-clause-meets
+pub returns-clause-meets : goal.returns-clause-meets
 returns-clause-meets c done h state w =
     let common = c.args.common.now in
     let script = common.script.now in

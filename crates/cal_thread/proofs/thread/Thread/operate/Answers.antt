@@ -10,7 +10,7 @@ pub perform-requires-clause-held : goal.perform-requires-clause-held
 perform-requires-clause-held c =
     let t = c.requires.thread in (t.1.board, t.2.mine)
 
-pub returns-clause-operated : goal.returns-in_ok-follow_if-clause-operated
+pub returns-clause-operated : goal.returns-clause-operated
 returns-clause-operated c h state s =
     let done = c.in_ok-perform.ensures in
     record {

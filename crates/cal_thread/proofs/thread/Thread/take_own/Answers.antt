@@ -18,7 +18,7 @@ pub take_next-requires-clause-taken : goal.take_next-requires-clause-taken
 take_next-requires-clause-taken c =
     let p = c.requires.placed in (p.1, p.3.has.taken)
 
-pub returns-clause-takes : goal.returns-in_ok-_own-clause-takes
+pub returns-clause-takes : goal.returns-clause-takes
 returns-clause-takes c op h state p =
     let common = c.args.common.now in
     let script = common.script.now in
