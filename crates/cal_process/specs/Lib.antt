@@ -1,0 +1,4 @@
+pub mod Operations
+pub mod Boards
+pub mod Replicas
+pub mod Takings

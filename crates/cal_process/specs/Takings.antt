@@ -1,0 +1,46 @@
+-- What a thread learns by operations one after another.
+use Rattle.std.specs.Prelude.{◌≡◌, ◌⊎◌, ℕ, List, [], ◌∷◌, ◌++◌, sum_by}
+use Rattle.cal_once.specs.Seats.{view}
+use Rattle.cal_once.specs.Views.{KnowsMore}
+use Rattle.cal_once.specs.declared.seat.RowSeat.{RowSeat}
+use Rattle.cal_once.specs.declared.view.View.{View}
+use Rattle.cal_plog.specs.Seats.{slots_of}
+use Rattle.cal_process.specs.Operations.{operation_in, words_made}
+use Rattle.cal_process.specs.Replicas.{AddsWords, HasTaken}
+use Rattle.cal_process.specs.declared.common.Common.{Common}
+use Rattle.cal_process.specs.declared.replica.Replica.{Replica}
+use Rattle.cal_script.specs.declared.script.Script.{Script}
+use Rattle.cal_words.specs.declared.op.OpRec.{OpRec}
+use Rattle.cal_words.specs.declared.sort.NodeSort.{NodeSort}
+use Rattle.cal_words.specs.declared.sort.OpSort.{OpSort}
+
+-- a seat has learned, and published nothing: all but its draft, its words and its looks stays
+pub record OnlyLearns (v w : View OpSort) : Type 0 where
+  pub number : w.number ≡ v.number
+  pub used : w.used ≡ v.used
+  pub published : w.published ≡ v.published
+  pub others : w.others ≡ v.others
+  pub more : KnowsMore v w
+
+-- nothing was found empty
+abbrev pub KeepsLooks : Replica → Replica → Type 0
+KeepsLooks old new = (view new.log).looks ≡ (view old.log).looks
+
+-- the words of the nodes that operations may make
+abbrev pub words_of_ops : Script → List OpRec → ℕ
+words_of_ops script ops = sum_by (λ op. words_made script (operation_in op)) ops
+
+-- More operations were taken in: those that stand next in the history.
+pub record TakesMore (common : Common) (was is : RowSeat NodeSort) (old new : Replica)
+    (h : List OpRec) : Type 0 where
+  pub ops : List OpRec
+  pub learns : OnlyLearns (view old.log) (view new.log)
+  pub taken : HasTaken common is new (h ++ ops)
+  pub words : AddsWords common was is (words_of_ops common.script.now ops)
+
+-- And the slot behind them was found empty, or there are no more.
+pub record TakesAll (common : Common) (was is : RowSeat NodeSort) (old new : Replica)
+    (h : List OpRec) : Type 0 where
+  pub more : TakesMore common was is old new h
+  pub end : (new.seen ≡ slots_of common.log)
+      ⊎ ((view new.log).looks ≡ (view old.log).looks ++ new.seen ∷ [])
