@@ -1,4 +1,4 @@
-use Rattle.std.proofs.Common.{refl, sym, subst, ◌∙◌}
+use Rattle.std.proofs.Common.{refl, sym, ap, subst, ◌∙◌}
 use Rattle.std.specs.Prelude.{Ok}
 use Rattle.cal_call.proofs.FewGenerated.{IsFew, asked_few}
 use Rattle.cal_call.proofs.commands.carry_out.Goals as goal
@@ -6,12 +6,14 @@ use Rattle.cal_call.proofs.commands.carry_out.Goals.{in-Ok-Query, in-Ok-Gen, in-
 
 -- the sizes that words ask for are within the limits
 pub write_generated-requires-clause-threads : goal.write_generated-requires-clause-threads
-write_generated-requires-clause-threads g c =
-    (subst IsFew (sym c.read_words.ensures ∙ c.in-Ok-Gen.is) (asked_few c.args.words.now)).0
+write_generated-requires-clause-threads g c lifetimes outlive =
+    (subst IsFew (sym c.read_words.ensures ∙ c.in-Ok-Gen.is ∙ ap Ok c.in-Ok-Gen.field-0-is)
+    (asked_few c.args.words.now)).0
 
 pub write_generated-requires-clause-lines : goal.write_generated-requires-clause-lines
-write_generated-requires-clause-lines g c =
-    (subst IsFew (sym c.read_words.ensures ∙ c.in-Ok-Gen.is) (asked_few c.args.words.now)).1
+write_generated-requires-clause-lines g c lifetimes outlive =
+    (subst IsFew (sym c.read_words.ensures ∙ c.in-Ok-Gen.is ∙ ap Ok c.in-Ok-Gen.field-0-is)
+    (asked_few c.args.words.now)).1
 
 -- each command's answer, with no journal
 pub returns-clause-answers : goal.returns-clause-answers
