@@ -1,0 +1,79 @@
+use Rattle.std.proofs.Common.{◌∙◌, ℕ, ◌+◌, ◌<◌, sym, ap, subst}
+use Rattle.std.specs.Prelude.{Option}
+use Rattle.cal_board.specs.Readings.{readings_after}
+use Rattle.cal_once.specs.Layout.{times}
+use Rattle.cal_once.specs.Seats.{view}
+use Rattle.cal_plog.specs.History.{OwnBefore}
+use Rattle.cal_plog.specs.Seats.{slots_of}
+use Rattle.cal_process.proofs.OperationLemmas.{placed-may}
+use Rattle.cal_process.specs.Boards.{Held}
+use Rattle.cal_process.specs.Replicas.{AddsWords}
+use Rattle.cal_process.specs.declared.replica.Replica.{Replica}
+use Rattle.cal_run.specs.History.{board_placed}
+use Rattle.cal_run.specs.Lines.{attr_ref, clock_after}
+use Rattle.cal_run.specs.Steps.{readings_changed}
+use Rattle.cal_run.specs.declared.operation.Operation.{Operation}
+use Rattle.cal_thread.proofs.ThreadLemmas.{clock-stands}
+use Rattle.cal_thread.specs.Lines.{words_if}
+use Rattle.cal_thread.proofs.thread.Thread.change.Goals as goal
+
+pub operate-requires-clause-may : goal.operate-requires-clause-may
+operate-requires-clause-may c = placed-may c.args.common.now.script.now c.args.line c.in-Some.op
+    c.requires.placed (sym c.in-Some.ensures)
+
+pub returns-in-None-clause-changed : goal.returns-in-None-clause-changed
+returns-in-None-clause-changed c done h state note reading w =
+    let script = c.args.common.now.script.now in
+    let s = w.has in
+    let e = c.in-None.ensures in
+    record {
+      has = record {
+        taken = s.taken;
+        number = s.number;
+        mine = subst (λ (o : Option Operation). Held c.args.common.now c.args.self.now.tree
+            c.args.self.now.board (board_placed script state.board o)) e s.mine;
+        readings = λ timed. s.readings timed
+            ∙ ap (λ (o : Option Operation). readings_changed script state.readings note o) e;
+        clock = c.clock_after-self.ensures ∙ ap (λ (k : ℕ). clock_after k c.args.line) s.clock;
+      };
+      own = w.own;
+      below = w.below;
+    }
+
+pub returns-in_ok-operate-in-Some-clause-changed :
+    goal.returns-in_ok-operate-in-Some-clause-changed
+returns-in_ok-operate-in-Some-clause-changed c done h state note reading w =
+    let common = c.args.common.now in
+    let slots = slots_of common.log in
+    let same = c.in_ok-operate-in-Some.ensures.process in
+    let script = c.args.common.now.script.now in
+    let new = c.operate.new.self in
+    let op = c.in-Some.op in
+    let e = c.in-Some.ensures in
+    let r = c.in_ok-operate-in-Some.ensures.operated h state w.has in
+    record {
+      has = record {
+        taken = r.taken;
+        number = r.number;
+        mine = subst (λ (o : Option Operation). Held c.args.common.now new.tree new.board
+            (board_placed script state.board o)) e r.mine;
+        readings = λ timed. r.readings timed
+            ∙ ap (λ (n : ℕ). readings_after state.readings op.code (attr_ref script op.attr) n)
+            (sym reading)
+            ∙ ap (λ (o : Option Operation). readings_changed script state.readings note o) e;
+        clock = r.clock ∙ clock-stands c.args.line op state.clock e;
+      };
+      own = subst (λ (p : Replica). OwnBefore slots (view p.log) (done + 1)) (sym same) w.own;
+      below = λ q some. subst (λ (p : Replica). 0 < times q (view p.log).published → q < p.seen)
+          (sym same) (w.below q) some;
+    }
+
+pub returns-in_ok-operate-in-Some-clause-words :
+    goal.returns-in_ok-operate-in-Some-clause-words
+returns-in_ok-operate-in-Some-clause-words c =
+    subst (λ (o : Option Operation). AddsWords c.args.common.now c.args.self.now.tree
+    c.operate.new.self.tree (words_if c.args.common.now.script.now o)) c.in-Some.ensures
+    c.in_ok-operate-in-Some.ensures.words
+
+pub operate-requires-clause-thread : goal.operate-requires-clause-thread
+operate-requires-clause-thread c = let t = c.requires.thread in (t.1, t.2, t.3.has)
