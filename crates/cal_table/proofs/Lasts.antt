@@ -45,28 +45,30 @@ last_number-next flags es i e h is =
     by false = refl
 
 pub last_number-flagged : (flags : List Bool) (es : List NumberedEntry) (i : ℕ) (e : NumberedEntry) → i < length es → e ≡ get_or es i e → is_flagged flags e ≡ true → last_number flags (take (i + 1) es) ≡ option_or (number_in e.value) (last_number flags (take i es))
-last_number-flagged flags es i e h is yes =
-    last_number-next flags es i e h is ∙ ap (λ b. cond b (option_or (number_in e.value) (last_number flags (take i es))) (last_number flags (take i es))) yes
+last_number-flagged flags es i e h is flagged =
+    last_number-next flags es i e h is ∙ ap (λ b. cond b (option_or (number_in e.value) (last_number flags (take i es))) (last_number flags (take i es))) flagged
 
 pub last_number-unflagged : (flags : List Bool) (es : List NumberedEntry) (i : ℕ) (e : NumberedEntry) → i < length es → e ≡ get_or es i e → is_flagged flags e ≡ false → last_number flags (take (i + 1) es) ≡ last_number flags (take i es)
-last_number-unflagged flags es i e h is no =
-    last_number-next flags es i e h is ∙ ap (λ b. cond b (option_or (number_in e.value) (last_number flags (take i es))) (last_number flags (take i es))) no
+last_number-unflagged flags es i e h is unflagged =
+    last_number-next flags es i e h is ∙ ap (λ b. cond b (option_or (number_in e.value) (last_number flags (take i es))) (last_number flags (take i es))) unflagged
+
+-- one entry more, flagged or not
+next_of64 : (e : NumberedEntry) (rest : List NumberedEntry) (o : Option Num) → ForSome o IsOf64 → (b : Bool) → ForSome (number_in e.value) IsOf64 → ((p : Option Num) → ForSome p IsOf64 → ForSome (last_or p (filter_map (λ (x : NumberedEntry). number_in x.value) rest)) IsOf64) → ForSome (last_or o (filter_map (λ (x : NumberedEntry). number_in x.value) (cond b (e ∷ rest) rest))) IsOf64
+next_of64 e rest o h false own all = all o h
+next_of64 e rest o h true own all = put (number_in e.value) own
+  where
+    put : (v : Option Num) → ForSome v IsOf64 → ForSome (last_or o (cons_option v (filter_map (λ (x : NumberedEntry). number_in x.value) rest))) IsOf64
+    put None k = all o h
+    put (Some n) k = all (Some n) k
 
 -- the last number is one of 64 bits where each is
-last_of64 : (flags : List Bool) (o : Option Num) (es : List NumberedEntry) → ForSome o IsOf64 → AllByRecursion HasNumberOf64 es → ForSome (last_or o (filter_map (λ (x : NumberedEntry). number_in x.value) (filter (is_flagged flags) es))) IsOf64
-last_of64 flags o [] h each = h
-last_of64 flags o (e ∷ es) h each = by (is_flagged flags e) (number_in e.value) refl
-  where
-    some : (n : Num) → number_in e.value ≡ Some n → ForSome (Some n) IsOf64
-    some n at m same = each.0 m (at ∙ same)
-
-    by : (b : Bool) (v : Option Num) → number_in e.value ≡ v → ForSome (last_or o (filter_map (λ (x : NumberedEntry). number_in x.value) (cond b (e ∷ filter (is_flagged flags) es) (filter (is_flagged flags) es)))) IsOf64
-    by false v at = last_of64 flags o es h each.1
-    by true None at = subst (λ v. ForSome (last_or o (cons_option v (filter_map (λ (x : NumberedEntry). number_in x.value) (filter (is_flagged flags) es)))) IsOf64) (sym at) (last_of64 flags o es h each.1)
-    by true (Some n) at = subst (λ v. ForSome (last_or o (cons_option v (filter_map (λ (x : NumberedEntry). number_in x.value) (filter (is_flagged flags) es)))) IsOf64) (sym at) (last_of64 flags (Some n) es (some n at) each.1)
+last_of64 : (flags : List Bool) (es : List NumberedEntry) → AllByRecursion HasNumberOf64 es → (o : Option Num) → ForSome o IsOf64 → ForSome (last_or o (filter_map (λ (x : NumberedEntry). number_in x.value) (filter (is_flagged flags) es))) IsOf64
+last_of64 flags [] each o h = h
+last_of64 flags (e ∷ es) each o h =
+    next_of64 e (filter (is_flagged flags) es) o h (is_flagged flags e) each.0 (last_of64 flags es each.1)
 
 pub last_number-of64 : (flags : List Bool) (es : List NumberedEntry) → All HasNumberOf64 es → ForSome (last_number flags es) IsOf64
-last_number-of64 flags es each = last_of64 flags None es (λ n e. absurd cc) (recursion_from_All HasNumberOf64 es each)
+last_number-of64 flags es each = last_of64 flags es (recursion_from_All HasNumberOf64 es each) None (λ n e. absurd cc)
 
 -- such a number may be added to a cell
 pub may_add : (n : Num) → IsOf64 n → IsSmall n

@@ -1,4 +1,4 @@
-use Rattle.std.proofs.Common.{◌≡◌, ◌<◌, ◌×◌, List, [], ◌∷◌, length, sym, subst, arith}
+use Rattle.std.proofs.Common.{◌≡◌, ◌<◌, List, [], ◌∷◌, length, sym, subst, arith}
 use Rattle.std.proofs.lemmas.Option.{slice_get_within}
 use Rattle.cal_agg.specs.declared.row.AggRow.{AggRow}
 use Rattle.cal_table.specs.declared.key.TableKey.{TableKey}
@@ -10,14 +10,14 @@ pub merge-requires-clause-alike : goal.merge-requires-clause-alike
 merge-requires-clause-alike c =
     let may = c.requires.may in
     let long = may.long in
-    let in_keys = slice_get_within _ _ _ c.in-Some.ensures.there.1 in
+    let in_keys = slice_get_within c.args.keys.now.keys c.in-Some.number c.args.key c.in-Some.ensures.there.1 in
     (fits c.args.keys.now.keys c.args.rows.now.items c.args.row c.in-Some.number c.index_mut.result.now c.index_mut.result.now may (omega arith) c.index_mut.ensures.value).0
 
 pub merge-requires-clause-room : goal.merge-requires-clause-room
 merge-requires-clause-room c =
     let may = c.requires.may in
     let long = may.long in
-    let in_keys = slice_get_within _ _ _ c.in-Some.ensures.there.1 in
+    let in_keys = slice_get_within c.args.keys.now.keys c.in-Some.number c.args.key c.in-Some.ensures.there.1 in
     (fits c.args.keys.now.keys c.args.rows.now.items c.args.row c.in-Some.number c.index_mut.result.now c.index_mut.result.now may (omega arith) c.index_mut.ensures.value).1
 
 pub returns-in-Some-clause-puts : goal.returns-in-Some-clause-puts
