@@ -1,8 +1,7 @@
 -- Rows stay within their bounds while they are merged.
-use Rattle.std.proofs.Common.{◌≡◌, ℕ, ◌+◌, ◌<◌, ◌≤◌, ◌^◌, Bool, Option, Some, List, [], ◌∷◌, ◌++◌, length, length-append, length-set, set, get_or, slice_get, sym, ap, ◌∙◌, refl, subst, arith}
-use Rattle.std.specs.Prelude.{sum_by, unsigned_abs, ◌+ℤ◌, pos}
+use Rattle.std.proofs.Common.{◌≡◌, ℕ, ◌+◌, ◌<◌, ◌≤◌, ◌^◌, Some, List, [], ◌∷◌, ◌++◌, length, length-append, length-set, set, get_or, slice_get, sym, ap, ◌∙◌, refl, subst, arith}
+use Rattle.std.specs.Prelude.{sum_by, unsigned_abs, ◌+ℤ◌}
 use Rattle.std.specs.List.{All}
-use Rattle.std.proofs.lemmas.Int.{ints}
 use Rattle.std.proofs.lemmas.List.Elements.{All-get_or, All-push, All-set}
 use Rattle.std.proofs.lemmas.Option.{slice_get_within}
 use Rattle.std.proofs.lemmas.List.Sums.{get_or-le-sum_by, sum_by_push, sum_by-set}

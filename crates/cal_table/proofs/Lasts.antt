@@ -1,12 +1,10 @@
 -- The last number of a value attribute, with one entry more.
-use Rattle.std.proofs.Common.{◌≡◌, ℕ, suc, ◌+◌, ◌<◌, ◌≤◌, ◌^◌, Bool, true, false, cond, Option, None, Some, List, [], ◌∷◌, ◌++◌, length, take, get_or, filter, sym, refl, ap, ◌∙◌, subst, arith}
-use Rattle.std.specs.Prelude.{unsigned_abs}
+use Rattle.std.proofs.Common.{◌≡◌, ℕ, ◌+◌, ◌<◌, Bool, true, false, cond, Option, None, Some, List, [], ◌∷◌, ◌++◌, length, take, get_or, filter, sym, refl, ap, ◌∙◌, arith}
 use Rattle.std.specs.List.{All, AllByRecursion, cons_option, filter_map, last_or}
 use Rattle.std.specs.Option.{ForSome, option_or}
 use Rattle.std.proofs.lemmas.List.{take_more}
 use Rattle.std.proofs.lemmas.List.Elements.{filter-append, filter_map-append, recursion_from_All}
-use Rattle.cal_agg.specs.Limits.{magnitude}
-use Rattle.cal_agg.specs.Numbers.{IsSmall, IsWithin, number}
+use Rattle.cal_agg.specs.Numbers.{IsSmall}
 use Rattle.cal_agg.specs.RowLimits.{CellIsWithin-one, CellIsWithin-room, IsOf64}
 use Rattle.cal_agg.specs.Rows.{CellHasRoom, cell_over}
 use Rattle.cal_agg.specs.declared.num.Num.{Num}

@@ -1,5 +1,5 @@
 -- The row of one snapshot is within its bound.
-use Rattle.std.proofs.Common.{◌≡◌, ℕ, Bool, Option, None, Some, List, [], ◌∷◌, length, get_or, map, refl}
+use Rattle.std.proofs.Common.{Bool, Option, None, Some, List, [], ◌∷◌, length, get_or, refl}
 use Rattle.std.specs.List.{All, cons_option}
 use Rattle.std.specs.Option.{ForSome}
 use Rattle.std.proofs.lemmas.List.{length-map}

@@ -1,5 +1,5 @@
 -- What tables stand for: the rows of snapshots, and of two lists of them.
-use Rattle.std.proofs.Common.{◌≡◌, ℕ, ◌+◌, Bool, true, false, Option, None, Some, List, [], ◌∷◌, ◌++◌, length, length-append, map, filter, sym, refl, ap, ◌∙◌, subst, arith}
+use Rattle.std.proofs.Common.{◌≡◌, ◌+◌, Bool, true, false, None, Some, List, [], ◌∷◌, ◌++◌, length-append, map, filter, sym, refl, ap, ◌∙◌}
 use Rattle.std.specs.Prelude.{if◌then◌else◌, pos}
 use Rattle.std.proofs.lemmas.List.{map-append}
 use Rattle.std.proofs.lemmas.List.Elements.{filter_map-append}

@@ -1,6 +1,6 @@
 -- What snapshots come to in a table of a shape.
-use Rattle.std.specs.Prelude.{◌≡◌, Bool, false, Option, None, Some, List, [], ◌∷◌, pos}
-use Rattle.std.specs.Prelude.{filter, length, map, option_to_list, slice_index_or}
+use Rattle.std.specs.Prelude.{Bool, false, Option, None, Some, List, [], ◌∷◌, pos}
+use Rattle.std.specs.Prelude.{filter, length, map, slice_index_or}
 use Rattle.std.specs.List.{filter_map, last_or}
 use Rattle.std.specs.Option.{ForSome}
 use Rattle.cal_agg.specs.RowLimits.{IsOf64}

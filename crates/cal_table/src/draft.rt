@@ -110,11 +110,7 @@ fn key_imms(
 }
 
 /// The row of a snapshot. `room` is what its cells may take.
-fn row_of(
-    shape: &TableShape,
-    snap: &NumberedSnap,
-    room: AggRow,
-) -> Result<AggRow, OutOfMemory>
+fn row_of(shape: &TableShape, snap: &NumberedSnap, room: AggRow) -> Result<AggRow, OutOfMemory>
     requires { All HasNumberOf64 snap.now.imms.items }
     ensures { IfOk result (λ row. row ≡ held_over shape.now (snap.now ∷ [])) }
 {

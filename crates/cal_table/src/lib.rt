@@ -10,6 +10,7 @@ mod draft;
 mod key;
 mod keys;
 mod laws;
+mod merging;
 mod putting;
 mod shape;
 mod table;

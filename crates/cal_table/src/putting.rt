@@ -13,12 +13,7 @@ use indexmap::IndexSet;
 use std::alloc::Global;
 
 /// Puts a row to the one of its key, or behind the last one, where there is room for one more.
-pub(crate) fn put(
-    keys: &mut IndexSet<TableKey>,
-    rows: &mut Vec<AggRow>,
-    key: TableKey,
-    row: AggRow,
-)
+pub(crate) fn put(keys: &mut IndexSet<TableKey>, rows: &mut Vec<AggRow>, key: TableKey, row: AggRow)
     requires may { MayPut keys.old.keys rows.old.items row }
     requires key_room { 0 < spare keys.old }
     requires row_room { vec_len rows.old < vec_capacity rows.old }

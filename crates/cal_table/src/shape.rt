@@ -36,11 +36,7 @@ impl TableShape {
 }
 
 /// Of each attribute whether it has one of the names.
-fn flags_of(
-    alloc: Global,
-    names: &[Text],
-    attrs: &Seq<Attribute>,
-) -> Result<Seq<bool>, OutOfMemory>
+fn flags_of(alloc: Global, names: &[Text], attrs: &Seq<Attribute>) -> Result<Seq<bool>, OutOfMemory>
     ensures { IfOk result (λ flags. flags ≡ flags_by names.now attrs.now) }
 {
     let mut flags = Vec::with_capacity(alloc, attrs.len())?;

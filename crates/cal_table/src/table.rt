@@ -43,7 +43,9 @@ impl Model for Table {
     ghost Value = { TableValue };
 
     ghost view = { λ t. record {
-        shape = t.shape; rows = rows_of t.keys.keys t.rows.items; snapshots = t.snapshots
+      shape = t.shape;
+      rows = rows_of t.keys.keys t.rows.items;
+      snapshots = t.snapshots;
     } };
 
     ghost invariant = { λ t.
