@@ -1,8 +1,8 @@
-ghost use Rattle.std.specs.Prelude.{◌≡◌, ◌+◌, ◌<◌, ◌≤◌, [], ◌∷◌, ◌++◌, Some, IfNone, IfSome, slice_get};
+ghost use Rattle.std.specs.Prelude.{◌≡◌, ◌+◌, ◌<◌, ◌≤◌, [], ◌∷◌, ◌++◌, Some, IfNone, IfSome, IsTrue, slice_get};
 ghost use Rattle.indexmap.specs.IndexSet.{spare};
 ghost use Rattle.cal_context.specs.Lists.{AreApart};
 
-use cal_value::Exact;
+use cal_value::{Exact, same};
 use indexmap::IndexSet;
 use std::hash::Hash;
 
@@ -20,11 +20,24 @@ pub(crate) fn insert_key<K: Exact + Hash + Drop>(keys: &mut IndexSet<K>, key: K)
     if fresh { None } else { Some(number) }
 }
 
-/// The number of a key, if it is there.
-pub(crate) fn find_key<K: Exact + Hash>(keys: &IndexSet<K>, key: &K) -> Option<usize>
+/// The number of a key, if it is there. It may be `near`, which saves a look-up then.
+pub(crate) fn find_key<K: Exact + Hash>(keys: &IndexSet<K>, near: usize, key: &K) -> Option<usize>
     ensures { IfSome result (λ number. slice_get keys.now.keys number ≡ Some key.now) }
 {
+    if has_at(keys.as_slice(), near, key) {
+        return Some(near);
+    }
     keys.get_index_of(key)
+}
+
+/// Whether a key stands at a place.
+fn has_at<K: Exact>(keys: &[K], place: usize, key: &K) -> bool
+    ensures { IsTrue result → slice_get keys.now place ≡ Some key.now }
+{
+    match keys.get(place) {
+        Some(other) => same(other, key),
+        None => false,
+    }
 }
 
 /// The keys by their numbers, each once.

@@ -7,6 +7,7 @@
 #![tactic(auto)]
 
 mod draft;
+mod hints;
 mod key;
 mod keys;
 mod laws;

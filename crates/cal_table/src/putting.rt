@@ -59,29 +59,35 @@ pub(crate) fn pour(
     }
 }
 
-/// Adds a row to the one of its key, or a copy of it behind the last one. An `Err` leaves all.
+/// Adds a row to the one of its key, or a copy of it behind the last one, and gives the number of
+/// that row. It may be `near`, which saves a look-up then. An `Err` leaves all.
 pub(crate) fn add(
     alloc: Global,
     keys: &mut IndexSet<TableKey>,
     rows: &mut Vec<AggRow>,
+    near: usize,
     key: &TableKey,
     row: &AggRow,
-) -> Result<(), OutOfMemory>
+) -> Result<usize, OutOfMemory>
     requires { MayPut keys.old.keys rows.old.items row.now }
     ensures puts { OnOk result
         (Puts keys.old.keys rows.old.items key.now row.now keys.new.keys rows.new.items) }
     ensures err_keys { OnErr result (keys.new.keys ≡ keys.old.keys) }
     ensures err_rows { OnErr result (rows.new.items ≡ rows.old.items) }
 {
-    match find_key(keys, key) {
-        Some(number) => rows[number].merge(row),
+    match find_key(keys, near, key) {
+        Some(number) => {
+            rows[number].merge(row);
+            Ok(number)
+        }
         None => {
+            let number = rows.len();
             let key = key.copy(alloc)?;
             let row = row.copy(alloc)?;
             keys.reserve(1)?;
             rows.reserve(1)?;
             put(keys, rows, key, row);
+            Ok(number)
         }
     }
-    Ok(())
 }

@@ -6,6 +6,7 @@ ghost use Rattle.cal_table.specs.Snapshots.{HasNumberOf64, table_of};
 ghost use Rattle.cal_table.specs.Tables.{Same, empty_table, merged_tables};
 
 use crate::draft::Draft;
+use crate::hints::Hints;
 use crate::keys::as_slice;
 use crate::putting::{add, pour};
 use crate::{TableKey, TableShape};
@@ -26,6 +27,7 @@ pub struct Table {
     rows: Vec<AggRow>,
     snapshots: u64,
     draft: Draft,
+    hints: Hints,
 }
 
 /// The rows of a table: the keys, each once, and beside each what is held of its snapshots.
@@ -63,6 +65,7 @@ impl Table {
             rows: Vec::new(alloc),
             snapshots: 0,
             draft: Draft::new(alloc),
+            hints: Hints::new(alloc),
         })
     }
 
@@ -87,7 +90,8 @@ impl Table {
     }
 
     /// Adds a snapshot. An `Err` leaves the table. Where there is a row of the snapshot's key it takes
-    /// no memory but for texts in the key, once such a snapshot was added before.
+    /// one look-up, or none where that row was the last one at the snapshot's first node; and no
+    /// memory but for texts in the key.
     pub fn add_numbered(&mut self, snap: &NumberedSnap) -> Result<(), OutOfMemory>
         requires few { self.old.snapshots < 2 ^ 26 }
         requires numbers { All HasNumberOf64 snap.now.imms.items }
@@ -98,7 +102,9 @@ impl Table {
         let alloc = *self.rows.allocator();
         self.draft.fill(alloc, &self.shape, snap)?;
         let Draft { key, row } = &self.draft;
-        add(alloc, &mut self.keys, &mut self.rows, key, row)?;
+        let near = self.hints.at(key);
+        let number = add(alloc, &mut self.keys, &mut self.rows, near, key, row)?;
+        self.hints.keep(key, number);
         self.snapshots += 1;
         Ok(())
     }

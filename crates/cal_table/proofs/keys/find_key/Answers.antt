@@ -8,6 +8,9 @@ found : {A : Type 0} {eq : A → A → Bool} → IsEquivalence eq → ((x y : A)
 found laws same xs x None e = tt
 found laws same xs x (Some n) e = number_of_position laws same xs n x e
 
+pub returns-then-has_at : goal.returns-then-has_at
+returns-then-has_at g c = rw c.as_slice.ensures.keys at (c.has_at.ensures c.if-has_at.true)
+
 pub returns : goal.returns
 returns g c =
     found g.met.K.Eq.laws g.met.K.Exact.tells c.args.keys.now.keys c.args.key.now c.get_index_of.result c.get_index_of.ensures.index

@@ -25,7 +25,7 @@ invariant_of-self-2 c =
     let held : IsHeld (length s.shape.values) row = subst (IsHeld (length s.shape.values)) (sym c.in_ok-fill.ensures.row) (IsHeld-single s.shape c.args.snap.now c.requires.numbers) in
     let one : size row ≡ 1 = ap size c.in_ok-fill.ensures.row in
     subst (λ (n : ℕ). AreHeld (length s.shape.values) (s.snapshots + n) c.add.new.keys.keys c.add.new.rows.items) one
-    (AreHeld-put (length s.shape.values) s.snapshots s.keys.keys s.rows.items c.fill.new.self.key row c.add.new.keys.keys c.add.new.rows.items c.self.invariant held c.in_ok-add.ensures.puts)
+    (AreHeld-put (length s.shape.values) s.snapshots s.keys.keys s.rows.items c.fill.new.self.key row c.add.new.keys.keys c.add.new.rows.items c.self.invariant held c.in_ok-number.ensures.puts)
 
 pub returns-clause-added : goal.returns-clause-added
 returns-clause-added c =
@@ -36,7 +36,7 @@ returns-clause-added c =
       shape = shape;
       snapshots = ap (λ (v : TableValue). v.snapshots + 1) c.self.view_is;
       tally = λ asked.
-          c.in_ok-add.ensures.puts.tally asked
+          c.in_ok-number.ensures.puts.tally asked
           ∙ (λ i. both_held (tally asked (c.self.view_is i).rows) (held_at asked (record { key = c.in_ok-fill.ensures.key i; held = c.in_ok-fill.ensures.row i })))
           ∙ (λ i. both_held (tally asked old.rows) (held_at asked (row_of (shape i) snap)))
           ∙ ap (both_held (tally asked old.rows)) (sym (both_held-none (held_at asked (row_of old.shape snap))))
