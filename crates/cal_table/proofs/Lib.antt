@@ -1,0 +1,5 @@
+pub mod Tallies
+pub mod Holding
+pub mod Lasts
+pub mod Singles
+pub mod Standing

@@ -1,0 +1,78 @@
+ghost use Rattle.std.specs.Prelude.{◌≡◌, [], ◌∷◌, IfOk};
+ghost use Rattle.cal_table.specs.Shapes.{flags_of as flags_by, is_among as among, shape_of};
+
+use cal_value::{Attribute, OutOfMemory, Seq, Text, TryCopy};
+use std::alloc::Global;
+use std::slice;
+
+/// What a table looks at: of each attribute, by its number, whether it is a key; and for each value
+/// attribute, of each attribute whether it has that name.
+#[derive(Debug, Drop)]
+pub struct TableShape {
+    pub keys: Seq<bool>,
+    pub values: Seq<Seq<bool>>,
+}
+
+impl TableShape {
+    /// The shape of these names of keys and of value attributes, with attributes by their numbers in
+    /// `attrs`. It takes time and memory in the attributes for each name.
+    pub fn of(
+        alloc: Global,
+        keys: &Seq<Text>,
+        values: &Seq<Text>,
+        attrs: &Seq<Attribute>,
+    ) -> Result<TableShape, OutOfMemory>
+        ensures { IfOk result (λ shape. shape ≡ shape_of keys.now values.now attrs.now) }
+    {
+        let mut flags = Vec::with_capacity(alloc, values.len())?;
+        for name in values.as_slice() {
+            flags.push(flags_of(alloc, slice::from_ref(name), attrs)?)?;
+        }
+        Ok(TableShape {
+            keys: flags_of(alloc, keys.as_slice(), attrs)?,
+            values: Seq::from_vec(flags),
+        })
+    }
+}
+
+/// Of each attribute whether it has one of the names.
+fn flags_of(alloc: Global, names: &[Text], attrs: &Seq<Attribute>) -> Result<Seq<bool>, OutOfMemory>
+    ensures { IfOk result (λ flags. flags ≡ flags_by names.now attrs.now) }
+{
+    let mut flags = Vec::with_capacity(alloc, attrs.len())?;
+    for attr in attrs.as_slice() {
+        flags.push(is_among(names, &attr.name))?;
+    }
+    Ok(Seq::from_vec(flags))
+}
+
+/// Whether a name is one of some.
+fn is_among(names: &[Text], name: &Text) -> bool
+    ensures { result ≡ among names.now name.now }
+{
+    for other in names {
+        if name == other {
+            return true;
+        }
+    }
+    false
+}
+
+impl TryCopy for TableShape {
+    fn copy(&self, alloc: Global) -> Result<TableShape, OutOfMemory> {
+        let mut values = Vec::with_capacity(alloc, self.values.len())?;
+        for flags in self.values.as_slice() {
+            values.push(copied(alloc, flags)?)?;
+        }
+        Ok(TableShape {
+            keys: copied(alloc, &self.keys)?,
+            values: Seq::from_vec(values),
+        })
+    }
+}
+
+fn copied(alloc: Global, flags: &Seq<bool>) -> Result<Seq<bool>, OutOfMemory>
+    ensures { IfOk result (λ copied. copied ≡ flags.now) }
+{
+    Ok(Seq::from_vec(Vec::from_slice(alloc, flags.as_slice())?))
+}

@@ -1,0 +1,145 @@
+ghost use Rattle.std.specs.Prelude.{◌≡◌, ◌+◌, ◌<◌, ◌≤◌, ◌^◌, [], ◌∷◌, length};
+ghost use Rattle.std.specs.Prelude.{All, IfOk, IfErr, OnOk, OnErr};
+ghost use Rattle.cal_context.specs.Lists.{AreApart};
+ghost use Rattle.cal_table.specs.Rows.{rows_of};
+ghost use Rattle.cal_table.specs.Snapshots.{HasNumberOf64, table_of};
+ghost use Rattle.cal_table.specs.Tables.{Same, empty_table, merged_tables};
+
+use crate::draft::Draft;
+use crate::hints::Hints;
+use crate::keys::as_slice;
+use crate::putting::{add, pour};
+use crate::{TableKey, TableShape};
+use cal_agg::AggRow;
+use cal_snap::NumberedSnap;
+use cal_value::{OutOfMemory, TryCopy};
+use indexmap::IndexSet;
+use std::alloc::Global;
+use std::marker::Model;
+use std::mem;
+
+/// What a thread keeps of its snapshots in place of them: of those with one key how many there are,
+/// and of each value attribute the sum of their numbers and the ends.
+#[derive(Drop)]
+pub struct Table {
+    shape: TableShape,
+    keys: IndexSet<TableKey>,
+    rows: Vec<AggRow>,
+    snapshots: u64,
+    draft: Draft,
+    hints: Hints,
+}
+
+/// The rows of a table: the keys, each once, and beside each what is held of its snapshots.
+pub struct TableRows<'a> {
+    pub keys: &'a [TableKey],
+    pub held: &'a [AggRow],
+}
+
+impl Model for Table {
+    ghost use Rattle.std.specs.Prelude.{length};
+    ghost use Rattle.cal_table.specs.Tables.{TableValue};
+    ghost use Rattle.cal_table.specs.Rows.{rows_of};
+    ghost use Rattle.cal_table.specs.Held.{AreHeld};
+
+    ghost Value = { TableValue };
+
+    ghost view = { λ t. record {
+      shape = t.shape;
+      rows = rows_of t.keys.keys t.rows.items;
+      snapshots = t.snapshots;
+    } };
+
+    ghost invariant = { λ t.
+        AreHeld (length t.shape.values) t.snapshots t.keys.keys t.rows.items };
+}
+
+impl Table {
+    /// The table of a shape that stands for no snapshot. It takes memory for a copy of the shape.
+    pub fn new(alloc: Global, shape: &TableShape) -> Result<Table, OutOfMemory>
+        ensures { IfOk result (λ table. table ≡ empty_table shape.now) }
+    {
+        Ok(Table {
+            shape: shape.copy(alloc)?,
+            keys: IndexSet::new(alloc),
+            rows: Vec::new(alloc),
+            snapshots: 0,
+            draft: Draft::new(alloc),
+            hints: Hints::new(alloc),
+        })
+    }
+
+    /// How many snapshots it stands for.
+    pub fn snapshots(&self) -> u64
+        ensures { result ≡ self.now.snapshots }
+    {
+        let _ = &self.rows;
+        self.snapshots
+    }
+
+    /// The rows.
+    pub fn rows(&self) -> TableRows<'_>
+        ensures rows { rows_of result.keys.now result.held.now ≡ self.now.rows }
+        ensures long { length result.keys.now ≡ length result.held.now }
+        ensures once { AreApart result.keys.now }
+    {
+        TableRows {
+            keys: as_slice(&self.keys),
+            held: self.rows.as_slice(),
+        }
+    }
+
+    /// Adds a snapshot. An `Err` leaves the table. Where there is a row of the snapshot's key it takes
+    /// one look-up, or none where that row was the last one at the snapshot's first node; and no
+    /// memory but for texts in the key.
+    pub fn add_numbered(&mut self, snap: &NumberedSnap) -> Result<(), OutOfMemory>
+        requires few { self.old.snapshots < 2 ^ 26 }
+        requires numbers { All HasNumberOf64 snap.now.imms.items }
+        ensures added { OnOk result
+            (Same self.new (merged_tables self.old (table_of self.old.shape (snap.now ∷ [])))) }
+        ensures err { OnErr result (self.new ≡ self.old) }
+    {
+        let alloc = *self.rows.allocator();
+        self.draft.fill(alloc, &self.shape, snap)?;
+        let Draft { key, row } = &self.draft;
+        let near = self.hints.at(key);
+        let number = add(alloc, &mut self.keys, &mut self.rows, near, key, row)?;
+        self.hints.keep(key, number);
+        self.snapshots += 1;
+        Ok(())
+    }
+
+    /// Takes another table in: first it makes room for all rows, and then moves them, which can't
+    /// fail. An `Err` is want of memory: it hands the other table back, and leaves both.
+    pub fn merge(&mut self, mut other: Table) -> Result<(), Table>
+        requires made { other.shape ≡ self.old.shape }
+        requires few { self.old.snapshots + other.snapshots ≤ 2 ^ 26 }
+        ensures merged { OnOk result (Same self.new (merged_tables self.old other)) }
+        ensures refused { IfErr result (λ back. (back ≡ other) × (self.new ≡ self.old)) }
+    {
+        let more = other.rows.len();
+        if self.keys.reserve(more).is_err() || self.rows.reserve(more).is_err() {
+            return Err(other);
+        }
+        pour(
+            &mut self.keys,
+            &mut self.rows,
+            &mut other.keys,
+            &mut other.rows,
+        );
+        self.snapshots += other.snapshots;
+        Ok(())
+    }
+
+    /// Takes all rows out, and leaves the table of the shape that stands for no snapshot. An `Err`
+    /// leaves the table. It takes memory for a copy of the shape.
+    pub fn take(&mut self) -> Result<Table, OutOfMemory>
+        ensures taken { IfOk result (λ table. table ≡ self.old) }
+        ensures empty { OnOk result (self.new ≡ empty_table self.old.shape) }
+        ensures err { OnErr result (self.new ≡ self.old) }
+    {
+        let alloc = *self.rows.allocator();
+        let empty = Table::new(alloc, &self.shape)?;
+        Ok(mem::replace(self, empty))
+    }
+}
