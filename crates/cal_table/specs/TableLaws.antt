@@ -18,16 +18,20 @@ both_held-comm None (Some b) = refl
 both_held-comm (Some a) None = refl
 both_held-comm (Some a) (Some b) = ap Some (merged_row-comm a b)
 
-pub both_held-assoc : (a b c : Option AggRow) → both_held (both_held a b) c ≡ both_held a (both_held b c)
+pub both_held-assoc : (a b c : Option AggRow)
+    → both_held (both_held a b) c ≡ both_held a (both_held b c)
 both_held-assoc None b c = refl
 both_held-assoc (Some a) None c = refl
 both_held-assoc (Some a) (Some b) None = refl
 both_held-assoc (Some a) (Some b) (Some c) = ap Some (merged_row-assoc a b c)
 
 -- two lists of rows, one behind the other
-pub tally-append : (asked : TableKey → Bool) (xs ys : List Row) → tally asked (xs ++ ys) ≡ both_held (tally asked xs) (tally asked ys)
+pub tally-append : (asked : TableKey → Bool) (xs ys : List Row)
+    → tally asked (xs ++ ys) ≡ both_held (tally asked xs) (tally asked ys)
 tally-append asked [] ys = refl
-tally-append asked (x ∷ xs) ys = ap (both_held (held_at asked x)) (tally-append asked xs ys) ∙ sym (both_held-assoc (held_at asked x) (tally asked xs) (tally asked ys))
+tally-append asked (x ∷ xs) ys =
+    ap (both_held (held_at asked x)) (tally-append asked xs ys)
+    ∙ sym (both_held-assoc (held_at asked x) (tally asked xs) (tally asked ys))
 
 pub Same-refl : (a : TableValue) → Same a a
 Same-refl a = record { shape = refl; snapshots = refl; tally = λ asked. refl }
@@ -53,7 +57,8 @@ Same-merged_tables a b c d h k = record {
   shape = h.shape;
   snapshots = λ i. h.snapshots i + k.snapshots i;
   tally = λ asked. tally-append asked a.rows c.rows
-      ∙ (λ i. both_held (h.tally asked i) (k.tally asked i)) ∙ sym (tally-append asked b.rows d.rows);
+      ∙ (λ i. both_held (h.tally asked i) (k.tally asked i))
+      ∙ sym (tally-append asked b.rows d.rows);
 }
 
 -- nothing merged is as it was

@@ -3,7 +3,8 @@ use cal_value::{Exact, OutOfMemory, Seq, TryCopy};
 use cal_words::NodeId;
 use std::alloc::Global;
 
-/// By what snapshots are grouped: their nodes, and those of their entries whose attributes are keys.
+/// By what snapshots are grouped: their nodes, and those of their entries whose attributes are
+/// keys.
 #[derive(Debug, Drop, PartialEq, Eq, Hash)]
 pub struct TableKey {
     pub refs: Seq<NodeId>,

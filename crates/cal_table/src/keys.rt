@@ -1,13 +1,17 @@
-ghost use Rattle.std.specs.Prelude.{◌≡◌, ◌+◌, ◌<◌, ◌≤◌, [], ◌∷◌, ◌++◌, Some, IfNone, IfSome, IsTrue, slice_get};
+ghost use Rattle.std.specs.Prelude.{◌≡◌, ◌+◌, ◌<◌, ◌≤◌, [], ◌∷◌, ◌++◌, slice_get};
+ghost use Rattle.std.specs.Prelude.{Some, IfNone, IfSome, IsTrue};
 ghost use Rattle.indexmap.specs.IndexSet.{spare};
 ghost use Rattle.cal_context.specs.Lists.{AreApart};
 
 use cal_value::{Exact, same};
 use indexmap::IndexSet;
-use std::hash::Hash;
+use std::hash::{Hash, RandomState};
 
 /// The number of a key, if it is there. A new one goes last, where there is room for one more.
-pub(crate) fn insert_key<K: Exact + Hash + Drop>(keys: &mut IndexSet<K>, key: K) -> Option<usize>
+pub(crate) fn insert_key<K: Exact + Hash + Drop>(
+    keys: &mut IndexSet<K, RandomState>,
+    key: K,
+) -> Option<usize>
     requires { 0 < spare keys.old }
     ensures there { IfSome result (λ number. (keys.new.keys ≡ keys.old.keys)
         × (slice_get keys.old.keys number ≡ Some key)) }
@@ -21,7 +25,11 @@ pub(crate) fn insert_key<K: Exact + Hash + Drop>(keys: &mut IndexSet<K>, key: K)
 }
 
 /// The number of a key, if it is there. It may be `near`, which saves a look-up then.
-pub(crate) fn find_key<K: Exact + Hash>(keys: &IndexSet<K>, near: usize, key: &K) -> Option<usize>
+pub(crate) fn find_key<K: Exact + Hash>(
+    keys: &IndexSet<K, RandomState>,
+    near: usize,
+    key: &K,
+) -> Option<usize>
     ensures { IfSome result (λ number. slice_get keys.now.keys number ≡ Some key.now) }
 {
     if has_at(keys.as_slice(), near, key) {
@@ -41,7 +49,7 @@ fn has_at<K: Exact>(keys: &[K], place: usize, key: &K) -> bool
 }
 
 /// The keys by their numbers, each once.
-pub(crate) fn as_slice<K: Exact + Hash>(keys: &IndexSet<K>) -> &[K]
+pub(crate) fn as_slice<K: Exact + Hash>(keys: &IndexSet<K, RandomState>) -> &[K]
     ensures keys { result.now ≡ keys.now.keys }
     ensures apart { AreApart keys.now.keys }
 {

@@ -1,9 +1,9 @@
 //! Tables of threads: what a thread keeps of its snapshots in place of them.
 //!
 //! The layers above use that a table stands for the snapshots that were added to it: for whichever
-//! keys are asked for, its rows hold how many snapshots have one of them, and of each value attribute
-//! the sum and the ends of their last numbers. One table takes another one in, or leaves both. What
-//! a node or a number of an attribute means isn't said here.
+//! keys are asked for, its rows hold how many snapshots have one of them, and of each value
+//! attribute the sum and the ends of their last numbers. One table takes another one in, or leaves
+//! both. What a node or a number of an attribute means isn't said here.
 #![tactic(auto)]
 
 mod draft;

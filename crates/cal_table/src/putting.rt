@@ -11,9 +11,15 @@ use cal_agg::AggRow;
 use cal_value::{OutOfMemory, TryCopy};
 use indexmap::IndexSet;
 use std::alloc::Global;
+use std::hash::RandomState;
 
 /// Puts a row to the one of its key, or behind the last one, where there is room for one more.
-pub(crate) fn put(keys: &mut IndexSet<TableKey>, rows: &mut Vec<AggRow>, key: TableKey, row: AggRow)
+pub(crate) fn put(
+    keys: &mut IndexSet<TableKey, RandomState>,
+    rows: &mut Vec<AggRow>,
+    key: TableKey,
+    row: AggRow,
+)
     requires may { MayPut keys.old.keys rows.old.items row }
     requires key_room { 0 < spare keys.old }
     requires row_room { vec_len rows.old < vec_capacity rows.old }
@@ -34,9 +40,9 @@ pub(crate) fn put(keys: &mut IndexSet<TableKey>, rows: &mut Vec<AggRow>, key: Ta
 
 /// Puts all rows of another list to those of their keys, where there is room for all.
 pub(crate) fn pour(
-    keys: &mut IndexSet<TableKey>,
+    keys: &mut IndexSet<TableKey, RandomState>,
     rows: &mut Vec<AggRow>,
-    more_keys: &mut IndexSet<TableKey>,
+    more_keys: &mut IndexSet<TableKey, RandomState>,
     more_rows: &mut Vec<AggRow>,
 )
     requires may { MayPour keys.old.keys rows.old.items more_keys.old.keys more_rows.old.items }
@@ -63,7 +69,7 @@ pub(crate) fn pour(
 /// that row. It may be `near`, which saves a look-up then. An `Err` leaves all.
 pub(crate) fn add(
     alloc: Global,
-    keys: &mut IndexSet<TableKey>,
+    keys: &mut IndexSet<TableKey, RandomState>,
     rows: &mut Vec<AggRow>,
     near: usize,
     key: &TableKey,

@@ -3,6 +3,7 @@ ghost use Rattle.cal_table.specs.Shapes.{flags_of as flags_by, is_among as among
 
 use cal_value::{Attribute, OutOfMemory, Seq, Text, TryCopy};
 use std::alloc::Global;
+use std::hash::RandomState;
 use std::slice;
 
 /// What a table looks at: of each attribute, by its number, whether it is a key; and for each value
@@ -11,18 +12,21 @@ use std::slice;
 pub struct TableShape {
     pub keys: Seq<bool>,
     pub values: Seq<Seq<bool>>,
+    /// By which its tables find their rows.
+    pub hashers: RandomState,
 }
 
 impl TableShape {
-    /// The shape of these names of keys and of value attributes, with attributes by their numbers in
-    /// `attrs`. It takes time and memory in the attributes for each name.
+    /// The shape of these names of keys and of value attributes, with attributes by their numbers
+    /// in `attrs`. It takes time and memory in the attributes for each name.
     pub fn of(
         alloc: Global,
+        hashers: RandomState,
         keys: &Seq<Text>,
         values: &Seq<Text>,
         attrs: &Seq<Attribute>,
     ) -> Result<TableShape, OutOfMemory>
-        ensures { IfOk result (λ shape. shape ≡ shape_of keys.now values.now attrs.now) }
+        ensures { IfOk result (λ shape. shape ≡ shape_of hashers keys.now values.now attrs.now) }
     {
         let mut flags = Vec::with_capacity(alloc, values.len())?;
         for name in values.as_slice() {
@@ -31,6 +35,7 @@ impl TableShape {
         Ok(TableShape {
             keys: flags_of(alloc, keys.as_slice(), attrs)?,
             values: Seq::from_vec(flags),
+            hashers,
         })
     }
 }
@@ -67,6 +72,7 @@ impl TryCopy for TableShape {
         Ok(TableShape {
             keys: copied(alloc, &self.keys)?,
             values: Seq::from_vec(values),
+            hashers: self.hashers,
         })
     }
 }

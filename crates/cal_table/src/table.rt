@@ -15,6 +15,7 @@ use cal_snap::NumberedSnap;
 use cal_value::{OutOfMemory, TryCopy};
 use indexmap::IndexSet;
 use std::alloc::Global;
+use std::hash::RandomState;
 use std::marker::Model;
 use std::mem;
 
@@ -23,7 +24,7 @@ use std::mem;
 #[derive(Drop)]
 pub struct Table {
     shape: TableShape,
-    keys: IndexSet<TableKey>,
+    keys: IndexSet<TableKey, RandomState>,
     rows: Vec<AggRow>,
     snapshots: u64,
     draft: Draft,
@@ -31,6 +32,7 @@ pub struct Table {
 }
 
 /// The rows of a table: the keys, each once, and beside each what is held of its snapshots.
+#[derive(Clone, Copy)]
 pub struct TableRows<'a> {
     pub keys: &'a [TableKey],
     pub held: &'a [AggRow],
@@ -61,7 +63,7 @@ impl Table {
     {
         Ok(Table {
             shape: shape.copy(alloc)?,
-            keys: IndexSet::new(alloc),
+            keys: IndexSet::with_hasher(alloc, shape.hashers),
             rows: Vec::new(alloc),
             snapshots: 0,
             draft: Draft::new(alloc),
@@ -89,9 +91,9 @@ impl Table {
         }
     }
 
-    /// Adds a snapshot. An `Err` leaves the table. Where there is a row of the snapshot's key it takes
-    /// one look-up, or none where that row was the last one at the snapshot's first node; and no
-    /// memory but for texts in the key.
+    /// Adds a snapshot. An `Err` leaves the table. Where there is a row of the snapshot's key it
+    /// takes one look-up, or none where that row was the last one at the snapshot's first node; and
+    /// no memory but for texts in the key.
     pub fn add_numbered(&mut self, snap: &NumberedSnap) -> Result<(), OutOfMemory>
         requires few { self.old.snapshots < 2 ^ 26 }
         requires numbers { All HasNumberOf64 snap.now.imms.items }
