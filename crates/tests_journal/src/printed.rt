@@ -17,8 +17,11 @@ fn is_printed(alloc: Global, journal: &Journal) -> Result<bool, OutOfMemory> {
 
 fn is_printed_as_read(alloc: Global) -> Result<bool, OutOfMemory> {
     match read_both(alloc, PRINTED.as_bytes()) {
-        Ok((_, Some(text))) => is_printed(alloc, &text.journal),
-        _ => Ok(false),
+        Ok((_, text)) => match &text {
+            Some(text) => is_printed(alloc, &text.journal),
+            None => Ok(false),
+        },
+        Err(_) => Ok(false),
     }
 }
 

@@ -67,8 +67,11 @@ fn is_both(script: &Script, text: &JournalText) -> bool {
 
 fn says_both(alloc: Global) -> bool {
     match read_both(alloc, BOTH.as_bytes()) {
-        Ok((script, Some(text))) => is_both(&script, &text),
-        _ => false,
+        Ok((script, text)) => match &text {
+            Some(text) => is_both(&script, text),
+            None => false,
+        },
+        Err(_) => false,
     }
 }
 
