@@ -6,6 +6,7 @@
 //! both. What a node or a number of an attribute means isn't said here.
 #![tactic(auto)]
 
+mod book;
 mod draft;
 mod hints;
 mod key;
@@ -16,6 +17,7 @@ mod putting;
 mod shape;
 mod table;
 
+pub use book::{Book, BookSeat};
 pub use key::TableKey;
 pub use laws::{merges_stand_for_both, tables_hold_snapshots};
 pub use shape::TableShape;
