@@ -1,4 +1,4 @@
-ghost use Rattle.std.specs.Prelude.{IfOk};
+ghost use Rattle.std.specs.Prelude.{◌≡◌, IfOk, OnErr};
 ghost use Rattle.cal_board.specs.Standing.{StandsForSome, StandsThen};
 ghost use Rattle.cal_hand.specs.Changes.{HasShortText, Operates, changed_board, words_at_most};
 ghost use Rattle.cal_hand.specs.Nodes.{NodeAt, PublishedAtMost};
@@ -21,7 +21,8 @@ pub enum Change<'v> {
     Set(&'v Variant),
 }
 
-/// Does to a board what a line does, which is nothing where the board refuses it.
+/// Does to a board what a line does, which is nothing where the board refuses it. An `Err` leaves
+/// the board; the seat may know more.
 #[inline(always)]
 pub fn operate(
     alloc: Global,
@@ -41,6 +42,7 @@ pub fn operate(
         attr change.entry) }
     ensures stands { IfOk result (λ _. StandsThen (NodeAt tree.now seat.old)
         (NodeAt tree.now seat.new) board.old board.new (λ b. changed_board b attr change.entry)) }
+    ensures err { OnErr result (board.new ≡ board.old) }
     ensures holds { StandsForSome (NodeAt tree.now seat.new) board.new }
 {
     match change {

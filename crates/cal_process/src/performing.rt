@@ -1,4 +1,4 @@
-ghost use Rattle.std.specs.Prelude.{◌≡◌, ◌+◌, ◌<◌, ◌≤◌, OnOk, length};
+ghost use Rattle.std.specs.Prelude.{◌≡◌, ◌+◌, ◌<◌, ◌≤◌, OnErr, OnOk, length};
 ghost use Rattle.cal_board.specs.Blackboard.{Blackboard};
 ghost use Rattle.cal_hand.specs.Changes.{HasShortText, changed_board, words_at_most};
 ghost use Rattle.cal_once.specs.Seats.{view};
@@ -21,7 +21,7 @@ use cal_words::{NodeId, OpCode};
 use std::alloc::Global;
 
 /// Does to a board what an operation does, which is nothing where the board refuses it. A full tree
-/// is answered as want of memory.
+/// is answered as want of memory. An `Err` leaves the board; the seat may know more.
 #[inline(always)]
 pub fn perform(
     alloc: Global,
@@ -39,6 +39,7 @@ pub fn perform(
         ≤ (view seat.old).used + words_made common.now.script.now op }
     ensures changed { OnOk result (HeldThen common.now seat.old seat.new board.old board.new
         (λ b. board_with common.now.script.now b op)) }
+    ensures err { OnErr result (board.new ≡ board.old) }
 {
     let attr = attr_ref(common.script, op.attr);
     let change = change_of(common.script, op);

@@ -1,4 +1,4 @@
-ghost use Rattle.std.specs.Prelude.{◌≡◌, ◌+◌, [], List, IfOk, OnOk, if◌then◌else◌};
+ghost use Rattle.std.specs.Prelude.{◌≡◌, ◌+◌, [], List, IfOk, OnErr, OnOk, if◌then◌else◌};
 ghost use Rattle.cal_board.specs.Blackboard.{nothing_open};
 ghost use Rattle.cal_once.specs.Seats.{view};
 ghost use Rattle.cal_once.specs.Views.{IsLater};
@@ -45,7 +45,8 @@ impl Replica {
         }
     }
 
-    /// Takes in the next operation of the history, if there is one.
+    /// Takes in the next operation of the history, if there is one. An `Err` leaves the board and
+    /// what has been seen.
     pub fn take_next(
         &mut self,
         alloc: Global,
@@ -60,6 +61,8 @@ impl Replica {
         ensures count { IfOk result (λ more. self.new.seen
             ≡ (if more then self.old.seen + 1 else self.old.seen)) }
         ensures later { OnOk result (IsLater (view seat.old) (view seat.new)) }
+        ensures left { OnErr result ((self.new.board ≡ self.old.board)
+            × (self.new.seen ≡ self.old.seen)) }
     {
         match common.log.next(&mut self.log, self.seen) {
             None => Ok(false),

@@ -7,6 +7,7 @@
 #![tactic(auto)]
 
 mod numbered;
+mod parts;
 mod snap;
 
 pub use numbered::{NumberedEntry, NumberedSnap, take_numbered};

@@ -3,6 +3,7 @@ ghost use Rattle.cal_value.specs.declared.attribute.Attribute.{Attribute as AnAt
 ghost use Rattle.cal_snap.specs.Numbered.{IsKnown, entry_of, meaning, taken};
 
 use crate::Snap;
+use crate::parts::{joined, nodes};
 use cal_value::{Attribute, Entry, Exact, OutOfMemory, Seq, TryCopy, Variant};
 use cal_words::NodeId;
 use std::alloc::Global;
@@ -89,27 +90,11 @@ pub fn take_numbered(
         ≡ taken (map (entry_of attrs) head.items) mine.now process.now
         (map (entry_of attrs) tops.items)) }
 {
-    let mut refs = Vec::with_capacity(alloc, mine.len())?;
-    refs.extend_from_slice(mine.as_slice())?;
-    refs.extend_from_slice(process.as_slice())?;
+    let refs = nodes(alloc, mine, process)?;
     Ok(NumberedSnap {
         refs,
         imms: joined(head, tops)?,
     })
-}
-
-// The entries of both lists.
-fn joined(
-    head: Vec<NumberedEntry>,
-    tops: Vec<NumberedEntry>,
-) -> Result<Vec<NumberedEntry>, OutOfMemory>
-    ensures { IfOk result (λ all. all.items ≡ head.items ++ tops.items) }
-{
-    let mut all = head;
-    for entry in tops {
-        all.push(entry)?;
-    }
-    Ok(all)
 }
 
 // The entries that numbered ones mean.

@@ -1,5 +1,7 @@
-ghost use Rattle.std.specs.Prelude.{◌≡◌, ◌++◌, IfOk};
+ghost use Rattle.std.specs.Prelude.{◌≡◌, IfOk};
+ghost use Rattle.cal_snap.specs.Numbered.{taken};
 
+use crate::parts::{joined, nodes};
 use cal_value::{Attribute, Entry, OutOfMemory, Seq};
 use cal_words::NodeId;
 use std::alloc::Global;
@@ -24,25 +26,11 @@ pub fn take_snap(
     process: &Seq<NodeId>,
     tops: Seq<Entry>,
 ) -> Result<Snap, OutOfMemory>
-    ensures { IfOk result (λ snap.
-        (snap.refs ≡ mine.now ++ process.now) × (snap.imms ≡ head ++ tops)) }
+    ensures { IfOk result (λ snap. snap ≡ taken head mine.now process.now tops) }
 {
-    let mut refs = Vec::with_capacity(alloc, mine.len())?;
-    refs.extend_from_slice(mine.as_slice())?;
-    refs.extend_from_slice(process.as_slice())?;
+    let refs = nodes(alloc, mine, process)?;
     Ok(Snap {
         refs: Seq::from_vec(refs),
-        imms: joined(head, tops)?,
+        imms: Seq::from_vec(joined(head.into_vec(), tops.into_vec())?),
     })
-}
-
-// The entries of both lists.
-fn joined(head: Seq<Entry>, tops: Seq<Entry>) -> Result<Seq<Entry>, OutOfMemory>
-    ensures { IfOk result (λ all. all ≡ head ++ tops) }
-{
-    let mut all = head.into_vec();
-    for entry in tops.into_vec() {
-        all.push(entry)?;
-    }
-    Ok(Seq::from_vec(all))
 }

@@ -1,7 +1,0 @@
-use Rattle.std.proofs.Common.{◌≡◌, ◌++◌}
-use Rattle.std.specs.Vec.Iter.{into_iter_items}
-use Rattle.cal_snap.proofs.snap.joined.Given as goal
-
--- the entries so far and those that are left are those of both lists
-abbrev pub invariant-loop-entry : goal.invariant-loop-entry
-invariant-loop-entry l = l.all.items ++ into_iter_items l.entry-iterator ≡ l.fn.head ++ l.fn.tops
