@@ -1,7 +1,7 @@
 -- The last nodes of a board have the paths of the board that it stands for.
 use Rattle.std.proofs.Common.{◌≡◌, suc, ◌-◌, ◌<◌, List, [], ◌∷◌, ◌++◌, length, get_or, map}
 use Rattle.std.proofs.Common.{ap, subst, sym, refl, ◌∙◌, arith}
-use Rattle.std.specs.Prelude.{Option, Some, flat_map}
+use Rattle.std.specs.Prelude.{Option, None, Some, flat_map}
 use Rattle.std.specs.List.{All, AllZip}
 use Rattle.std.specs.Option.{option_map, option_to_list}
 use Rattle.std.proofs.lemmas.List.{map-append}
@@ -20,7 +20,10 @@ use Rattle.cal_context.specs.Lists.{IsFront}
 use Rattle.cal_context.specs.Snapshots.{IsBelowRoot}
 use Rattle.cal_context.specs.Tree.{Tree, no_attribute, path_at}
 use Rattle.cal_context.specs.declared.numbers.NodeNumber.{NodeNumber}
+use Rattle.cal_run.specs.Adding.{MayAskFor}
 use Rattle.cal_run.specs.Held.{Holds}
+use Rattle.cal_run.specs.declared.moment.Moment.{Moment}
+use Rattle.cal_run.specs.declared.operation.Operation.{Operation}
 use Rattle.cal_script.specs.declared.script.Script.{Script}
 use Rattle.cal_value.specs.declared.attribute.Attribute.{Attribute}
 use Rattle.cal_value.specs.declared.variant.Variant.{Variant}
@@ -109,3 +112,9 @@ module _ (t : Tree) (script : Script) (front : IsFront script.attributes t.attri
         ∙ map-append (path_at t) (last_nodes mine) (last_nodes process)
         ∙ (λ j. nodes-paths t script front mine b is ordered j ++ nodes-paths t script front process
         p other also j)
+
+-- any node of a context may be asked for
+pub any-asked : (script : Script) (m : Moment NodeNumber) (op : Option Operation)
+    → MayAskFor (λ (n : NodeNumber). Unit {0}) script m op
+any-asked script m None = tt
+any-asked script m (Some op) = λ end by n last. tt

@@ -1,14 +1,15 @@
 -- The threads are walked line by line and thread by thread, and counts of channels are sums over
 -- lines.
 use Rattle.std.proofs.Common.{◌≡◌, ℕ, ◌+◌, ◌<◌, ◌≤◌, Bool, true, false, ◌&&◌, cond, List, [], ◌∷◌}
-use Rattle.std.proofs.Common.{◌++◌, if◌then◌else◌, length, get_or, map, take, drop, refl, sym, ap}
-use Rattle.std.proofs.Common.{subst, ◌∙◌, ◌||◌, append_assoc, append-nil, arith}
+use Rattle.std.proofs.Common.{◌++◌, ◌*◌, if◌then◌else◌, length, get_or, map, take, drop, refl, sym, ap}
+use Rattle.std.proofs.Common.{subst, ◌∙◌, ◌||◌, append_assoc, append-nil, absurd, arith, suc}
+use Rattle.std.proofs.Common.{zero}
 use Rattle.std.specs.Prelude.{Result, Ok, Err, OnOk}
 use Rattle.std.specs.Prelude.{Option, Some, None, count_by, flat_map, sum_by, unwrap_or, zip}
 use Rattle.std.specs.List.{fold}
 use Rattle.std.proofs.lemmas.List.{map-append, take_more}
 use Rattle.std.proofs.lemmas.List.Folds.{list_any-append}
-use Rattle.std.proofs.lemmas.List.Sums.{sum_by-cons}
+use Rattle.std.proofs.lemmas.List.Sums.{count_by-le-length, sum_by-cons}
 use Rattle.std.specs.Ordering.{eq_by_cmp}
 use Rattle.std.specs.Set.{is_member}
 use Rattle.cal_board.specs.Blackboard.{Blackboard, nothing_open}
@@ -227,6 +228,45 @@ module _ (script : Script) (such : Channel → Bool) where
       let none = ap (λ (ts : List (List Line)). taken_by script such
       (zip ts (threads_from script before ts))) (drop-past ts i past) in
       omega (arith, none, so_far)
+
+-- ---- how many they are at most
+
+module _ (script : Script) (channels : length script.channels ≤ 16) (such : Channel → Bool) where
+  pub takers-few : (l : Line × LineNote) → takers script such l ≤ 16
+  takers-few l =
+      let few = count_by-le-length
+      (λ (channel : Channel). such channel && is_noted_taken script channel l) script.channels in
+      omega (arith, few, channels)
+
+  taken_on-few : (ls : List Line) (ns : List LineNote)
+      → sum_by (takers script such) (zip ls ns) ≤ 16 * length ls
+  taken_on-few [] ns = omega arith
+  taken_on-few (l ∷ ls) [] = omega arith
+  taken_on-few (l ∷ ls) (n ∷ ns) =
+      let more = sum_by-cons (takers script such) (l, n) (zip ls ns) in
+      omega (arith, more, takers-few (l, n), taken_on-few ls ns)
+
+  pub taken_by-few : (ts : List (List Line)) (ns : List ThreadNote)
+      → taken_by script such (zip ts ns) ≤ 16 * sum_by length ts
+  taken_by-few [] ns = omega arith
+  taken_by-few (t ∷ ts) [] = omega arith
+  taken_by-few (t ∷ ts) (n ∷ ns) =
+      let more = sum_by-cons (taken_on script such) (t, n) (zip ts ns) in
+      let long = sum_by-cons {X = List Line} length t ts in
+      omega (arith, more, long, taken_on-few t n.lines, taken_by-few ts ns)
+
+-- no thread is longer than all together
+pub thread-few : (ts : List (List Line)) (i : ℕ) (t : List Line) → i < length ts
+    → t ≡ get_or ts i t → length t ≤ sum_by length ts
+thread-few [] i t below is = absurd (omega (arith, below))
+thread-few (s ∷ ts) zero t below is =
+    let long = sum_by-cons {X = List Line} length s ts in
+    let same = ap (λ (t : List Line). length t) is in
+    omega (arith, long, same)
+thread-few (s ∷ ts) (suc i) t below is =
+    let long = sum_by-cons {X = List Line} length s ts in
+    let rest = thread-few ts i t (omega (arith, below)) is in
+    omega (arith, long, rest)
 
 -- ---- sums over channels, in place of sums over lines
 

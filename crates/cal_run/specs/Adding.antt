@@ -1,14 +1,16 @@
 -- What is added to the immediates of a snapshot by numbers.
 use Rattle.std.specs.Prelude.{◌≡◌, ℕ, ◌<◌, List, ◌++◌, length, map, All, Option, Some, None}
-use Rattle.std.specs.Prelude.{slice_get}
+use Rattle.std.specs.Prelude.{slice_get, true, false, if◌then◌else◌}
 use Rattle.cal_context.specs.Tree.{no_value}
 use Rattle.cal_context.specs.declared.snapshot.Immediate.{Immediate}
-use Rattle.cal_board.specs.Blackboard.{Blackboard}
+use Rattle.cal_board.specs.Blackboard.{Blackboard, slot_number}
 use Rattle.cal_board.specs.PathBoards.{last_opened}
+use Rattle.cal_board.specs.Slots.{last_value, opened_in}
 use Rattle.cal_board.specs.declared.opened.Opened.{Opened}
 use Rattle.cal_run.specs.Held.{Accepts, HasPlaces, Shows}
 use Rattle.cal_run.specs.Numbers.{AreNamed, attribute_in}
-use Rattle.cal_run.specs.Snapshots.{Sight}
+use Rattle.cal_run.specs.Lines.{attr_ref, is_shared}
+use Rattle.cal_run.specs.Snapshots.{Sight, is_end}
 use Rattle.cal_run.specs.declared.moment.Moment.{Moment}
 use Rattle.cal_run.specs.declared.numbers.Numbers.{Numbers}
 use Rattle.cal_run.specs.declared.operation.Operation.{Operation}
@@ -63,6 +65,30 @@ module _ {N : Type 0} (is_node : N → List (Opened Variant) → Type 0) (script
   AddsShown numbers moment old new entries =
       (attributes : List Attribute) → AreNamed attributes script numbers
       → (s : Sight) → Shows is_node script moment s → AddsEntries attributes old new (entries s)
+
+-- ---- what an operation asks for
+
+-- the last node in the slot of an operation's attribute, if that is a reference attribute, may be
+-- asked for
+abbrev pub AsksForLast : {N : Type 0} → (N → Type 0) → Script → Blackboard N → Operation → Type 0
+AsksForLast {N} is_asked script b op = (attr_ref script op.attr).as_value ≡ false
+    → (n : N) → last_value (opened_in (slot_number (attr_ref script op.attr)) b.references) ≡ Some n
+    → is_asked n
+
+-- The node whose value an operation closes on a board, if it closes one, may be asked for.
+abbrev pub AsksFor : {N : Type 0} → (N → Type 0) → Script → Blackboard N → Operation → Type 0
+AsksFor is_asked script b op = is_end op.code ≡ true → AsksForLast is_asked script b op
+
+-- the board of a moment on which an operation acts
+abbrev pub board_in : {N : Type 0} → Script → Moment N → Operation → Blackboard N
+board_in script moment op =
+    if is_shared script op then moment.process.now else moment.board.now
+
+-- of the operation, if there is one
+abbrev pub MayAskFor : {N : Type 0} → (N → Type 0) → Script → Moment N → Option Operation → Type 0
+MayAskFor is_asked script moment None = Unit {0}
+MayAskFor is_asked script moment (Some op) =
+    AsksFor is_asked script (board_in script moment op) op
 
 -- ---- operations
 

@@ -1,7 +1,7 @@
 ghost use Rattle.cal_board.specs.Blackboard.{Blackboard};
 ghost use Rattle.cal_board.specs.Contexts.{NodeStands};
 ghost use Rattle.cal_board.specs.Standing.{Stands, StandsForSome};
-ghost use Rattle.cal_run.specs.Adding.{IsEventValue, IsLastShown};
+ghost use Rattle.cal_run.specs.Adding.{AsksFor, AsksForLast, IsEventValue, IsLastShown};
 ghost use Rattle.cal_run.specs.Held.{HasPlaces};
 ghost use Rattle.cal_run.specs.Snapshots.{closed_on, value_on};
 ghost use Rattle.cal_value.specs.declared.variant.Variant as variants;
@@ -26,19 +26,25 @@ pub trait NodeValues<N> {
     // whether places are those of these values, which are a script's
     ghost has_values: { Self → List Variant → Type 0 };
 
+    // whether a node may be asked for its last value
+    ghost is_asked: { Self → N → Type 0 };
+
     /// The last of the open values for which a node stands.
     fn last_value<'a>(&'a self, node: &'a N) -> EventValue<'a>
-        requires { (path : List (Opened Variant)) × is_node self.now node.now path }
+        requires stands { (path : List (Opened Variant)) × is_node self.now node.now path }
+        requires asked { is_asked self.now node.now }
         ensures { (values : List Variant) → has_values self.now values
             → (path : List (Opened Variant)) → is_node self.now node.now path
             → IsLastShown values path result };
 }
 
-/// A context lends the value of a node's own entry.
+/// A context lends the value of a node's own entry, whichever node is asked for.
 impl NodeValues<NodeNumber> for Context {
     ghost is_node = { NodeStands };
 
     ghost has_values = { λ _ _. Unit {0} };
+
+    ghost is_asked = { λ _ _. Unit {0} };
 
     #[inline(always)]
     fn last_value<'a>(&'a self, node: &'a NodeNumber) -> EventValue<'a> {
@@ -60,6 +66,7 @@ pub(crate) fn event_value<'a, N, V: NodeValues<N>>(
     requires places { HasPlaces script.now op }
     requires stands { StandsForSome (V.is_node nodes.now) board.now }
     requires values { V.has_values nodes.now script.now.values }
+    requires asked { AsksFor (V.is_asked nodes.now) script.now board.now op }
     ensures { (b : Blackboard variants.Variant) → Stands (V.is_node nodes.now) board.now b
         → IsEventValue script.now.values result (value_on script.now b op.code op) }
 {
@@ -80,6 +87,7 @@ fn closed_value<'a, N, V: NodeValues<N>>(
 ) -> EventValue<'a>
     requires stands { StandsForSome (V.is_node nodes.now) board.now }
     requires values { V.has_values nodes.now script.now.values }
+    requires asked { AsksForLast (V.is_asked nodes.now) script.now board.now op }
     ensures { (b : Blackboard variants.Variant) → Stands (V.is_node nodes.now) board.now b
         → IsEventValue script.now.values result (closed_on script.now b op) }
 {

@@ -1,5 +1,6 @@
 ghost use Rattle.std.specs.Prelude.{◌≡◌, List, ◌++◌, true, OnOk, Some};
-ghost use Rattle.cal_run.specs.Adding.{AddsShown, IsEventValue, MayHavePlaces, ShowsSome};
+ghost use Rattle.cal_run.specs.Adding.{AddsShown, AsksFor, IsEventValue, MayAskFor, MayHavePlaces};
+ghost use Rattle.cal_run.specs.Adding.{ShowsSome, board_in};
 ghost use Rattle.cal_run.specs.Held.{HasPlaces, Shows};
 ghost use Rattle.cal_run.specs.Lines.{attribute_of};
 ghost use Rattle.cal_run.specs.Numbers.{AreNamed, AreNamedInSome, IsNumber};
@@ -39,6 +40,7 @@ pub fn add_immediates<N, V: NodeValues<N>, P: Prober, S: ImmediateSink>(
     requires timed { moment.now.timed ≡ channel.now.timer }
     requires shown { ShowsSome (V.is_node nodes.now) script.now moment.now }
     requires values { V.has_values nodes.now script.now.values }
+    requires asked { MayAskFor (V.is_asked nodes.now) script.now moment.now op }
     ensures { OnOk result (AddsShown (V.is_node nodes.now) script.now numbers.now moment.now
         (S.imms out.old script.now.values) (S.imms out.new script.now.values)
         (λ s. event_entries script.now s op ++ time_entries script.now s channel.now.timer op
@@ -66,6 +68,7 @@ fn add_event<N, V: NodeValues<N>, S: ImmediateSink>(
     requires places { MayHavePlaces script.now op }
     requires shown { ShowsSome (V.is_node nodes.now) script.now moment.now }
     requires values { V.has_values nodes.now script.now.values }
+    requires asked { MayAskFor (V.is_asked nodes.now) script.now moment.now op }
     ensures { OnOk result (AddsShown (V.is_node nodes.now) script.now numbers.now moment.now
         (S.imms out.old script.now.values) (S.imms out.new script.now.values)
         (λ s. event_entries script.now s op)) }
@@ -90,6 +93,7 @@ fn add_event_of<N, V: NodeValues<N>, S: ImmediateSink>(
     requires places { HasPlaces script.now op }
     requires shown { ShowsSome (V.is_node nodes.now) script.now moment.now }
     requires values { V.has_values nodes.now script.now.values }
+    requires asked { AsksFor (V.is_asked nodes.now) script.now (board_in script.now moment.now op) op }
     ensures { OnOk result (AddsShown (V.is_node nodes.now) script.now numbers.now moment.now
         (S.imms out.old script.now.values) (S.imms out.new script.now.values)
         (λ s. event_entries script.now s (Some op))) }
@@ -110,6 +114,7 @@ fn shown_value<'a, N, V: NodeValues<N>>(
     requires places { HasPlaces script.now op }
     requires shown { ShowsSome (V.is_node nodes.now) script.now moment.now }
     requires values { V.has_values nodes.now script.now.values }
+    requires asked { AsksFor (V.is_asked nodes.now) script.now (board_in script.now moment.now op) op }
     ensures { (s : Sight) → Shows (V.is_node nodes.now) script.now moment.now s
         → IsEventValue script.now.values result
         (value_on script.now (board_of script.now s op) op.code op) }

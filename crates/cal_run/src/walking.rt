@@ -1,5 +1,5 @@
-ghost use Rattle.std.specs.Prelude.{◌≡◌, ℕ, ◌+◌, ◌<◌, ◌≤◌, true, [], ◌&&◌, count_by, flat_map};
-ghost use Rattle.std.specs.Prelude.{length, zip, All, IfOk, OnOk, if◌then◌else◌};
+ghost use Rattle.std.specs.Prelude.{◌≡◌, ℕ, ◌+◌, ◌*◌, ◌<◌, ◌≤◌, ◌^◌, true, [], ◌&&◌, count_by};
+ghost use Rattle.std.specs.Prelude.{flat_map, length, zip, All, OnOk, if◌then◌else◌};
 ghost use Rattle.cal_board.specs.Blackboard.{nothing_open};
 ghost use Rattle.cal_context.specs.Tree.{Grows};
 ghost use Rattle.cal_run.specs.Held.{Holds, HoldsSome, IsProcess};
@@ -80,6 +80,8 @@ fn walk_line(
     requires board { HoldsSome context.old script.now board.old }
     requires room { is_process_line script.now line ≡ true
         → walk.old.process.count < length history.now }
+    requires few { walk.old.in_all + 16 < 2 ^ 64 }
+    requires few_traced { walk.old.traced + 16 < 2 ^ 64 }
     ensures walked { OnOk result ((state : ThreadState) (seen : ℕ)
         → Holds context.old script.now board.old state.board
         → WalksLine context.old context.new script.now line walk.old walk.new board.new state
@@ -94,8 +96,8 @@ fn walk_line(
     let shared = is_process_line(script, line);
     let reply = reply_behind(script, line, shared, board, &walk.process.board);
     let accepted = is_accepted(reply);
-    walk.in_all = sum(walk.in_all, takers(script, line, accepted))?;
-    walk.traced = sum(walk.traced, tracers(script, line, accepted))?;
+    walk.in_all += takers(script, line, accepted);
+    walk.traced += tracers(script, line, accepted);
     place_next(
         alloc,
         script,
@@ -129,8 +131,9 @@ fn reply_behind(
 
 /// How many channels take a snapshot on a line.
 fn takers(script: &Script, line: Line, accepted: bool) -> u64
-    ensures { result ≡ count_by (λ channel. accepted && takes script.now channel line)
+    ensures count { result ≡ count_by (λ channel. accepted && takes script.now channel line)
         script.now.channels }
+    ensures few { result ≤ length script.now.channels }
 {
     script
         .channels
@@ -142,9 +145,10 @@ fn takers(script: &Script, line: Line, accepted: bool) -> u64
 
 /// How many of them have trace.
 fn tracers(script: &Script, line: Line, accepted: bool) -> u64
-    ensures { result ≡ count_by
+    ensures count { result ≡ count_by
         (λ channel. channel.trace && (accepted && takes script.now channel line))
         script.now.channels }
+    ensures few { result ≤ length script.now.channels }
 {
     script
         .channels
@@ -196,13 +200,6 @@ fn place_next(
     Ok(())
 }
 
-/// A sum. One beyond 64 bits, which no script comes to, is answered as want of memory is.
-fn sum(one: u64, other: u64) -> Result<u64, OutOfMemory>
-    ensures { IfOk result (λ sum. sum ≡ one + other) }
-{
-    one.checked_add(other).ok_or(OutOfMemory)
-}
-
 /// Walks the lines of a thread, which runs behind all operations that the process has taken in.
 fn walk_thread(
     alloc: Global,
@@ -223,6 +220,8 @@ fn walk_thread(
         (held_to script.now history.now walk.old.process.count) }
     requires room { walk.old.process.count + length (process_lines script.now lines.now)
         ≤ length history.now }
+    requires few { walk.old.in_all + 16 * length lines.now < 2 ^ 64 }
+    requires few_traced { walk.old.traced + 16 * length lines.now < 2 ^ 64 }
     ensures own { OnOk result (HoldsPaths context.old context.new walk.old.own.nodes
         walk.new.own.nodes (held_by_thread script.now lines.now)) }
     ensures in_all { OnOk result (walk.new.in_all
@@ -260,6 +259,8 @@ pub(crate) fn walk_threads(
     requires history { history.now ≡ plain_history script.now }
     requires process { IsProcess context.old script.now history.now walk.old.process }
     requires start { walk.old.process.count ≡ 0 }
+    requires none { walk.old.in_all ≡ 0 }
+    requires none_traced { walk.old.traced ≡ 0 }
     requires held { AreHeld context.old walk.old.placed.nodes
         (held_to script.now history.now walk.old.process.count) }
     ensures own { OnOk result (HoldsPaths context.old context.new walk.old.own.nodes

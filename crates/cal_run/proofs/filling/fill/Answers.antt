@@ -5,7 +5,7 @@ use Rattle.cal_context.specs.declared.snapshot.Immediate.{Immediate}
 use Rattle.cal_run.specs.Adding.{AreWithin}
 use Rattle.cal_run.specs.Snapshots.{event_entries, probe_entries, snapshot_of, time_entries}
 use Rattle.cal_run.specs.Snapshots.{value_entries}
-use Rattle.cal_run.proofs.FillLemmas.{both-below, both-paths}
+use Rattle.cal_run.proofs.FillLemmas.{any-asked, both-below, both-paths}
 use Rattle.cal_run.proofs.filling.fill.Goals as goal
 
 pub add_immediates-requires-clause-named : goal.add_immediates-requires-clause-named
@@ -13,6 +13,10 @@ add_immediates-requires-clause-named c = (
   c.args.context.now.attributes,
   c.requires.numbered.named,
 )
+
+pub add_immediates-requires-clause-asked : goal.add_immediates-requires-clause-asked
+add_immediates-requires-clause-asked c =
+    any-asked c.args.script.now c.args.moment.now c.args.op
 
 pub returns-clause-inside : goal.returns-clause-inside
 returns-clause-inside c =

@@ -1,7 +1,12 @@
 use Rattle.std.proofs.Common.{OnOk, sym, subst}
-use Rattle.cal_run.specs.Adding.{AddsShown}
+use Rattle.cal_run.specs.Adding.{AddsShown, MayAskFor}
 use Rattle.cal_run.specs.Snapshots.{event_entries}
 use Rattle.cal_run.proofs.services.add_event.Goals as goal
+
+pub add_event_of-requires-clause-asked : goal.add_event_of-requires-clause-asked
+add_event_of-requires-clause-asked g c =
+    subst (MayAskFor (g.V.NodeValues.is_asked c.args.nodes.now) c.args.script.now
+    c.args.moment.now) c.in-Some.is c.requires.asked
 
 pub returns-in-Some : goal.returns-in-Some
 returns-in-Some g c =

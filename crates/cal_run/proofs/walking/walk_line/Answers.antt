@@ -70,10 +70,11 @@ returns-clause-walked c =
       own = subst (λ (op : Option Operation). HoldsPaths t0 t2 some more
           (held_behind script state.board op)) c.own_operation-op.ensures
           (holds-grown c.place_next.ensures.grows t2 some more _ (held state.board grown));
-      in_all = c.in_ok-walk.ensures ∙ ap (λ (n : ℕ). was.in_all + n)
-          (c.takers.ensures ∙ takers-is script every before seen state l accepted accepts);
-      traced = c.in_ok-walk-2.ensures ∙ ap (λ (n : ℕ). was.traced + n)
-          (c.tracers.ensures ∙ takers-is script has_trace before seen state l accepted accepts);
+      in_all = ap (λ (n : ℕ). was.in_all + n)
+          (c.takers.ensures.count ∙ takers-is script every before seen state l accepted accepts);
+      traced = ap (λ (n : ℕ). was.traced + n)
+          (c.tracers.ensures.count
+          ∙ takers-is script has_trace before seen state l accepted accepts);
     })
 
 pub returns-clause-process : goal.returns-clause-process

@@ -1,4 +1,5 @@
 use Rattle.std.proofs.Common.{◌≡◌, ◌+◌, [], ◌++◌, drop, length, map, ap, subst, sym, refl, ◌∙◌}
+use Rattle.std.proofs.Common.{arith}
 use Rattle.std.specs.Prelude.{sum_by, zip}
 use Rattle.cal_board.specs.Blackboard.{Blackboard, nothing_open}
 use Rattle.cal_context.proofs.CallerLemmas.{Grows-refl, Grows-trans}
@@ -8,7 +9,7 @@ use Rattle.cal_run.proofs.NumberLemmas.{AreNumbered-Grows}
 use Rattle.cal_run.proofs.PathLemmas.{held_from-drop, held_from-end, holds-both, holds-none}
 use Rattle.cal_run.proofs.PathLemmas.{own-board}
 use Rattle.cal_run.proofs.PlainLemmas.{count-drop, count-end, room-left}
-use Rattle.cal_run.proofs.WalkingLemmas.{taken-drop, taken-end}
+use Rattle.cal_run.proofs.WalkingLemmas.{taken-drop, taken-end, takers-few}
 use Rattle.cal_run.specs.Held.{Holds}
 use Rattle.cal_run.specs.Holding.{HoldsPaths}
 use Rattle.cal_run.specs.Lawful.{process_lines}
@@ -30,6 +31,8 @@ loop-place-init c =
       process = c.requires.process;
       held = c.requires.held;
       count = refl;
+      few = omega arith;
+      few_traced = omega arith;
       so_far = (
         at_start,
         0,
@@ -62,6 +65,14 @@ walk_line-requires-clause-room c =
     (length c.args.history.now) c.args.lines.now
     c.loop-place.place l c.loop-place-test.true (c.line_in-line.ensures l)
     c.loop-place.invariant.count c.requires.room
+
+pub walk_line-requires-clause-few : goal.walk_line-requires-clause-few
+walk_line-requires-clause-few c =
+    omega (arith, c.loop-place.invariant.few, c.loop-place-test.true, c.requires.few)
+
+pub walk_line-requires-clause-few_traced : goal.walk_line-requires-clause-few_traced
+walk_line-requires-clause-few_traced c =
+    omega (arith, c.loop-place.invariant.few_traced, c.loop-place-test.true, c.requires.few_traced)
 
 pub returns-in_err-walk_line-clause-grows : goal.returns-in_err-walk_line-clause-grows
 returns-in_err-walk_line-clause-grows c =
@@ -96,6 +107,18 @@ loop-place-preserved c =
       count = ap (λ n. n + length (process_lines script (drop (i + 1) lines))) step.count
           ∙ count-drop script before lines i l below at
           ∙ old.count;
+      few = omega (
+        arith,
+        old.few,
+        walked.in_all,
+        takers-few script c.requires.runnable.few_channels every (l, note),
+      );
+      few_traced = omega (
+        arith,
+        old.few_traced,
+        walked.traced,
+        takers-few script c.requires.runnable.few_channels has_trace (l, note),
+      );
       so_far = (
         after,
         note.seen,

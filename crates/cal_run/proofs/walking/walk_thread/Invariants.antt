@@ -1,4 +1,4 @@
-use Rattle.std.proofs.Common.{◌≡◌, ℕ, ◌+◌, List, ◌++◌, drop, length, map}
+use Rattle.std.proofs.Common.{◌≡◌, ℕ, ◌+◌, ◌*◌, ◌≤◌, List, ◌++◌, drop, length, map}
 use Rattle.std.specs.Prelude.{sum_by, zip}
 use Rattle.cal_context.specs.Tree.{Grows}
 use Rattle.cal_run.specs.Held.{Holds, IsProcess}
@@ -13,7 +13,8 @@ use Rattle.cal_value.specs.declared.attribute.Entry.{Entry}
 use Rattle.cal_run.proofs.walking.walk_thread.Given as goal
 
 -- The thread's board is as the lines so far leave it, and the process has taken in what they placed;
--- what was held and counted, with what is left, is what the thread holds and what is taken of it.
+-- what was held and counted, with what is left, is what the thread holds and what is taken of it,
+-- and at most sixteen snapshots were counted a line.
 abbrev pub invariant-loop-place : goal.invariant-loop-place
 invariant-loop-place l = record {
   numbered : AreNumbered l.context l.script l.numbers;
@@ -23,6 +24,8 @@ invariant-loop-place l = record {
       (held_to l.script l.history l.walk.process.count);
   count : l.walk.process.count + length (process_lines l.script (drop l.place l.lines))
       ≡ l.fn.walk.process.count + length (process_lines l.script l.lines);
+  few : l.walk.in_all ≤ l.fn.walk.in_all + 16 * l.place;
+  few_traced : l.walk.traced ≤ l.fn.walk.traced + 16 * l.place;
   so_far : (state : ThreadState) × (seen : ℕ) × (some : List (List Entry))
       × Holds l.context l.script l.board state.board
       × HoldsPaths l.fn.context l.context l.fn.walk.own.nodes l.walk.own.nodes some

@@ -6,7 +6,8 @@ use Rattle.cal_context.proofs.CallerLemmas.{Grows-refl, Grows-trans}
 use Rattle.cal_run.proofs.NumberLemmas.{AreNumbered-Grows}
 use Rattle.cal_run.proofs.PathLemmas.{holds-next, holds-none}
 use Rattle.cal_run.proofs.PlainLemmas.{drop-past, history-long, total, total-next, total-room}
-use Rattle.cal_run.proofs.WalkingLemmas.{taken-drop_threads, taken-end_threads}
+use Rattle.cal_run.proofs.WalkingLemmas.{taken-drop_threads, taken-end_threads, taken_by-few}
+use Rattle.cal_run.proofs.WalkingLemmas.{thread-few}
 use Rattle.cal_run.specs.Holding.{AreHeld, HoldsPaths}
 use Rattle.cal_run.specs.Paths.{held_by_thread}
 use Rattle.cal_run.specs.Plain.{plain_history, threads_from}
@@ -54,6 +55,37 @@ walk_thread-requires-clause-room c =
     script.threads c.loop-number.number t below
     (c.lines_of_thread-lines.ensures t) c.loop-number.invariant.count in
     omega (arith, all, room)
+
+pub walk_thread-requires-clause-few : goal.walk_thread-requires-clause-few
+walk_thread-requires-clause-few c =
+    let script = c.args.script.now in
+    let t = c.lines_of_thread-lines.result.now in
+    let below : c.loop-number.number < length script.threads = omega arith in
+    let runnable = c.requires.runnable in
+    let long = thread-few script.threads c.loop-number.number t below
+    (c.lines_of_thread-lines.ensures t) in
+    let few = taken_by-few script runnable.few_channels every script.threads
+    (threads_from script 0 script.threads) in
+    omega (arith, long, few, c.loop-number.invariant.in_all, c.requires.none, runnable.few_lines)
+
+pub walk_thread-requires-clause-few_traced : goal.walk_thread-requires-clause-few_traced
+walk_thread-requires-clause-few_traced c =
+    let script = c.args.script.now in
+    let t = c.lines_of_thread-lines.result.now in
+    let below : c.loop-number.number < length script.threads = omega arith in
+    let runnable = c.requires.runnable in
+    let long = thread-few script.threads c.loop-number.number t below
+    (c.lines_of_thread-lines.ensures t) in
+    let few = taken_by-few script runnable.few_channels has_trace script.threads
+    (threads_from script 0 script.threads) in
+    omega (
+      arith,
+      long,
+      few,
+      c.loop-number.invariant.traced,
+      c.requires.none_traced,
+      runnable.few_lines,
+    )
 
 pub returns-in_err-walk_thread-clause-grows : goal.returns-in_err-walk_thread-clause-grows
 returns-in_err-walk_thread-clause-grows c =
