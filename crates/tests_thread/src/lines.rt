@@ -6,7 +6,7 @@ ghost use Rattle.cal_process.specs.Replicas.{IsCommon};
 ghost use Rattle.cal_run.specs.Lines.{is_process_line, line_at};
 ghost use Rattle.cal_run.specs.Steps.{ThreadState};
 ghost use Rattle.cal_script.specs.Valid.{IsPlaced};
-ghost use Rattle.cal_thread.specs.Threads.{IsThread};
+ghost use Rattle.cal_thread.specs.Threads.{IsSomeThread, IsThread};
 ghost use Rattle.cal_words.specs.declared.op.OpRec as words;
 ghost use Rattle.tests_thread.specs.Behind.{IsBehind};
 
@@ -77,7 +77,7 @@ fn do_own(
     reading: u64,
 ) -> Result<Option<Reply>, OutOfMemory>
     requires common { IsCommon common.now }
-    requires some { (done : ℕ) × IsBehind common.now thread.old done }
+    requires some { IsSomeThread common.now thread.old }
     requires own { is_process_line common.now.script.now line ≡ false }
     requires placed { IsPlaced common.now.script.now.attributes common.now.script.now.channels
         common.now.script.now.values line }
@@ -101,7 +101,7 @@ fn change_if(
     accepted: bool,
 ) -> Result<(), OutOfMemory>
     requires common { IsCommon common.now }
-    requires some { (done : ℕ) × IsBehind common.now thread.old done }
+    requires some { IsSomeThread common.now thread.old }
     requires placed { IsPlaced common.now.script.now.attributes common.now.script.now.channels
         common.now.script.now.values line }
     ensures behind { OnOk result ((done : ℕ) → IsBehind common.now thread.old done

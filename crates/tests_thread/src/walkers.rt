@@ -28,6 +28,7 @@ pub(crate) struct Walker {
 
 /// What a thread's next line is answered, how many operations the thread has seen then, and whether
 /// the attribute 0 is open on its replica of the process's board.
+#[derive(Clone, Copy)]
 pub(crate) struct Row {
     pub thread: u32,
     pub reply: Option<Reply>,
@@ -165,7 +166,7 @@ fn nodes(alloc: Global, walker: &Walker) -> Result<Seq<NodeId>, OutOfMemory> {
 }
 
 /// How a walk of two threads comes out.
-#[derive(Debug, PartialEq, Eq)]
+#[derive(Clone, Copy, Debug, PartialEq, Eq)]
 pub(crate) struct Walk {
     /// The first row that says something else.
     pub wrong: Option<usize>,
@@ -174,7 +175,7 @@ pub(crate) struct Walk {
 }
 
 /// Goes through rows with two threads, and looks at what they hold then.
-fn walk(
+fn walk_rows(
     alloc: Global,
     common: &Common<'_>,
     first: &mut Walker,
@@ -198,7 +199,7 @@ pub(crate) fn walk_two(alloc: Global, script: &Script, rows: &[Row]) -> Result<W
     let (common, mut tree, mut log) = Common::new(alloc, script)?;
     let mut first = hire(alloc, &common, 0, &mut tree, &mut log);
     let mut second = hire(alloc, &common, 1, &mut tree, &mut log);
-    let walked = walk(alloc, &common, &mut first, &mut second, rows);
+    let walked = walk_rows(alloc, &common, &mut first, &mut second, rows);
     drop(first);
     drop(second);
     drop(tree);
