@@ -1,11 +1,12 @@
 -- The words of a command line.
 use Rattle.std.specs.Prelude.{ℕ, ◌+◌, Bool, true, false, List, [], ◌∷◌, codes, map}
 use Rattle.std.specs.Prelude.{Option, None, Some, Result, Ok, Err, String, string_bytes}
-use Rattle.std.specs.Prelude.{unwrap_or, is_some, slice_get, if◌then◌else◌}
+use Rattle.std.specs.Prelude.{unwrap_or, is_some, drop, nat_eq, slice_get, if◌then◌else◌}
+use Rattle.std.specs.List.{starts_with}
 use Rattle.std.specs.Global.{Global}
 use Rattle.std.specs.Option.{option_map_or}
 use Rattle.std.specs.Str.{bytes_eq}
-use Rattle.cal_call.specs.GenWords.{gen_of, no_gen_options, value_behind}
+use Rattle.cal_call.specs.GenWords.{gen_of, no_gen_options}
 use Rattle.cal_call.specs.declared.words.Command.{Command}
 use Rattle.cal_call.specs.declared.words.Command.TheVariants.{Serial, Query}
 use Rattle.cal_call.specs.declared.words.Options.{Options}
@@ -22,7 +23,7 @@ no_options = record { q = None; join = None }
 
 -- the text of a word `--q=TEXT`
 abbrev pub q_text : List ℕ → Option (List ℕ)
-q_text word = value_behind (codes "--q=") word
+q_text word = if starts_with nat_eq word (codes "--q=") then Some (drop 4 word) else None
 
 -- an option's value, unless a word gave one before
 abbrev pub given_once : {A : Type 0} → Option A → A → Option (Option A)

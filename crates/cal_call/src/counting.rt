@@ -1,7 +1,6 @@
 //! How many lines of a journal were refused.
 ghost use Rattle.std.specs.Prelude.{◌≡◌};
-ghost use Rattle.cal_run.specs.Refused.{is_refused, refused_of};
-ghost use Rattle.cal_call.specs.Refusals.{HasFewLines, refused_lines};
+ghost use Rattle.cal_call.specs.Refusals.{HasFewLines, is_refusal, refused_lines, refused_of};
 
 use cal_script::{Journal, Reply, ThreadNote};
 
@@ -19,11 +18,11 @@ pub fn count_refused(journal: &Journal) -> u64
 
 /// How many lines of a thread were refused.
 fn count_in(thread: &ThreadNote) -> u64
-    ensures { result ≡ refused_of thread.now.lines }
+    ensures { result ≡ refused_of thread.now }
 {
     let mut refused = 0;
     for note in thread.lines.as_slice() {
-        if is_refused(note.reply) {
+        if is_refusal(note.reply) {
             refused += 1;
         }
     }
@@ -31,8 +30,8 @@ fn count_in(thread: &ThreadNote) -> u64
 }
 
 /// Whether a line with this reply was refused.
-fn is_refused(reply: Reply) -> bool
-    ensures { result ≡ is_refused reply }
+fn is_refusal(reply: Reply) -> bool
+    ensures { result ≡ is_refusal reply }
 {
     match reply {
         Reply::Mismatch { .. } | Reply::NotOpen | Reply::TooDeep | Reply::SlotsFull => true,

@@ -2,7 +2,7 @@ use Rattle.std.proofs.Common.{◌≡◌, ◌<◌, List, length, get_or, subst, a
 use Rattle.std.proofs.lemmas.List.Sums.{count_by-le-length, sum_by_more_le_part}
 use Rattle.cal_script.specs.declared.journal.LineNote.{LineNote}
 use Rattle.cal_script.specs.declared.journal.ThreadNote.{ThreadNote}
-use Rattle.cal_run.specs.Refused.{is_refused, refused_of}
+use Rattle.cal_call.specs.Refusals.{is_refusal, refused_of}
 use Rattle.cal_call.proofs.counting.count_refused.Goals as goal
 
 -- no more lines are refused than there are
@@ -17,9 +17,8 @@ overflow_add-refused c =
     let at : thread ≡ get_or threads place thread =
     subst (λ (xs : List ThreadNote). thread ≡ get_or xs place thread) items c.thread-item.is in
     let count = λ (t : ThreadNote). length t.lines in
-    let refuses = λ (n : LineNote). is_refused n.reply in
-    let refused = λ (t : ThreadNote). refused_of t.lines in
-    let part = sum_by_more_le_part refused count threads place thread within
+    let refuses = λ (n : LineNote). is_refusal n.reply in
+    let part = sum_by_more_le_part refused_of count threads place thread within
     (λ t. count_by-le-length refuses t.lines) in
     omega (
       arith,

@@ -1,6 +1,6 @@
 use Rattle.std.proofs.Common.{◌∙◌, subst, sym}
 use Rattle.cal_run.specs.Plain.{plain}
-use Rattle.cal_call.proofs.FewLines.{few_lines}
+use Rattle.cal_call.proofs.FewLines.{few_lines, refused-same}
 use Rattle.cal_call.specs.Refusals.{HasFewLines}
 use Rattle.cal_call.proofs.journal.refused_of_plain.Goals as goal
 
