@@ -23,8 +23,10 @@ use Rattle.cal_context.specs.Children.{IsLinked}
 use Rattle.cal_context.specs.Tree.{Tree, no_value, path_at, value_at}
 use Rattle.cal_context.specs.declared.numbers.Link.{Link}
 use Rattle.cal_context.specs.declared.numbers.NodeNumber.{NodeNumber}
-use Rattle.cal_run.specs.Adding.{IsEventValue, IsLastShown}
+use Rattle.cal_run.specs.Adding.{AsksForLast, IsEventValue, IsLastShown}
+use Rattle.cal_run.specs.Lines.{attr_ref}
 use Rattle.cal_run.specs.Snapshots.{CanBeAsked}
+use Rattle.cal_run.specs.declared.operation.Operation.{Operation}
 use Rattle.cal_run.specs.declared.sink.EventValue as event_values
 use Rattle.cal_run.specs.declared.sink.EventValue.TheVariants as event_value
 use Rattle.cal_script.specs.declared.script.Script.{Script}
@@ -176,6 +178,16 @@ module _ {N : Type 0} (P : N → List (Opened Variant) → Type 0) (held : Black
       subst (λ (v : Variant). IsEventValue values shown v)
       (sym (ap (λ o. unwrap_or (option_map (λ (o : Opened Variant). o.value) o) no_value)
       (referred e ∙ last.is_last))) last.value
+
+-- the last node in the slot of an operation's attribute may be asked for
+pub asked-last : {N : Type 0} (is_asked : N → Type 0) (script : Script) (held : Blackboard N)
+    (op : Operation) (a : AttrRef) → a ≡ attr_ref script op.attr
+    → AsksForLast is_asked script held op → a.as_value ≡ false
+    → (n : N) → Some n ≡ last_value (opened_in (slot_number a) held.references) → is_asked n
+asked-last {N} is_asked script held op a is asks plain n some =
+    asks (subst (λ (a : AttrRef). a.as_value ≡ false) is plain) n
+    (subst (λ (a : AttrRef). last_value (opened_in (slot_number a) held.references) ≡ Some n) is
+    (sym some))
 
 -- what an operation opens has its place
 pub opened-shown : (script : Script) (place : ℕ) → place < length script.values

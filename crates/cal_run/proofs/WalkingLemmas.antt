@@ -1,9 +1,8 @@
 -- The threads are walked line by line and thread by thread, and counts of channels are sums over
 -- lines.
 use Rattle.std.proofs.Common.{◌≡◌, ℕ, ◌+◌, ◌<◌, ◌≤◌, Bool, true, false, ◌&&◌, cond, List, [], ◌∷◌}
-use Rattle.std.proofs.Common.{◌++◌, ◌*◌, if◌then◌else◌, length, get_or, map, take, drop, refl, sym, ap}
-use Rattle.std.proofs.Common.{subst, ◌∙◌, ◌||◌, append_assoc, append-nil, absurd, arith, suc}
-use Rattle.std.proofs.Common.{zero}
+use Rattle.std.proofs.Common.{◌++◌, ◌*◌, if◌then◌else◌, length, get_or, map, take, drop, refl, sym}
+use Rattle.std.proofs.Common.{ap, subst, ◌∙◌, ◌||◌, append_assoc, append-nil, arith, suc, zero}
 use Rattle.std.specs.Prelude.{Result, Ok, Err, OnOk}
 use Rattle.std.specs.Prelude.{Option, Some, None, count_by, flat_map, sum_by, unwrap_or, zip}
 use Rattle.std.specs.List.{fold}

@@ -1,10 +1,9 @@
-use Rattle.std.proofs.Common.{◌≡◌, false, subst, sym}
-use Rattle.std.specs.Prelude.{Some}
+use Rattle.std.proofs.Common.{subst}
 use Rattle.cal_board.specs.Blackboard.{slot_number}
-use Rattle.cal_board.specs.Slots.{last_value, opened_in}
-use Rattle.cal_board.specs.declared.attr.AttrRef.{AttrRef}
+use Rattle.cal_board.specs.Slots.{opened_in}
 use Rattle.cal_context.specs.Tree.{no_value}
-use Rattle.cal_run.proofs.ServiceLemmas.{closed-none, closed-shown, closed_in, last-stands}
+use Rattle.cal_run.proofs.ServiceLemmas.{asked-last, closed-none, closed-shown, closed_in}
+use Rattle.cal_run.proofs.ServiceLemmas.{last-stands}
 use Rattle.cal_run.specs.Adding.{IsEventValue}
 use Rattle.cal_run.specs.declared.sink.EventValue.TheVariants as event_value
 use Rattle.cal_run.proofs.closing.closed_value.Goals as goal
@@ -18,11 +17,9 @@ last_value-requires-clause-stands g c = (
 
 pub last_value-requires-clause-asked : goal.last_value-requires-clause-asked
 last_value-requires-clause-asked g c =
-    let is = c.attr_ref-attr.ensures in
-    let references = c.args.board.now.references in
-    c.requires.asked (subst (λ (a : AttrRef). a.as_value ≡ false) is c.if-attr.false) _
-    (subst (λ (a : AttrRef). last_value (opened_in (slot_number a) references) ≡ Some _) is
-    (sym c.in-Some-last_node.ensures))
+    asked-last (g.V.NodeValues.is_asked c.args.nodes.now) c.args.script.now c.args.board.now c.args.op
+    c.attr_ref-attr.result c.attr_ref-attr.ensures c.requires.asked c.if-attr.false _
+    c.in-Some-last_node.ensures
 
 pub returns-in-Some-last_node : goal.returns-in-Some-last_node
 returns-in-Some-last_node g c = λ b is.
