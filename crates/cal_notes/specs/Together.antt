@@ -13,8 +13,8 @@ use Rattle.cal_script.specs.declared.script.Line.TheVariants as line
 use Rattle.cal_script.specs.declared.script.Script.{Script}
 
 module _ (script : Script) (journal : Journal) where
-  -- a thread has these lines and this note
-  pub record IsThread (thread : ℕ) (ls : List lines.Line) (note : ThreadNote) : Type 0 where
+  -- a thread of the run ran these lines and has this note
+  pub record RanLines (thread : ℕ) (ls : List lines.Line) (note : ThreadNote) : Type 0 where
     pub lines : slice_get script.threads thread ≡ Some ls
     pub note : slice_get journal.threads thread ≡ Some note
 
@@ -38,7 +38,7 @@ module _ (script : Script) (journal : Journal) where
   pub record HasMerged (thread channel : ℕ) : Type 0 where
     pub lines : List lines.Line
     pub note : ThreadNote
-    pub thread : IsThread thread lines note
+    pub thread : RanLines thread lines note
     pub merged : HasFlushed channel reply.Merged lines note
 
   -- All threads have ended with all their lines noted, the whole history is the script's, and where
@@ -47,8 +47,8 @@ module _ (script : Script) (journal : Journal) where
     pub many : length journal.threads ≡ length script.threads
     pub known : All (IsKnown script) journal.ops
     pub ended : (thread : ℕ) (ls : List lines.Line) (note : ThreadNote)
-        → IsThread thread ls note → HasEnded thread ls note
+        → RanLines thread ls note → HasEnded thread ls note
     pub busy : (thread : ℕ) (ls : List lines.Line) (note : ThreadNote)
-        → IsThread thread ls note
+        → RanLines thread ls note
         → (channel holder : ℕ) → HasFlushed channel (reply.Busy holder) ls note
         → HasMerged holder channel
