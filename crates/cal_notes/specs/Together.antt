@@ -15,8 +15,8 @@ use Rattle.cal_script.specs.declared.script.Script.{Script}
 module _ (script : Script) (journal : Journal) where
   -- a thread of the run ran these lines and has this note
   pub record RanLines (thread : ℕ) (ls : List lines.Line) (note : ThreadNote) : Type 0 where
-    pub lines : slice_get script.threads thread ≡ Some ls
-    pub note : slice_get journal.threads thread ≡ Some note
+    pub ran : slice_get script.threads thread ≡ Some ls
+    pub noted : slice_get journal.threads thread ≡ Some note
 
   -- The notes of a thread keep the rules by a beginning of the history, behind which no operation
   -- is the thread's.
@@ -36,10 +36,10 @@ module _ (script : Script) (journal : Journal) where
 
   -- a thread of the run merged in a flush of the channel
   pub record HasMerged (thread channel : ℕ) : Type 0 where
-    pub lines : List lines.Line
+    pub ls : List lines.Line
     pub note : ThreadNote
-    pub thread : RanLines thread lines note
-    pub merged : HasFlushed channel reply.Merged lines note
+    pub ran : RanLines thread ls note
+    pub merged : HasFlushed channel reply.Merged ls note
 
   -- All threads have ended with all their lines noted, the whole history is the script's, and where
   -- a flush was busy, its holder merged.
