@@ -42,20 +42,18 @@ zip-push (v ∷ xs) (w ∷ ys) x y long =
 
 -- ---- process lines
 
+abbrev placed_number : Script → ℕ × Line → Option ℕ
+placed_number script l = if is_process_line script l.1 then Some l.0 else None
+
 -- those of one line more
 pub process_lines-push : (script : Script) (ls : List Line) (l : Line)
     → process_lines script (ls ++ l ∷ [])
     ≡ process_lines script ls ++ number_placed script (length ls + 1) l
 process_lines-push script ls l =
-    ap (λ xs. numbers xs) (enumerate_from-push 1 ls l)
-    ∙ filter_map-append
-    (λ (l : ℕ × Line). if is_process_line script l.1 then Some l.0 else None)
-    (enumerate_from 1 ls) ((1 + length ls, l) ∷ [])
+    ap (filter_map (placed_number script)) (enumerate_from-push 1 ls l)
+    ∙ filter_map-append (placed_number script) (enumerate_from 1 ls) ((1 + length ls, l) ∷ [])
     ∙ ap (λ ns. process_lines script ls ++ ns) (one (is_process_line script l))
   where
-    abbrev numbers : List (ℕ × Line) → List ℕ
-    numbers xs = filter_map (λ (l : ℕ × Line). if is_process_line script l.1 then Some l.0 else None) xs
-
     one : (p : Bool) → cons_option (if p then Some (1 + length ls) else None) []
         ≡ (if p then (length ls + 1) ∷ [] else [])
     one true = ap (λ n. n ∷ []) (let e : 1 + length ls ≡ length ls + 1 = omega arith in e)

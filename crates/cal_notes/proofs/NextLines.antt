@@ -190,16 +190,16 @@ learned-places false false own more learns = ap (placed_of own.thread) learns
 module _ (script : Script) (real : Bool) (h more : List Placed) (thread : ℕ) (ls : List Line)
     (note : ThreadNote) (l : Line) (n : LineNote) (noted : HasNoted script real h thread ls note)
     (runs : RunsNext script real h more (next_line script h thread ls note l n)) where
-  abbrev next : NotedLine
-  next = next_line script h thread ls note l n
+  abbrev coming : NotedLine
+  coming = next_line script h thread ls note l n
 
   abbrev own : Placed
-  own = own_place next
+  own = own_place coming
 
-  sees-own : is_process_line script l ≡ true → SeesOwn script (known_journal real (h ++ more)) next
+  sees-own : is_process_line script l ≡ true → SeesOwn script (known_journal real (h ++ more)) coming
   sees-own process =
-      let learns : Learns true (looks script (h ++ more) l n next.state) own more =
-      subst (λ p. Learns p (looks script (h ++ more) l n next.state) own more) process runs.learns
+      let learns : Learns true (looks script (h ++ more) l n coming.state) own more =
+      subst (λ p. Learns p (looks script (h ++ more) l n coming.state) own more) process runs.learns
       in
       let others : List Placed = learns.0 in
       let cut : h ++ more ≡ (h ++ others) ++ own ∷ [] =
@@ -216,17 +216,17 @@ module _ (script : Script) (real : Bool) (h more : List Placed) (thread : ℕ) (
         before = omega (arith, seen, before, all, sum, front);
       }
 
-  fixed : is_process_line script l ≡ false → looks script (h ++ more) l n next.state ≡ false
+  fixed : is_process_line script l ≡ false → looks script (h ++ more) l n coming.state ≡ false
       → n.seen ≡ seen_behind note
   fixed own_line still =
       let learns : Learns false false own more =
       subst (λ k. Learns false k own more) still
-      (subst (λ p. Learns p (looks script (h ++ more) l n next.state) own more) own_line
+      (subst (λ p. Learns p (looks script (h ++ more) l n coming.state) own more) own_line
       runs.learns) in
       runs.seen ∙ ap (λ ops. length (h ++ ops)) learns ∙ ap length (append-nil h)
       ∙ sym noted.seen
 
-  line-keeps : LineKeeps script (known_journal real (h ++ more)) next
+  line-keeps : LineKeeps script (known_journal real (h ++ more)) coming
   line-keeps =
       let seen = runs.seen in
       let before = noted.seen in
@@ -243,7 +243,7 @@ module _ (script : Script) (real : Bool) (h more : List Placed) (thread : ℕ) (
   pub noted-next : HasNoted script real (h ++ more) thread (ls ++ l ∷ []) (with_line note n)
   noted-next = record {
     rules = rules-next script real h more thread ls note l n noted.rules line-keeps
-        (learned-places (is_process_line script l) (looks script (h ++ more) l n next.state) own more
+        (learned-places (is_process_line script l) (looks script (h ++ more) l n coming.state) own more
         runs.learns);
     seen = seen_from-push 0 note.lines n ∙ runs.seen;
   }
