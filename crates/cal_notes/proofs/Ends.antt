@@ -6,6 +6,7 @@ use Rattle.std.specs.List.{All, AllZip, Contains, enumerate_from}
 use Rattle.std.proofs.lemmas.List.Elements.{All-append, All-cons, All-nil, All-weaker}
 use Rattle.std.proofs.lemmas.List.Elements.{Contains-append_left, Contains-append_right}
 use Rattle.std.proofs.lemmas.Option.{slice_get-get_or, slice_get_within}
+use Rattle.cal_board.specs.Blackboard.{Blackboard}
 use Rattle.cal_notes.proofs.Fronts.{lines-front, read-front}
 use Rattle.cal_notes.proofs.Lists.{placed_of-front}
 use Rattle.cal_notes.specs.Notes.{IsFlushNote, IsNotedReply, LineKeeps}
@@ -14,7 +15,8 @@ use Rattle.cal_notes.specs.Together.{WasFlushed}
 use Rattle.cal_run.specs.Lawful.{HasOrder, HasShape, IsAnswer, IsAnswered, IsFlushReply, IsMerged}
 use Rattle.cal_run.specs.Lawful.{Lawful, NotedLine, StartIsRead, noted_from, noted_lines, noted_of}
 use Rattle.cal_run.specs.Lawful.{placed_of, process_lines, takes_start_reading}
-use Rattle.cal_run.specs.Steps.{ThreadState, at_start, found_reply, state_after}
+use Rattle.cal_run.specs.Steps.{ThreadState, acted_on, at_start, found_reply, reply_to_line}
+use Rattle.cal_run.specs.Steps.{state_after}
 use Rattle.cal_script.specs.declared.journal.Journal.{Journal}
 use Rattle.cal_script.specs.declared.journal.LineNote.{LineNote}
 use Rattle.cal_script.specs.declared.journal.Placed.{Placed}
@@ -24,6 +26,7 @@ use Rattle.cal_script.specs.declared.journal.ThreadNote.{ThreadNote}
 use Rattle.cal_script.specs.declared.script.Line as lines
 use Rattle.cal_script.specs.declared.script.Line.TheVariants as line
 use Rattle.cal_script.specs.declared.script.Script.{Script}
+use Rattle.cal_value.specs.declared.variant.Variant.{Variant}
 
 -- ---- lists place by place
 
@@ -172,6 +175,20 @@ module _ (script : Script) (h : List Placed) where
 
 -- ---- the journal
 
+abbrev IsFlush : lines.Line → Type 0
+IsFlush (line.Flush channel) = Unit {0}
+IsFlush _ = ⊥
+
+-- only a flush has no reply of its own
+only-flush : (script : Script) (b : Blackboard Variant) (l : lines.Line)
+    → reply_to_line script b l ≡ None → IsFlush l
+only-flush script b (line.Begin a v) none = absurd cc
+only-flush script b (line.End a) none = absurd cc
+only-flush script b (line.Set a v) none = absurd cc
+only-flush script b line.Snapshot none = absurd cc
+only-flush script b (line.Flush c) none = tt
+only-flush script b (line.Tick n) none = absurd cc
+
 no_note : ThreadNote
 no_note = record { start = None; lines = [] }
 
@@ -188,27 +205,38 @@ module _ (script : Script) (journal : Journal) where
       (zip-slice_get script.threads journal.threads holder has.ls has.note has.ran.ran
       has.ran.noted)
       (subst (λ m. Contains (noted_of script journal.ops (m, (has.ls, has.note))) found.noted)
-      (let e : holder ≡ 0 + holder = omega arith in e) found.there) in
-      (all.0, found.noted, all.1, all.2,
-      (found.thread_is, found.line_is ∙ any.4.0,
-      ap (λ (n : LineNote). n.reply) found.note_is ∙ any.4.1))
+      (let e : holder ≡ 0 + holder = omega arith in e) found.there) in (
+        all.0,
+        found.noted,
+        all.1,
+        all.2,
+        (
+          found.thread_is,
+          found.line_is ∙ any.4.0,
+          ap (λ (n : LineNote). n.reply) found.note_is ∙ any.4.1,
+        ),
+      )
 
   -- where the holder of each busy flush merged, the reply to a flush is as it should be
-  flush-answered : (thread : ℕ) (l : lines.Line) (r : replies.Reply) → IsFlushNote thread l r
+  flush-answered : (thread : ℕ) (l : lines.Line) (r : replies.Reply) → IsFlush l
+      → IsFlushNote thread r
       → ((channel holder : ℕ) → l ≡ line.Flush channel → r ≡ reply.Busy holder
       → Any (IsMerged script journal holder channel) (noted_lines script journal))
       → IsFlushReply script journal thread l r
-  flush-answered thread (line.Flush channel) reply.Merged is busy = tt
-  flush-answered thread (line.Flush channel) (reply.Busy holder) is busy =
+  flush-answered thread (line.Flush channel) reply.Merged flush is busy = tt
+  flush-answered thread (line.Flush channel) (reply.Busy holder) flush is busy =
       (is, busy channel holder refl refl)
-  flush-answered thread l r is busy = absurd is
+  flush-answered thread (line.Flush channel) r flush is busy = absurd is
+  flush-answered thread l r flush is busy = absurd flush
 
-  answered : (n : NotedLine) (found : Option replies.Reply) → IsNotedReply n found
+  answered : (n : NotedLine) (found : Option replies.Reply) → (found ≡ None → IsFlush n.line)
+      → IsNotedReply n found
       → ((channel holder : ℕ) → n.line ≡ line.Flush channel → n.note.reply ≡ reply.Busy holder
       → Any (IsMerged script journal holder channel) (noted_lines script journal))
       → IsAnswer script journal n found
-  answered n None is busy = flush-answered n.thread n.line n.note.reply is busy
-  answered n (Some found) is busy = is
+  answered n None flush is busy =
+      flush-answered n.thread n.line n.note.reply (flush refl) is busy
+  answered n (Some found) flush is busy = is
 
   module _ (have : HaveEnded script journal) where
     shape : HasShape script journal
@@ -258,11 +286,15 @@ module _ (script : Script) (journal : Journal) where
         ended.whole refl k d below in
         let from : IsFrom script journal.ops thread (zip ls note.lines) n =
         lines-from script journal.ops thread 1 0 at_start (zip ls note.lines) k d below in
-        let at = from.there in
-        (keeps, answered n (found_reply script journal.ops n.line n.note n.state) keeps.answered
-        (λ channel holder flush busy. merged-line holder channel
-        (have.busy thread ls note ran channel holder
-        (at.0, (n.line, n.note), at.1, at.2, (flush, busy)))))
+        let at = from.there in (
+          keeps,
+          answered n (found_reply script journal.ops n.line n.note n.state)
+              (only-flush script (acted_on script journal.ops n.line n.note n.state) n.line)
+              keeps.answered
+              (λ channel holder flush busy. merged-line holder channel
+              (have.busy thread ls note ran channel holder
+              (at.0, (n.line, n.note), at.1, at.2, (flush, busy)))),
+        )
 
     all-answered : All Rule (noted_lines script journal)
     all-answered = all-noted script journal.ops Rule 0 (zip script.threads journal.threads)

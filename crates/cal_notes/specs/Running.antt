@@ -1,7 +1,7 @@
 -- A thread that runs, line after line: what its next line may note, by what it learns of the
 -- history meanwhile.
 use Rattle.std.specs.Prelude.{◌≡◌, ℕ, ◌+◌, Bool, true, false, List, [], ◌∷◌, ◌++◌, length, zip}
-use Rattle.std.specs.Prelude.{if◌then◌else◌, Option, unwrap_or}
+use Rattle.std.specs.Prelude.{if◌then◌else◌, Option, fold, unwrap_or}
 use Rattle.cal_notes.specs.Notes.{IsNotedReply, KeepsRules, OfOthers, known_journal}
 use Rattle.cal_run.specs.Lawful.{LineIsRead, NotedLine}
 use Rattle.cal_run.specs.Lines.{is_process_line}
@@ -19,8 +19,7 @@ use Rattle.cal_script.specs.declared.script.Script.{Script}
 
 -- how many operations a thread has seen behind lines with these notes
 abbrev pub seen_from : (before : ℕ) → List LineNote → ℕ
-seen_from before [] = before
-seen_from before (n ∷ ns) = seen_from n.seen ns
+seen_from = fold (λ (before : ℕ) (n : LineNote). n.seen)
 
 abbrev pub seen_behind : ThreadNote → ℕ
 seen_behind note = seen_from 0 note.lines
@@ -44,21 +43,17 @@ with_line note n = record { start = note.start; lines = note.lines ++ n ∷ [] }
 
 -- ---- the next line
 
--- the next line of a thread, with its note
-abbrev pub next_line : Script → List Placed → (thread : ℕ) → List Line → ThreadNote → Line
-    → LineNote → NotedLine
-next_line script h thread ls note l n = record {
-  thread = thread;
-  number = length ls + 1;
-  line = l;
-  note = n;
-  before = seen_behind note;
-  state = state_behind script h ls note;
-}
+-- A line with its note is the next one of a thread, behind these lines.
+pub record IsNextLine (script : Script) (h : List Placed) (thread : ℕ) (ls : List Line)
+    (note : ThreadNote) (n : NotedLine) : Type 0 where
+  pub of_thread : n.thread ≡ thread
+  pub number : n.number ≡ length ls + 1
+  pub before : n.before ≡ seen_behind note
+  pub state : n.state ≡ state_behind script h ls note
 
 -- the number that a line has in the history, if it is a process line
-abbrev pub number_placed : Script → (number : ℕ) → Line → List ℕ
-number_placed script number l = if is_process_line script l then number ∷ [] else []
+abbrev pub number_placed : Script → NotedLine → List ℕ
+number_placed script n = if is_process_line script n.line then n.number ∷ [] else []
 
 -- the operation of a line as the journal has it
 abbrev pub own_place : NotedLine → Placed

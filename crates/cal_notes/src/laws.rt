@@ -2,14 +2,14 @@
 
 ghost use Rattle.std.specs.Prelude.{◌≡◌, ℕ, ◌+◌, ◌≤◌, Bool, List, [], ◌∷◌, ◌++◌, length, Option};
 ghost use Rattle.cal_notes.specs.Notes.{KeepsRules, LineKeeps, OfOthers, known_journal};
-ghost use Rattle.cal_notes.specs.Running.{HasNoted, RunsNext, next_line, number_placed};
+ghost use Rattle.cal_notes.specs.Running.{HasNoted, IsNextLine, RunsNext, number_placed};
 ghost use Rattle.cal_notes.specs.Running.{previous_behind, started, state_behind, with_line};
 ghost use Rattle.cal_notes.specs.Together.{HaveEnded};
-ghost use Rattle.cal_run.specs.Lawful.{IsRead, Lawful, placed_of, takes_start_reading};
+ghost use Rattle.cal_run.specs.Lawful.{IsRead, Lawful, NotedLine, placed_of};
+ghost use Rattle.cal_run.specs.Lawful.{takes_start_reading};
 ghost use Rattle.cal_run.specs.Runs.{taken_by_thread};
 ghost use Rattle.cal_run.specs.Steps.{state_after, taken_in};
 ghost use Rattle.cal_script.specs.declared.journal.Journal.{Journal};
-ghost use Rattle.cal_script.specs.declared.journal.LineNote.{LineNote};
 ghost use Rattle.cal_script.specs.declared.journal.Placed.{Placed};
 ghost use Rattle.cal_script.specs.declared.journal.ThreadNote.{ThreadNote};
 ghost use Rattle.cal_script.specs.declared.script.Channel.{Channel};
@@ -29,22 +29,21 @@ pub fn start_law()
 /// thread this comes from what it learned by the line.
 pub fn next_line_law()
     ensures rules { (script : Script) (real : Bool) (h more : List Placed) (thread : ℕ)
-        (ls : List Line) (note : ThreadNote) (line : Line) (n : LineNote)
-        → KeepsRules script real h thread ls note
-        → LineKeeps script (known_journal real (h ++ more))
-        (next_line script h thread ls note line n)
-        → placed_of thread more ≡ number_placed script (length ls + 1) line
-        → KeepsRules script real (h ++ more) thread (ls ++ line ∷ []) (with_line note n) }
+        (ls : List Line) (note : ThreadNote) (n : NotedLine)
+        → KeepsRules script real h thread ls note → IsNextLine script h thread ls note n
+        → LineKeeps script (known_journal real (h ++ more)) n
+        → placed_of thread more ≡ number_placed script n
+        → KeepsRules script real (h ++ more) thread (ls ++ n.line ∷ []) (with_line note n.note) }
     ensures running { (script : Script) (real : Bool) (h more : List Placed) (thread : ℕ)
-        (ls : List Line) (note : ThreadNote) (line : Line) (n : LineNote)
-        → HasNoted script real h thread ls note
-        → RunsNext script real h more (next_line script h thread ls note line n)
-        → HasNoted script real (h ++ more) thread (ls ++ line ∷ []) (with_line note n) }
+        (ls : List Line) (note : ThreadNote) (n : NotedLine)
+        → HasNoted script real h thread ls note → IsNextLine script h thread ls note n
+        → RunsNext script real h more n
+        → HasNoted script real (h ++ more) thread (ls ++ n.line ∷ []) (with_line note n.note) }
     ensures state { (script : Script) (real : Bool) (h more : List Placed) (thread : ℕ)
-        (ls : List Line) (note : ThreadNote) (line : Line) (n : LineNote)
-        → KeepsRules script real h thread ls note
-        → state_behind script (h ++ more) (ls ++ line ∷ []) (with_line note n)
-        ≡ state_after script (h ++ more) line n (state_behind script h ls note) }
+        (ls : List Line) (note : ThreadNote) (n : NotedLine)
+        → KeepsRules script real h thread ls note → IsNextLine script h thread ls note n
+        → state_behind script (h ++ more) (ls ++ n.line ∷ []) (with_line note n.note)
+        ≡ state_after script (h ++ more) n.line n.note n.state }
 {}
 
 /// The law of more history: what keeps the rules by a beginning of the history keeps them by a
@@ -75,10 +74,10 @@ pub fn same_snapshots_law()
         → taken_by_thread script (h ++ more) channel (ls, note)
         ≡ taken_by_thread script h channel (ls, note) }
     ensures next { (script : Script) (real : Bool) (h more : List Placed) (thread : ℕ)
-        (ls : List Line) (note : ThreadNote) (line : Line) (n : LineNote) (channel : Channel)
-        → KeepsRules script real h thread ls note
-        → taken_by_thread script (h ++ more) channel (ls ++ line ∷ [], with_line note n)
+        (ls : List Line) (note : ThreadNote) (n : NotedLine) (channel : Channel)
+        → KeepsRules script real h thread ls note → IsNextLine script h thread ls note n
+        → taken_by_thread script (h ++ more) channel (ls ++ n.line ∷ [], with_line note n.note)
         ≡ taken_by_thread script h channel (ls, note)
-        ++ taken_in script (h ++ more) line n (state_behind script h ls note) channel
+        ++ taken_in script (h ++ more) n.line n.note n.state channel
         (previous_behind script h channel ls note) }
 {}
