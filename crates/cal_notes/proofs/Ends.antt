@@ -1,5 +1,5 @@
 -- The notes of all threads and the whole history are a lawful journal.
-use Rattle.std.proofs.Common.{◌≡◌, ◌≢◌, ℕ, suc, zero, ◌+◌, ◌<◌, List, [], ◌∷◌, ◌++◌, length, get_or}
+use Rattle.std.proofs.Common.{◌≡◌, ℕ, suc, zero, ◌+◌, ◌<◌, List, [], ◌∷◌, length, get_or}
 use Rattle.std.proofs.Common.{refl, sym, ap, ◌∙◌, subst, arith}
 use Rattle.std.specs.Prelude.{Any, Option, Some, None, flat_map, slice_get, zip}
 use Rattle.std.specs.List.{All, AllZip, Contains, enumerate_from}
@@ -7,14 +7,13 @@ use Rattle.std.proofs.lemmas.List.Elements.{All-append, All-cons, All-nil, All-w
 use Rattle.std.proofs.lemmas.List.Elements.{Contains-append_left, Contains-append_right}
 use Rattle.std.proofs.lemmas.Option.{slice_get-get_or, slice_get_within}
 use Rattle.cal_board.specs.Blackboard.{Blackboard}
-use Rattle.cal_notes.proofs.Fronts.{lines-front, read-front}
+use Rattle.cal_notes.proofs.Fronts.{lines-front}
 use Rattle.cal_notes.proofs.Lists.{placed_of-front}
 use Rattle.cal_notes.specs.Notes.{IsFlushNote, IsNotedReply, LineKeeps}
-use Rattle.cal_notes.specs.Together.{HasEnded, HasFlushed, HasMerged, HaveEnded, RanLines}
-use Rattle.cal_notes.specs.Together.{WasFlushed}
+use Rattle.cal_notes.specs.Together.{HasMerged, HaveEnded, RanLines}
 use Rattle.cal_run.specs.Lawful.{HasOrder, HasShape, IsAnswer, IsAnswered, IsFlushReply, IsMerged}
 use Rattle.cal_run.specs.Lawful.{Lawful, NotedLine, StartIsRead, noted_from, noted_lines, noted_of}
-use Rattle.cal_run.specs.Lawful.{placed_of, process_lines, takes_start_reading}
+use Rattle.cal_run.specs.Lawful.{placed_of}
 use Rattle.cal_run.specs.Steps.{ThreadState, acted_on, at_start, found_reply, reply_to_line}
 use Rattle.cal_run.specs.Steps.{state_after}
 use Rattle.cal_script.specs.declared.journal.Journal.{Journal}
@@ -255,8 +254,8 @@ module _ (script : Script) (journal : Journal) where
           ran = ran;
           noted = slice_get-get_or journal.threads thread no_note (omega (arith, within, many));
         }) in
-        ap (placed_of thread) ended.whole
-        ∙ placed_of-front thread ended.known ended.more ended.others
+        ap (placed_of thread) ended.begins.whole
+        ∙ placed_of-front thread ended.known ended.begins.more ended.begins.others
         ∙ ended.keeps.order
 
     starts : All (StartIsRead script journal) journal.threads
@@ -282,8 +281,8 @@ module _ (script : Script) (journal : Journal) where
         let ns : List NotedLine = noted_of script journal.ops (thread, (ls, note)) in
         let n : NotedLine = get_or ns k d in
         let keeps : LineKeeps script journal n =
-        lines-front script journal.real ended.known thread ls note ended.keeps journal ended.more
-        ended.whole refl k d below in
+        lines-front script journal.real ended.known thread ls note ended.keeps journal ended.begins.more
+        ended.begins.whole refl k d below in
         let from : IsFrom script journal.ops thread (zip ls note.lines) n =
         lines-from script journal.ops thread 1 0 at_start (zip ls note.lines) k d below in
         let at = from.there in (

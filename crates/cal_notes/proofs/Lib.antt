@@ -3,3 +3,4 @@ pub mod Fronts
 pub mod NextLines
 pub mod Taken
 pub mod Ends
+pub mod Histories

@@ -6,6 +6,7 @@ use Rattle.std.specs.List.{cons_option, enumerate_from}
 use Rattle.std.proofs.lemmas.Bool.{eq-eqb, ne_eqb}
 use Rattle.std.proofs.lemmas.List.Elements.{filter_map-append}
 use Rattle.cal_notes.specs.Notes.{OfOthers}
+use Rattle.cal_notes.specs.Running.{number_placed}
 use Rattle.cal_run.specs.Lawful.{placed_of, process_lines}
 use Rattle.cal_run.specs.Lines.{is_process_line}
 use Rattle.cal_script.specs.declared.journal.Placed.{Placed}
@@ -47,7 +48,7 @@ placed_number script l = if is_process_line script l.1 then Some l.0 else None
 -- those of one line more
 pub process_lines-push : (script : Script) (ls : List Line) (l : Line)
     → process_lines script (ls ++ l ∷ [])
-    ≡ process_lines script ls ++ (if is_process_line script l then (length ls + 1) ∷ [] else [])
+    ≡ process_lines script ls ++ number_placed script (length ls + 1) l
 process_lines-push script ls l =
     ap (filter_map (placed_number script)) (enumerate_from-push 1 ls l)
     ∙ filter_map-append (placed_number script) (enumerate_from 1 ls) ((1 + length ls, l) ∷ [])
@@ -82,4 +83,5 @@ module _ (thread : ℕ) where
   pub placed_of-own : (number : ℕ)
       → placed_of thread (record { thread = thread; line = number } ∷ []) ≡ number ∷ []
   placed_of-own number =
-      ap (λ (b : Bool). cons_option (if b then Some number else None) []) (eq-eqb thread thread refl)
+      ap (λ (b : Bool). cons_option (if b then Some number else None) [])
+      (eq-eqb thread thread refl)

@@ -1,20 +1,19 @@
 -- One line more.
-use Rattle.std.proofs.Common.{◌≡◌, ℕ, suc, zero, ◌+◌, ◌-◌, ◌<◌, ◌≤◌, List, [], ◌∷◌, ◌++◌, Bool}
+use Rattle.std.proofs.Common.{◌≡◌, ℕ, suc, ◌+◌, ◌-◌, List, [], ◌∷◌, ◌++◌, Bool}
 use Rattle.std.proofs.Common.{true, false, if◌then◌else◌, length, map, refl, sym, ap, ◌∙◌, subst}
 use Rattle.std.proofs.Common.{append_assoc, append-nil, arith}
-use Rattle.std.specs.Prelude.{Option, Some, slice_get, zip}
-use Rattle.std.specs.List.{All}
+use Rattle.std.specs.Prelude.{Option, slice_get, zip}
 use Rattle.std.proofs.lemmas.List.{length-append}
 use Rattle.std.proofs.lemmas.List.Elements.{All-nil, All-push, All-same}
 use Rattle.std.proofs.lemmas.Slice.Zip.{length-zip, seconds-zip}
 use Rattle.cal_notes.proofs.Fronts.{lines-front, state-front}
 use Rattle.cal_notes.proofs.Lists.{placed_of-append, placed_of-others, placed_of-own}
 use Rattle.cal_notes.proofs.Lists.{process_lines-push, slice_get-last, zip-push}
-use Rattle.cal_notes.specs.Notes.{KeepsRules, LineKeeps, OfOthers, known_journal}
-use Rattle.cal_notes.specs.Running.{HasNoted, IsNextLine, Learns, RunsNext, number_placed}
-use Rattle.cal_notes.specs.Running.{own_place, seen_from, started, state_behind, with_line}
+use Rattle.cal_notes.specs.Notes.{KeepsRules, LineKeeps, known_journal}
+use Rattle.cal_notes.specs.Running.{HasNoted, Learns, RunsNext, next_line, number_placed, own_place}
+use Rattle.cal_notes.specs.Running.{seen_behind, seen_from, started, state_behind, with_line}
 use Rattle.cal_run.specs.Lawful.{IsRead, NotedLine, SeesOwn, noted_from, noted_of, placed_of}
-use Rattle.cal_run.specs.Lawful.{process_lines, takes_start_reading}
+use Rattle.cal_run.specs.Lawful.{takes_start_reading}
 use Rattle.cal_run.specs.Lines.{is_process_line}
 use Rattle.cal_run.specs.Runs.{state_after_lines}
 use Rattle.cal_run.specs.Steps.{ThreadState, at_start, looks, state_after}
@@ -106,74 +105,71 @@ starts script real thread start read = record {
 -- ---- the next line
 
 module _ (script : Script) (real : Bool) (h more : List Placed) (thread : ℕ) (ls : List Line)
-    (note : ThreadNote) (n : NotedLine) (keeps : KeepsRules script real h thread ls note)
-    (is : IsNextLine script h thread ls note n) where
+    (note : ThreadNote) (l : Line) (n : LineNote)
+    (keeps : KeepsRules script real h thread ls note) where
   abbrev whole : List Placed
   whole = h ++ more
 
   abbrev pairs : List (Line × LineNote)
   pairs = zip ls note.lines
 
-  pairs-more : zip (ls ++ n.line ∷ []) (note.lines ++ n.note ∷ []) ≡ pairs ++ (n.line, n.note) ∷ []
-  pairs-more = zip-push ls note.lines n.line n.note keeps.long
+  abbrev next : NotedLine
+  next = next_line script h thread ls note l n
 
-  state-is : state_after_lines script whole at_start pairs ≡ n.state
-  state-is = state-front script real h thread ls note keeps more ∙ sym is.state
+  pairs-more : zip (ls ++ l ∷ []) (note.lines ++ n ∷ []) ≡ pairs ++ (l, n) ∷ []
+  pairs-more = zip-push ls note.lines l n keeps.long
 
-  next-is : line_behind script whole thread 1 0 at_start pairs (n.line, n.note) ≡ n
+  next-is : line_behind script whole thread 1 0 at_start pairs (l, n) ≡ next
   next-is =
       let long = keeps.long in
       let both = length-zip ls note.lines in
-      let at = is.number in
-      let number : 1 + length pairs ≡ n.number = omega (arith, long, both, at) in
-      let before : seen_from 0 (notes_of pairs) ≡ n.before =
-      ap (seen_from 0) (seconds-zip ls note.lines long) ∙ sym is.before in
-      let of_thread = sym is.of_thread in
+      let number : 1 + length pairs ≡ length ls + 1 = omega (arith, long, both) in
+      let before : seen_from 0 (notes_of pairs) ≡ seen_behind note =
+      ap (seen_from 0) (seconds-zip ls note.lines long) in
+      let state = state-front script real h thread ls note keeps more in
       λ j. record {
-        thread = of_thread j;
+        thread = thread;
         number = number j;
-        line = n.line;
-        note = n.note;
+        line = l;
+        note = n;
         before = before j;
-        state = state-is j;
+        state = state j;
       }
 
-  noted-more : noted_of script whole (thread, (ls ++ n.line ∷ [], with_line note n.note))
-      ≡ noted_of script whole (thread, (ls, note)) ++ n ∷ []
+  noted-more : noted_of script whole (thread, (ls ++ l ∷ [], with_line note n))
+      ≡ noted_of script whole (thread, (ls, note)) ++ next ∷ []
   noted-more =
       ap (noted_from script whole thread 1 0 at_start) pairs-more
-      ∙ noted_from-push script whole thread 1 0 at_start pairs (n.line, n.note)
+      ∙ noted_from-push script whole thread 1 0 at_start pairs (l, n)
       ∙ ap (λ (m : NotedLine). noted_of script whole (thread, (ls, note)) ++ m ∷ []) next-is
 
-  pub state-next : state_behind script whole (ls ++ n.line ∷ []) (with_line note n.note)
-      ≡ state_after script whole n.line n.note n.state
+  pub state-next : state_behind script whole (ls ++ l ∷ []) (with_line note n)
+      ≡ state_after script whole l n (state_behind script h ls note)
   state-next =
       ap (state_after_lines script whole at_start) pairs-more
-      ∙ state_after_lines-push script whole at_start pairs (n.line, n.note)
-      ∙ ap (state_after script whole n.line n.note) state-is
+      ∙ state_after_lines-push script whole at_start pairs (l, n)
+      ∙ ap (state_after script whole l n) (state-front script real h thread ls note keeps more)
 
-  pub rules-next : LineKeeps script (known_journal real whole) n
-      → placed_of thread more ≡ number_placed script n
-      → KeepsRules script real whole thread (ls ++ n.line ∷ []) (with_line note n.note)
+  pub rules-next : LineKeeps script (known_journal real whole) next
+      → placed_of thread more ≡ number_placed script (length ls + 1) l
+      → KeepsRules script real whole thread (ls ++ l ∷ []) (with_line note n)
   rules-next line places =
       let long = keeps.long in
-      let notes = length-append note.lines (n.note ∷ []) in
-      let lines = length-append ls (n.line ∷ []) in
+      let notes = length-append note.lines (n ∷ []) in
+      let lines = length-append ls (l ∷ []) in
       record {
         long = omega (arith, long, notes, lines);
         start = record { there = keeps.start.there; value = keeps.start.value };
         lines = All-same (LineKeeps script (known_journal real whole))
-            (noted_of script whole (thread, (ls ++ n.line ∷ [], with_line note n.note)))
-            (noted_of script whole (thread, (ls, note)) ++ n ∷ []) noted-more
+            (noted_of script whole (thread, (ls ++ l ∷ [], with_line note n)))
+            (noted_of script whole (thread, (ls, note)) ++ next ∷ []) noted-more
             (All-push (LineKeeps script (known_journal real whole))
-            (noted_of script whole (thread, (ls, note))) n
+            (noted_of script whole (thread, (ls, note))) next
             (lines-front script real h thread ls note keeps (known_journal real whole) more refl
             refl) line);
         order = placed_of-append thread h more
             ∙ (λ j. keeps.order j ++ places j)
-            ∙ ap (λ (k : ℕ). process_lines script ls
-            ++ (if is_process_line script n.line then k ∷ [] else [])) is.number
-            ∙ sym (process_lines-push script ls n.line);
+            ∙ sym (process_lines-push script ls l);
       }
 
 -- ---- a running thread's next line
@@ -190,58 +186,64 @@ learned-places true k own more learns =
 learned-places false true own more learns = placed_of-others own.thread more learns
 learned-places false false own more learns = ap (placed_of own.thread) learns
 
-module _ (script : Script) (real : Bool) (h more : List Placed) (n : NotedLine)
-    (runs : RunsNext script real h more n) (before : n.before ≡ length h) where
-  abbrev look : Bool
-  look = looks script (h ++ more) n.line n.note n.state
+module _ (script : Script) (real : Bool) (h more : List Placed) (thread : ℕ) (ls : List Line)
+    (note : ThreadNote) (l : Line) (n : LineNote) (noted : HasNoted script real h thread ls note)
+    (runs : RunsNext script real h more (next_line script h thread ls note l n)) where
+  abbrev coming : NotedLine
+  coming = next_line script h thread ls note l n
 
-  sees-own : is_process_line script n.line ≡ true → SeesOwn script (known_journal real (h ++ more)) n
+  abbrev own : Placed
+  own = own_place coming
+
+  sees-own : is_process_line script l ≡ true
+      → SeesOwn script (known_journal real (h ++ more)) coming
   sees-own process =
-      let learns : Learns true look (own_place n) more =
-      subst (λ p. Learns p look (own_place n) more) process runs.learns in
+      let learns : Learns true (looks script (h ++ more) l n coming.state) own more =
+      subst (λ p. Learns p (looks script (h ++ more) l n coming.state) own more) process runs.learns
+      in
       let others : List Placed = learns.0 in
-      let cut : h ++ more ≡ (h ++ others) ++ own_place n ∷ [] =
-      ap (λ ops. h ++ ops) learns.2 ∙ sym (append_assoc h others (own_place n ∷ [])) in
+      let cut : h ++ more ≡ (h ++ others) ++ own ∷ [] =
+      ap (λ ops. h ++ ops) learns.2 ∙ sym (append_assoc h others (own ∷ [])) in
       let seen = runs.seen in
+      let before = noted.seen in
       let all = ap length cut in
-      let sum = length-append (h ++ others) (own_place n ∷ []) in
+      let sum = length-append (h ++ others) (own ∷ []) in
       let front = length-append h others in
-      let last : n.note.seen - 1 ≡ length (h ++ others) = omega (arith, seen, all, sum) in
+      let last : n.seen - 1 ≡ length (h ++ others) = omega (arith, seen, all, sum) in
       record {
         some = omega (arith, seen, all, sum);
-        own = (λ j. slice_get (cut j) (last j)) ∙ slice_get-last (h ++ others) (own_place n);
+        own = (λ j. slice_get (cut j) (last j)) ∙ slice_get-last (h ++ others) own;
         before = omega (arith, seen, before, all, sum, front);
       }
 
-  seen-fixed : is_process_line script n.line ≡ false → look ≡ false → n.note.seen ≡ n.before
-  seen-fixed own still =
-      let learns : Learns false false (own_place n) more =
-      subst (λ k. Learns false k (own_place n) more) still
-      (subst (λ p. Learns p look (own_place n) more) own runs.learns) in
-      runs.seen ∙ ap (λ ops. length (h ++ ops)) learns ∙ ap length (append-nil h) ∙ sym before
+  fixed : is_process_line script l ≡ false → looks script (h ++ more) l n coming.state ≡ false
+      → n.seen ≡ seen_behind note
+  fixed own_line still =
+      let learns : Learns false false own more =
+      subst (λ k. Learns false k own more) still
+      (subst (λ p. Learns p (looks script (h ++ more) l n coming.state) own more) own_line
+      runs.learns) in
+      runs.seen ∙ ap (λ ops. length (h ++ ops)) learns ∙ ap length (append-nil h)
+      ∙ sym noted.seen
 
-  line-keeps : LineKeeps script (known_journal real (h ++ more)) n
+  line-keeps : LineKeeps script (known_journal real (h ++ more)) coming
   line-keeps =
       let seen = runs.seen in
+      let before = noted.seen in
       let sum = length-append h more in
       record {
         rises = omega (arith, seen, before, sum);
         within = omega (arith, seen);
         own = sees-own;
-        fixed = seen-fixed;
+        fixed = fixed;
         read = runs.read;
         answered = runs.answered;
       }
 
-pub noted-next : (script : Script) (real : Bool) (h more : List Placed) (thread : ℕ)
-    (ls : List Line) (note : ThreadNote) (n : NotedLine) → HasNoted script real h thread ls note
-    → IsNextLine script h thread ls note n → RunsNext script real h more n
-    → HasNoted script real (h ++ more) thread (ls ++ n.line ∷ []) (with_line note n.note)
-noted-next script real h more thread ls note n noted is runs = record {
-  rules = rules-next script real h more thread ls note n noted.rules is
-      (line-keeps script real h more n runs (is.before ∙ noted.seen))
-      (ap (λ (t : ℕ). placed_of t more) (sym is.of_thread)
-      ∙ learned-places (is_process_line script n.line)
-      (looks script (h ++ more) n.line n.note n.state) (own_place n) more runs.learns);
-  seen = seen_from-push 0 note.lines n.note ∙ runs.seen;
-}
+  pub noted-next : HasNoted script real (h ++ more) thread (ls ++ l ∷ []) (with_line note n)
+  noted-next = record {
+    rules = rules-next script real h more thread ls note l n noted.rules line-keeps
+        (learned-places (is_process_line script l) (looks script (h ++ more) l n coming.state)
+        own more runs.learns);
+    seen = seen_from-push 0 note.lines n ∙ runs.seen;
+  }

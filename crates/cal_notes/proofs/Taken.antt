@@ -5,10 +5,8 @@ use Rattle.std.specs.Prelude.{Bool, unwrap_or, zip}
 use Rattle.cal_notes.proofs.Fronts.{have-seen, state-front}
 use Rattle.cal_notes.proofs.Lists.{zip-push}
 use Rattle.cal_notes.specs.Notes.{KeepsRules}
-use Rattle.cal_notes.specs.Running.{IsNextLine, previous_behind, previous_from}
-use Rattle.cal_notes.specs.Running.{with_line}
+use Rattle.cal_notes.specs.Running.{previous_behind, previous_from, state_behind, with_line}
 use Rattle.cal_run.proofs.FrontLemmas.{previous_after-front, state_after-front, taken_from-front}
-use Rattle.cal_run.specs.Lawful.{NotedLine}
 use Rattle.cal_run.specs.Runs.{state_after_lines, taken_by_thread, taken_from}
 use Rattle.cal_run.specs.Seeing.{HaveSeen}
 use Rattle.cal_run.specs.Steps.{ThreadState, at_start, previous_after, state_after, taken_in}
@@ -68,16 +66,15 @@ module _ (script : Script) (real : Bool) (h more : List Placed) (thread : ℕ) (
       ≡ taken_by_thread script h channel (ls, note)
   taken-same = taken_from-front script h more channel at_start start pairs seen
 
-  pub taken-next : (n : NotedLine) → IsNextLine script h thread ls note n
-      → taken_by_thread script (h ++ more) channel (ls ++ n.line ∷ [], with_line note n.note)
+  pub taken-next : (l : Line) (n : LineNote)
+      → taken_by_thread script (h ++ more) channel (ls ++ l ∷ [], with_line note n)
       ≡ taken_by_thread script h channel (ls, note)
-      ++ taken_in script (h ++ more) n.line n.note n.state channel
+      ++ taken_in script (h ++ more) l n (state_behind script h ls note) channel
       (previous_behind script h channel ls note)
-  taken-next n is =
-      let state = state-front script real h thread ls note keeps more ∙ sym is.state in
+  taken-next l n =
+      let state = state-front script real h thread ls note keeps more in
       let last = previous_from-front script channel h more at_start start pairs seen in
       ap (taken_from script (h ++ more) channel at_start start)
-      (zip-push ls note.lines n.line n.note keeps.long)
-      ∙ taken_from-push script channel (h ++ more) at_start start pairs (n.line, n.note)
-      ∙ (λ j. taken-same j
-      ++ taken_in script (h ++ more) n.line n.note (state j) channel (last j))
+      (zip-push ls note.lines l n keeps.long)
+      ∙ taken_from-push script channel (h ++ more) at_start start pairs (l, n)
+      ∙ (λ j. taken-same j ++ taken_in script (h ++ more) l n (state j) channel (last j))

@@ -43,17 +43,21 @@ with_line note n = record { start = note.start; lines = note.lines ++ n ∷ [] }
 
 -- ---- the next line
 
--- A line with its note is the next one of a thread, behind these lines.
-pub record IsNextLine (script : Script) (h : List Placed) (thread : ℕ) (ls : List Line)
-    (note : ThreadNote) (n : NotedLine) : Type 0 where
-  pub of_thread : n.thread ≡ thread
-  pub number : n.number ≡ length ls + 1
-  pub before : n.before ≡ seen_behind note
-  pub state : n.state ≡ state_behind script h ls note
+-- the next line of a thread, with its note
+abbrev pub next_line : Script → List Placed → (thread : ℕ) → List Line → ThreadNote → Line
+    → LineNote → NotedLine
+next_line script h thread ls note l n = record {
+  thread = thread;
+  number = length ls + 1;
+  line = l;
+  note = n;
+  before = seen_behind note;
+  state = state_behind script h ls note;
+}
 
 -- the number that a line has in the history, if it is a process line
-abbrev pub number_placed : Script → NotedLine → List ℕ
-number_placed script n = if is_process_line script n.line then n.number ∷ [] else []
+abbrev pub number_placed : Script → (number : ℕ) → Line → List ℕ
+number_placed script number l = if is_process_line script l then number ∷ [] else []
 
 -- the operation of a line as the journal has it
 abbrev pub own_place : NotedLine → Placed
@@ -61,8 +65,8 @@ own_place n = record { thread = n.thread; line = n.number }
 
 -- What a thread learns of the history by a line: by a process line its own operation, behind others
 -- of other threads; by a line that looks others; and else nothing.
-abbrev pub Learns : (process looks : Bool) → (own : Placed) → List Placed → Type 0
-Learns true looks own more =
+abbrev pub Learns : (process look : Bool) → (own : Placed) → List Placed → Type 0
+Learns true look own more =
     (others : List Placed) × OfOthers own.thread others × (more ≡ others ++ own ∷ [])
 Learns false true own more = OfOthers own.thread more
 Learns false false own more = more ≡ []

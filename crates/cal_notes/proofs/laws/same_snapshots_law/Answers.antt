@@ -5,5 +5,5 @@ pub returns-clause-same : goal.returns-clause-same
 returns-clause-same c = taken-same
 
 pub returns-clause-next : goal.returns-clause-next
-returns-clause-next c = λ script real h more thread ls note n channel keeps is.
-    taken-next script real h more thread ls note channel keeps n is
+returns-clause-next c = λ script real h more thread ls note line n channel keeps.
+    taken-next script real h more thread ls note channel keeps line n
