@@ -69,9 +69,9 @@ pub fn more_history_law()
         → state_behind script (h ++ more) ls note ≡ state_behind script h ls note }
 {}
 
-/// The law of the whole history, as the first seat has seen it: its operations are the script's; and
-/// what a thread has seen whose seat was joined is a beginning of it, behind which no operation is the
-/// thread's, if it has seen all that it published.
+/// The law of the whole history, as the first seat has seen it. Its operations are process lines of
+/// the script. What a thread has seen whose seat was joined is a beginning of it, behind which no
+/// operation is the thread's, if it has seen all that it published.
 pub fn whole_history_law()
     ensures known { (script : Script) (plan : Plan OpSort) (v : View OpSort) (all : List OpRec)
         → IsSound op_law plan v → HasSeen plan.shape.slots v all
@@ -86,10 +86,13 @@ pub fn whole_history_law()
 
 /// The law of the end: where each thread's notes of all its lines keep the rules by a beginning of
 /// the history, behind which nothing is that thread's, the whole history is the script's, and the
-/// holder of each busy flush has merged, the notes and the history are a lawful journal.
+/// holder of each busy flush has merged, the notes and the history are a lawful journal; and the
+/// threads of every lawful journal are so.
 pub fn together_law()
-    ensures { (script : Script) (journal : Journal) → HaveEnded script journal
+    ensures lawful { (script : Script) (journal : Journal) → HaveEnded script journal
         → Lawful script journal }
+    ensures ended { (script : Script) (journal : Journal) → Lawful script journal
+        → HaveEnded script journal }
 {}
 
 /// The law of snapshots: what a channel takes of a thread's lines is the same by what the thread
