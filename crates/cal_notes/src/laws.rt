@@ -16,7 +16,7 @@ ghost use Rattle.cal_process.specs.Operations.{IsOpOf, history_of};
 ghost use Rattle.cal_run.specs.Lawful.{IsKnown, IsRead, Lawful, placed_of};
 ghost use Rattle.cal_run.specs.Lawful.{takes_start_reading};
 ghost use Rattle.cal_run.specs.Runs.{taken_by_thread};
-ghost use Rattle.cal_run.specs.Steps.{state_after, taken_in};
+ghost use Rattle.cal_run.specs.Steps.{previous_after, state_after, taken_in};
 ghost use Rattle.cal_script.specs.declared.journal.Journal.{Journal};
 ghost use Rattle.cal_script.specs.declared.journal.LineNote.{LineNote};
 ghost use Rattle.cal_script.specs.declared.journal.Placed.{Placed};
@@ -96,7 +96,8 @@ pub fn together_law()
 {}
 
 /// The law of snapshots: what a channel takes of a thread's lines is the same by what the thread
-/// knows of the history and by more; and with the next line comes what that line takes.
+/// knows of the history and by more. With the next line comes what that line takes, and the
+/// channel's last reading is then the line's, or that of before.
 pub fn same_snapshots_law()
     ensures same { (script : Script) (real : Bool) (h more : List Placed) (thread : ℕ)
         (ls : List Line) (note : ThreadNote) (channel : Channel)
@@ -109,5 +110,11 @@ pub fn same_snapshots_law()
         → taken_by_thread script (h ++ more) channel (ls ++ line ∷ [], with_line note n)
         ≡ taken_by_thread script h channel (ls, note)
         ++ taken_in script (h ++ more) line n (state_behind script h ls note) channel
+        (previous_behind script h channel ls note) }
+    ensures previous { (script : Script) (real : Bool) (h more : List Placed) (thread : ℕ)
+        (ls : List Line) (note : ThreadNote) (line : Line) (n : LineNote) (channel : Channel)
+        → KeepsRules script real h thread ls note
+        → previous_behind script (h ++ more) channel (ls ++ line ∷ []) (with_line note n)
+        ≡ previous_after script (h ++ more) line n (state_behind script h ls note) channel
         (previous_behind script h channel ls note) }
 {}
