@@ -4,7 +4,7 @@ ghost use Rattle.std.specs.Prelude.{◌≡◌, ◌<◌};
 use crate::example::{rows, snapshots};
 use crate::looks::{is_true, shows_all, wrong_row};
 use crate::one::{add_all, add_numbered, shape_of};
-use cal_table::Table;
+use cal_table::{Table, TableShape};
 use cal_value::OutOfMemory;
 use std::alloc::Global;
 use std::hash::RandomState;
@@ -38,29 +38,28 @@ fn take_in(table: &mut Table, part: Table) -> Result<(), OutOfMemory>
     }
 }
 
-// Fills the part, takes all of it out, and merges that into the table.
+// Merges a table of two snapshots into another one.
 fn give(
     alloc: Global,
     table: &mut Table,
-    part: &mut Table,
+    shape: &TableShape,
     number: usize,
 ) -> Result<(), OutOfMemory>
     requires few { number < 64 }
-    requires made { part.old.shape ≡ table.old.shape }
-    ensures table { table.new.shape ≡ table.old.shape }
-    ensures part { part.new.shape ≡ part.old.shape }
+    requires made { table.old.shape ≡ shape.now }
+    ensures { table.new.shape ≡ table.old.shape }
 {
-    add_two(alloc, part, number)?;
-    let taken = part.take()?;
-    take_in(table, taken)
+    let mut part = Table::new(alloc, shape)?;
+    add_two(alloc, &mut part, number)?;
+    take_in(table, part)
 }
 
 // Merges sixty-four tables, in which each snapshot comes sixteen times.
-fn merge_all(alloc: Global, table: &mut Table, part: &mut Table) -> Result<(), OutOfMemory>
-    requires { part.old.shape ≡ table.old.shape }
+fn merge_all(alloc: Global, table: &mut Table, shape: &TableShape) -> Result<(), OutOfMemory>
+    requires { table.old.shape ≡ shape.now }
 {
     for number in 0..64 {
-        give(alloc, table, part, number)?;
+        give(alloc, table, shape, number)?;
     }
     Ok(())
 }
@@ -78,30 +77,42 @@ fn has_sixteen(alloc: Global, table: &Table) -> Result<bool, OutOfMemory> {
     Ok(wrong_row(alloc, table, rows(), 16)?.is_none() && table.snapshots() == 128)
 }
 
-// Whether the merge of all, and one table to which all was added, show the same.
-fn are_alike(
-    alloc: Global,
-    merged: &mut Table,
-    part: &mut Table,
-    one: &mut Table,
-) -> Result<bool, OutOfMemory>
-    requires { part.old.shape ≡ merged.old.shape }
-{
-    merge_all(alloc, merged, part)?;
+// Whether the merge of all, and one table to which all is added, show the same.
+fn are_alike(alloc: Global, merged: &Table, one: &mut Table) -> Result<bool, OutOfMemory> {
     add_sixteen(alloc, one)?;
     let alike = shows_all(merged, one) && shows_all(one, merged);
     Ok(alike && has_sixteen(alloc, merged)? && has_sixteen(alloc, one)?)
 }
 
+fn is_like_one(alloc: Global, merged: &Table, shape: &TableShape) -> Result<bool, OutOfMemory> {
+    let mut one = Table::new(alloc, shape)?;
+    let alike = are_alike(alloc, merged, &mut one);
+    drop(one);
+    alike
+}
+
+fn merge_and_look(
+    alloc: Global,
+    merged: &mut Table,
+    shape: &TableShape,
+) -> Result<bool, OutOfMemory>
+    requires { merged.old.shape ≡ shape.now }
+{
+    merge_all(alloc, merged, shape)?;
+    is_like_one(alloc, merged, shape)
+}
+
+fn merged_by(alloc: Global, shape: &TableShape) -> Result<bool, OutOfMemory> {
+    let mut merged = Table::new(alloc, shape)?;
+    let alike = merge_and_look(alloc, &mut merged, shape);
+    drop(merged);
+    alike
+}
+
 fn merged(alloc: Global, hashers: RandomState) -> Result<bool, OutOfMemory> {
     let shape = shape_of(alloc, hashers)?;
-    let mut merged = Table::new(alloc, &shape)?;
-    let mut part = Table::new(alloc, &shape)?;
-    let mut one = Table::new(alloc, &shape)?;
-    let alike = are_alike(alloc, &mut merged, &mut part, &mut one);
-    drop(merged);
-    drop(part);
-    drop(one);
+    let alike = merged_by(alloc, &shape);
+    drop(shape);
     alike
 }
 

@@ -117,12 +117,27 @@ fn numbered(alloc: Global, hashers: RandomState) -> Result<Option<usize>, OutOfM
     wrong
 }
 
+fn named_by(
+    alloc: Global,
+    hashers: RandomState,
+    attrs: &Seq<Attribute>,
+    numbers: &AttributeNumbers,
+) -> Result<Option<usize>, OutOfMemory>
+    requires same { numbers.now ≡ attrs.now }
+    requires long { length attrs.now ≡ 4 }
+{
+    let mut table = empty(alloc, hashers)?;
+    let wrong = wrong_named(alloc, &mut table, attrs, numbers);
+    drop(table);
+    wrong
+}
+
 fn named(alloc: Global, hashers: RandomState) -> Result<Option<usize>, OutOfMemory> {
     let attrs = attributes(alloc)?;
     let numbers = AttributeNumbers::of(alloc, hashers, &attrs)?;
-    let mut table = empty(alloc, hashers)?;
-    let wrong = wrong_named(alloc, &mut table, &attrs, &numbers);
-    drop(table);
+    let wrong = named_by(alloc, hashers, &attrs, &numbers);
+    drop(numbers);
+    drop(attrs);
     wrong
 }
 
