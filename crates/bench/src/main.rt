@@ -27,7 +27,9 @@ fn main(rt: HostRuntime) -> Result<()> {
             "table" => table::measure(&rt)?,
             "write" => write::measure(&rt)?,
             "line" => line::measure(&rt)?,
-            _ => println!(rt; "there is no bench `{word}`: values, rows, tree, table, write or line")?,
+            _ => println!(rt;
+                "there is no bench `{word}`: values, rows, tree, table, write or line"
+            )?,
         }
     }
     Ok(())

@@ -10,8 +10,11 @@ use std::alloc::Global;
 
 /// The attributes by their numbers: two keys, the value attribute, and another one.
 const RANK: u32 = 0;
+
 const PHASE: u32 = 1;
+
 const TIME: u32 = 2;
+
 const OTHER: u32 = 3;
 
 /// The nodes of a snapshot, the attributes of its entries, and their numbers.

@@ -55,6 +55,7 @@ pub(crate) fn shape(
 
 // Of each attribute whether it is a key, and whether it is the value attribute.
 const KEYS: [bool; 4] = [true, true, false, false];
+
 const TIMES: [bool; 4] = [false, false, true, false];
 
 fn has_flags(shape: &TableShape) -> bool {
