@@ -1,4 +1,4 @@
-ghost use Rattle.std.specs.Prelude.{◌≡◌, ◌<◌, OnOk, All};
+ghost use Rattle.std.specs.Prelude.{◌≡◌, ◌<◌, IfOk, OnOk, All};
 ghost use Rattle.cal_table.specs.Snapshots.{HasNumberOf64};
 
 use crate::plain_table::{PlainKey, PlainRow, add_plain};
@@ -84,6 +84,32 @@ fn fill(table: &mut Table, snap: &mut NumberedSnap, groups: u32) -> Result<(), O
     Ok(())
 }
 
+// Fills a table, and says how long that took.
+fn time_table(
+    rt: &(impl Clock + Print),
+    table: &mut Table,
+    snap: &mut NumberedSnap,
+    groups: u32,
+) -> Result<()>
+    requires none { table.old.snapshots ≡ 0 }
+    requires groups { 0 < groups }
+{
+    let begun = Instant::now(rt)?;
+    fill(table, snap, groups)?;
+    let took = begun.elapsed(rt)?.as_millis();
+    println!(rt; "a table: {took} ms for {} groups", table.rows().keys.len())?;
+    Ok(())
+}
+
+fn empty(alloc: Global, hashers: RandomState) -> Result<Table, OutOfMemory>
+    ensures { IfOk result (λ table. table.snapshots ≡ 0) }
+{
+    let shape = shape(alloc, hashers)?;
+    let table = Table::new(alloc, &shape);
+    drop(shape);
+    table
+}
+
 fn by_table(
     rt: &(impl Clock + Print + AllocGlobal),
     hashers: RandomState,
@@ -91,14 +117,12 @@ fn by_table(
 ) -> Result<()>
     requires { 0 < groups }
 {
-    let shape = shape(rt.alloc(), hashers)?;
-    let mut table = Table::new(rt.alloc(), &shape)?;
+    let mut table = empty(rt.alloc(), hashers)?;
     let mut snap = NumberedSnap::new(rt.alloc());
-    let begun = Instant::now(rt)?;
-    fill(&mut table, &mut snap, groups)?;
-    let took = begun.elapsed(rt)?.as_millis();
-    println!(rt; "a table: {took} ms for {} groups", table.rows().keys.len())?;
-    Ok(())
+    let timed = time_table(rt, &mut table, &mut snap, groups);
+    drop(snap);
+    drop(table);
+    timed
 }
 
 fn fill_map(
@@ -116,13 +140,26 @@ fn fill_map(
     Ok(())
 }
 
+// Fills a map, and says how long that took.
+fn time_map(
+    rt: &(impl Clock + Print + AllocGlobal),
+    map: &mut HashMap<PlainKey, PlainRow, RandomState>,
+    groups: u32,
+) -> Result<()>
+    requires { 0 < groups }
+{
+    let begun = Instant::now(rt)?;
+    fill_map(rt.alloc(), map, groups)?;
+    let took = begun.elapsed(rt)?.as_millis();
+    println!(rt; "a plain map: {took} ms for {} groups", map.len())?;
+    Ok(())
+}
+
 fn by_map(rt: &(impl Clock + Print + AllocGlobal), hashers: RandomState, groups: u32) -> Result<()>
     requires { 0 < groups }
 {
     let mut map = HashMap::with_hasher(rt.alloc(), hashers);
-    let begun = Instant::now(rt)?;
-    fill_map(rt.alloc(), &mut map, groups)?;
-    let took = begun.elapsed(rt)?.as_millis();
-    println!(rt; "a plain map: {took} ms for {} groups", map.len())?;
-    Ok(())
+    let timed = time_map(rt, &mut map, groups);
+    drop(map);
+    timed
 }
