@@ -1,6 +1,7 @@
 //! A plain hash map of keys, to measure tables by.
 
-use cal_value::OutOfMemory;
+use cal_snap::NumberedSnap;
+use cal_value::{OutOfMemory, Variant};
 use std::alloc::Global;
 use std::collections::HashMap;
 use std::hash::RandomState;
@@ -29,11 +30,18 @@ impl PlainKey {
         }
     }
 
-    fn renew(&mut self, node: u32, number: u32) -> Result<(), OutOfMemory> {
+    // Becomes the key of a snapshot: its nodes, and its entries of the first attribute.
+    fn renew(&mut self, snap: &NumberedSnap) -> Result<(), OutOfMemory> {
         self.nodes.clear();
-        self.nodes.push(node)?;
+        for node in &snap.refs {
+            self.nodes.push(node.0)?;
+        }
         self.imms.clear();
-        self.imms.push((0, u64::from(number)))?;
+        for entry in &snap.imms {
+            if entry.attribute == 0 {
+                self.imms.push((0, number_in(&entry.value)))?;
+            }
+        }
         Ok(())
     }
 
@@ -54,16 +62,34 @@ impl PlainRow {
     }
 }
 
-/// Adds a number to the row of a key, which `draft` becomes.
+// The number of a value, or 0.
+fn number_in(value: &Variant) -> u64 {
+    match value {
+        Variant::Uint(n) => *n,
+        _ => 0,
+    }
+}
+
+// The last number of the second attribute, or 0.
+fn last_number(snap: &NumberedSnap) -> i128 {
+    let mut last = 0;
+    for entry in &snap.imms {
+        if entry.attribute == 1 {
+            last = i128::from(number_in(&entry.value));
+        }
+    }
+    last
+}
+
+/// Adds a snapshot to the row of its key, which `draft` becomes.
 pub fn add_plain(
     alloc: Global,
     map: &mut HashMap<PlainKey, PlainRow, RandomState>,
     draft: &mut PlainKey,
-    key: (u32, u32),
-    number: u32,
+    snap: &NumberedSnap,
 ) -> Result<(), OutOfMemory> {
-    let number = i128::from(number);
-    draft.renew(key.0, key.1)?;
+    let number = last_number(snap);
+    draft.renew(snap)?;
     if let Some(row) = map.get_mut(&*draft) {
         row.add(number);
         return Ok(());

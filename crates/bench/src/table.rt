@@ -18,7 +18,7 @@ use std::time::Instant;
 pub const SNAPSHOTS: u32 = 1_000_000;
 
 /// Times a million snapshots that are added to a table, in a thousand and in a million groups, and
-/// the same in a plain hash map of keys, in turn.
+/// the same snapshots in a plain hash map of keys, in turn.
 pub fn measure(rt: &(impl Clock + Print + AllocGlobal + RandomSource)) -> Result<()> {
     let hashers = RandomState::new(rt)?;
     for groups in [1_000, 1_000_000] {
@@ -128,14 +128,15 @@ fn by_table(
 fn fill_map(
     alloc: Global,
     map: &mut HashMap<PlainKey, PlainRow, RandomState>,
+    snap: &mut NumberedSnap,
     groups: u32,
 ) -> Result<(), OutOfMemory>
     requires { 0 < groups }
 {
     let mut draft = PlainKey::new(alloc);
     for number in 0..SNAPSHOTS {
-        let group = group_of(number, groups);
-        add_plain(alloc, map, &mut draft, (group / 10, group % 10), number)?;
+        renew(snap, number, groups)?;
+        add_plain(alloc, map, &mut draft, snap)?;
     }
     Ok(())
 }
@@ -144,12 +145,13 @@ fn fill_map(
 fn time_map(
     rt: &(impl Clock + Print + AllocGlobal),
     map: &mut HashMap<PlainKey, PlainRow, RandomState>,
+    snap: &mut NumberedSnap,
     groups: u32,
 ) -> Result<()>
     requires { 0 < groups }
 {
     let begun = Instant::now(rt)?;
-    fill_map(rt.alloc(), map, groups)?;
+    fill_map(rt.alloc(), map, snap, groups)?;
     let took = begun.elapsed(rt)?.as_millis();
     println!(rt; "a plain map: {took} ms for {} groups", map.len())?;
     Ok(())
@@ -159,7 +161,9 @@ fn by_map(rt: &(impl Clock + Print + AllocGlobal), hashers: RandomState, groups:
     requires { 0 < groups }
 {
     let mut map = HashMap::with_hasher(rt.alloc(), hashers);
-    let timed = time_map(rt, &mut map, groups);
+    let mut snap = NumberedSnap::new(rt.alloc());
+    let timed = time_map(rt, &mut map, &mut snap, groups);
+    drop(snap);
     drop(map);
     timed
 }
