@@ -1,0 +1,4 @@
+pub mod TraceLemmas
+pub mod MeaningLemmas
+pub mod ClosingLemmas
+pub mod ChannelLemmas
