@@ -2,3 +2,4 @@ pub mod TraceLemmas
 pub mod MeaningLemmas
 pub mod ClosingLemmas
 pub mod ChannelLemmas
+pub mod LawLemmas
