@@ -3,3 +3,4 @@ pub mod MeaningLemmas
 pub mod ClosingLemmas
 pub mod ChannelLemmas
 pub mod LawLemmas
+pub mod SmallLemmas

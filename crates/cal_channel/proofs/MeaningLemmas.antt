@@ -4,6 +4,7 @@ use Rattle.std.proofs.Common.{ap, subst, sym, refl, ◌∙◌, arith}
 use Rattle.std.specs.Prelude.{Option, None, Some, flat_map}
 use Rattle.std.specs.List.{All, AllZip}
 use Rattle.std.specs.Option.{option_map, option_to_list}
+use Rattle.std.proofs.lemmas.List.{map-append}
 use Rattle.std.proofs.lemmas.List.Elements.{All-cons, All-nil}
 use Rattle.std.proofs.lemmas.Option.{slice_get-get_or}
 use Rattle.cal_board.proofs.StandingLemmas.{AllZip-append, parent_of}
@@ -14,8 +15,9 @@ use Rattle.cal_board.specs.Standing.{IsParent, SlotStands, last_nodes}
 use Rattle.cal_board.specs.declared.opened.Opened.{Opened}
 use Rattle.cal_board.specs.declared.opened.Slot.{Slot}
 use Rattle.cal_channel.specs.Channels.{HasSmallNumber, IsPathShown}
-use Rattle.cal_channel.specs.Shown.{immediate_shown, numbered_entry}
+use Rattle.cal_channel.specs.Shown.{immediate_shown, numbered_entry, plain_entry, value_shown}
 use Rattle.cal_channel.specs.declared.shown.ShownEntry.{ShownEntry}
+use Rattle.cal_context.specs.declared.snapshot.Immediate.{Immediate}
 use Rattle.cal_hand.specs.Nodes.{NodeAt}
 use Rattle.cal_once.specs.declared.seat.RowSeat.{RowSeat}
 use Rattle.cal_run.specs.Adding.{AreWithin, entry_by}
@@ -71,13 +73,15 @@ module _ (attributes : List Attribute) (script : Script) (tree : Tree) (seat : R
       let tail : List NodeId =
       flat_map (λ (s : Slot NodeId). option_to_list (last_value s.opened)) hs in
       subst (λ (o : Option NodeId). AllZip (IsPathShown attributes script tree seat)
-      (option_to_list o ++ tail) (entries_of script.attributes (s ∷ ss))) (sym is)
-      (record {
-        opened = s.opened;
-        is_node = stands;
-        known = known 0 s (omega arith);
-        entries = refl;
-      }, rest)
+      (option_to_list o ++ tail) (entries_of script.attributes (s ∷ ss))) (sym is) (
+        record {
+          opened = s.opened;
+          is_node = stands;
+          known = known 0 s (omega arith);
+          entries = refl;
+        },
+        rest,
+      )
 
   -- the last nodes of a board stand for its paths
   pub board-shown : (held : Blackboard NodeId) (b : Blackboard Variant)
@@ -127,3 +131,29 @@ module _ (attributes : List Attribute) (values : List Variant) where
   pub small-alike : (xs : List NumberedEntry) (es : List Entry) → map (entry_of attributes) xs ≡ es
       → All HasSmallNumber es → All HasNumberOf64 xs
   small-alike xs es means small = small-each xs (subst (All HasSmallNumber) (sym means) small)
+
+-- ---- adding
+
+module _ (values : List Variant) where
+  plain-means : (imms : List Immediate)
+      → map (immediate_shown values) (map plain_entry imms) ≡ imms
+  plain-means [] = refl
+  plain-means (i ∷ imms) = λ j. i ∷ plain-means imms j
+
+  -- immediates that were added with their values
+  pub plain-added : (old new : List ShownEntry) (imms : List Immediate)
+      → new ≡ old ++ map plain_entry imms
+      → map (immediate_shown values) new ≡ map (immediate_shown values) old ++ imms
+  plain-added old new imms added = ap (map (immediate_shown values)) added
+      ∙ map-append (immediate_shown values) old (map plain_entry imms)
+      ∙ ap (λ is. map (immediate_shown values) old ++ is) (plain-means imms)
+
+  -- an entry that was added
+  pub one-added : (old new : List ShownEntry) (e : ShownEntry) (v : Variant)
+      → new ≡ old ++ e ∷ [] → value_shown values e.value ≡ v
+      → map (immediate_shown values) new ≡ map (immediate_shown values) old
+      ++ record { attribute = e.attribute; value = v } ∷ []
+  one-added old new e v added is = ap (map (immediate_shown values)) added
+      ∙ map-append (immediate_shown values) old (e ∷ [])
+      ∙ ap (λ w. map (immediate_shown values) old
+      ++ record { attribute = e.attribute; value = w } ∷ []) is

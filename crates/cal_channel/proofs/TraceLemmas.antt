@@ -17,6 +17,13 @@ range-append xs ys from to rises within =
     ap (take (to - from)) (drop-append-le from xs ys (omega (arith, rises, within)))
     ∙ take-append-le (to - from) (drop from xs) ys (omega (arith, l, rises, within))
 
+-- what lies behind the first item
+pub get_or-later : {A : Type 0} (x : A) (xs : List A) (k : ℕ) (d : A) → 0 < k
+    → get_or (x ∷ xs) k d ≡ get_or xs (k - 1) d
+get_or-later x xs zero d later = absurd (omega (arith, later))
+get_or-later x xs (suc k) d later = let e : k ≡ suc k - 1 = omega arith in
+    ap (λ n. get_or xs n d) e
+
 -- what was added stands from the end of a list on
 range-added : {A : Type 0} (xs ys : List A) (from : ℕ) → from ≡ length xs
     → slice_range (xs ++ ys) from (length (xs ++ ys)) ≡ ys

@@ -24,3 +24,7 @@ immediate_shown values e =
 abbrev pub numbered_entry : List variants.Variant → ShownEntry → NumberedEntry
 numbered_entry values e =
     record { attribute = e.attribute.0; value = value_shown values e.value }
+
+-- an immediate as a thread keeps it, with its value whole
+abbrev pub plain_entry : Immediate → ShownEntry
+plain_entry i = record { attribute = i.attribute; value = shown.Plain i.value }

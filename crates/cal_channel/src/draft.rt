@@ -1,6 +1,6 @@
 ghost use Rattle.std.specs.Prelude.{◌≡◌, ◌++◌, IfOk, OnOk, List, map};
 ghost use Rattle.cal_channel.specs.Channels.{Means};
-ghost use Rattle.cal_channel.specs.Shown.{immediate_shown, numbered_entry, value_shown};
+ghost use Rattle.cal_channel.specs.Shown.{numbered_entry, plain_entry, value_shown};
 ghost use Rattle.cal_hand.specs.Nodes.{NodeAt};
 ghost use Rattle.cal_run.specs.Adding.{IsEventValue, MayAskFor, MayHavePlaces, ShowsSome};
 ghost use Rattle.cal_run.specs.Held.{Shows};
@@ -15,7 +15,7 @@ use cal_board::{Board, Draft};
 use cal_context::{AttributeNumber, Immediate};
 use cal_run::{EventValue, ImmediateSink, Moment, Numbers, Operation, Prober, add_immediates};
 use cal_script::{Channel, Script};
-use cal_snap::NumberedSnap;
+use cal_snap::{NumberedEntry, NumberedSnap};
 use cal_value::{OutOfMemory, TryCopy, Variant};
 use cal_words::NodeId;
 use std::alloc::Global;
@@ -62,7 +62,8 @@ impl ImmediateSink for SnapDraft {
         self.lasts.push_values(alloc, board)?;
         let none = Board::new(alloc);
         let lasts = self.lasts.finish(&none, &none)?;
-        add_plain(alloc, &lasts.imms, &mut self.entries)
+        add_plain(alloc, &lasts.imms, &mut self.entries)?;
+        Ok(())
     }
 }
 
@@ -72,9 +73,7 @@ fn add_plain(
     imms: &[Immediate],
     entries: &mut Vec<ShownEntry>,
 ) -> Result<(), OutOfMemory>
-    ensures { OnOk result ((values : List variants.Variant)
-        → map (immediate_shown values) entries.new.items
-        ≡ map (immediate_shown values) entries.old.items ++ imms.now) }
+    ensures { OnOk result (entries.new.items ≡ entries.old.items ++ map plain_entry imms.now) }
 {
     for imm in imms {
         entries.push(ShownEntry {
@@ -142,7 +141,8 @@ impl SnapDraft {
         moment.board.has_few_slots();
         moment.process.has_few_slots();
         moment.board.refs(&mut self.nodes)?;
-        moment.process.refs(&mut self.nodes)
+        moment.process.refs(&mut self.nodes)?;
+        Ok(())
     }
 
     /// Writes the snapshot as a table takes it, in the place of another one. It takes memory where
@@ -159,9 +159,23 @@ impl SnapDraft {
     {
         snap.clear();
         snap.refs.extend_from_slice(&self.nodes)?;
-        for entry in &self.entries {
-            snap.imms.push(entry.numbered(alloc, script)?)?;
-        }
+        number_entries(alloc, script, &self.entries, &mut snap.imms)?;
         Ok(())
     }
+}
+
+/// Adds entries as a table takes them.
+fn number_entries(
+    alloc: Global,
+    script: &Script,
+    more: &[ShownEntry],
+    imms: &mut Vec<NumberedEntry>,
+) -> Result<(), OutOfMemory>
+    ensures { OnOk result (imms.new.items
+        ≡ imms.old.items ++ map (numbered_entry script.now.values) more.now) }
+{
+    for entry in more {
+        imms.push(entry.numbered(alloc, script)?)?;
+    }
+    Ok(())
 }

@@ -1,10 +1,15 @@
-ghost use Rattle.std.specs.Prelude.{◌≡◌, ℕ, ◌<◌, ◌^◌, Bool, List, [], length, Option, Some};
-ghost use Rattle.cal_channel.specs.Channels.{Counts, HasTaken};
+ghost use Rattle.std.specs.Prelude.{◌≡◌, ℕ, ◌<◌, ◌^◌, Bool, List, [], length, All};
+ghost use Rattle.std.specs.Prelude.{Option, Some};
+ghost use Rattle.cal_channel.specs.Channels.{Counts, HasSmallNumber, HasTaken};
 ghost use Rattle.cal_channel.specs.Values.{ChannelValue, HasRoom, new_channel, started_at};
 ghost use Rattle.cal_channel.specs.Values.{with_table};
 ghost use Rattle.cal_once.specs.Seats.{view};
 ghost use Rattle.cal_once.specs.Views.{KnowsMore};
 ghost use Rattle.cal_once.specs.declared.seat.RowSeat.{RowSeat};
+ghost use Rattle.cal_run.proofs.FitLemmas.{FitsBoard, MayBeGood};
+ghost use Rattle.cal_run.specs.Snapshots.{Sight, snapshot_of};
+ghost use Rattle.cal_run.specs.declared.operation.Operation.{Operation as AnOperation};
+ghost use Rattle.cal_script.specs.declared.script.Channel.{Channel as AChannel};
 ghost use Rattle.cal_script.specs.declared.script.Script.{Script};
 ghost use Rattle.cal_table.specs.Tables.{TableValue, empty_table};
 ghost use Rattle.cal_table.specs.declared.shape.TableShape.{TableShape as AShape};
@@ -66,4 +71,13 @@ pub fn room_for_snapshots()
         (seat : RowSeat NodeSort) (c : ChannelValue) (taken unflushed : List Rec)
         → HasTaken attributes script tree seat c taken unflushed
         → length unflushed < 2 ^ 20 → HasRoom c }
+{}
+
+/// The numbers that a snapshot shows are of 64 bits, where its boards fit a script, its reading has
+/// 64 bits, and its operation is one of a line of the script. So it can be taken (`CanTake`).
+pub fn numbers_of_snapshots()
+    ensures { (script : Script) (s : Sight) (channel : AChannel) (op : Option AnOperation)
+        → FitsBoard script s.mine → FitsBoard script s.process → s.reading < 2 ^ 64
+        → MayBeGood script op
+        → All HasSmallNumber (snapshot_of script s channel op).imms }
 {}

@@ -18,6 +18,8 @@ mod trace;
 pub use channel::ThreadChannel;
 pub use closing::{ClosedNode, ClosedNodes, closed};
 pub use draft::SnapDraft;
-pub use laws::{parts_of_channels, room_for_snapshots, taken_at_start, taken_for_good};
+pub use laws::{
+    numbers_of_snapshots, parts_of_channels, room_for_snapshots, taken_at_start, taken_for_good,
+};
 pub use shown::{ShownEntry, ShownValue};
 pub use trace::{Trace, TraceSnap};

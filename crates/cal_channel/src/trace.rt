@@ -1,6 +1,6 @@
-ghost use Rattle.std.specs.Prelude.{◌≡◌, ◌<◌, [], ◌∷◌, ◌++◌, length, slice_index_or, take};
-ghost use Rattle.std.specs.Prelude.{OnErr, OnOk};
-ghost use Rattle.cal_channel.specs.Traces.{ShownSnap};
+ghost use Rattle.std.specs.Prelude.{◌≡◌, ◌<◌, ◌≤◌, [], ◌∷◌, ◌++◌, length, slice_index_or};
+ghost use Rattle.std.specs.Prelude.{OnErr, OnOk, slice_range, take};
+ghost use Rattle.cal_channel.specs.Traces.{ShownSnap, no_end};
 
 use crate::ends::TraceEnd;
 use crate::{ShownEntry, SnapDraft};
@@ -62,18 +62,11 @@ impl Trace {
         ensures { (d : ShownSnap) → slice_index_or self.now place d
             ≡ record { nodes = result.nodes.now; entries = result.entries.now } }
     {
-        let from = if place == 0 {
-            TraceEnd {
-                nodes: 0,
-                entries: 0,
-            }
-        } else {
-            self.ends[place - 1]
-        };
-        let to = self.ends[place];
+        let from = end_before(&self.ends, place);
+        let to = end_at(&self.ends, place);
         TraceSnap {
-            nodes: &self.nodes[from.nodes..to.nodes],
-            entries: &self.entries[from.entries..to.entries],
+            nodes: nodes_between(&self.nodes, from.nodes, to.nodes),
+            entries: entries_between(&self.entries, from.entries, to.entries),
         }
     }
 
@@ -148,4 +141,43 @@ fn add_entries(
         entries.push(entry.copy(alloc)?)?;
     }
     Ok(())
+}
+
+/// Where the snapshot at a place begins: at the end before it.
+fn end_before(ends: &[TraceEnd], place: usize) -> TraceEnd
+    requires { place ≤ length ends.now }
+    ensures { result ≡ slice_index_or (no_end ∷ ends.now) place no_end }
+{
+    if place == 0 {
+        TraceEnd {
+            nodes: 0,
+            entries: 0,
+        }
+    } else {
+        end_at(ends, place - 1)
+    }
+}
+
+/// The end of the snapshot at a place.
+fn end_at(ends: &[TraceEnd], place: usize) -> TraceEnd
+    requires { place < length ends.now }
+    ensures { result ≡ slice_index_or ends.now place no_end }
+{
+    ends[place]
+}
+
+fn nodes_between(nodes: &[NodeId], from: usize, to: usize) -> &[NodeId]
+    requires rises { from ≤ to }
+    requires within { to ≤ length nodes.now }
+    ensures { result.now ≡ slice_range nodes.now from to }
+{
+    &nodes[from..to]
+}
+
+fn entries_between(entries: &[ShownEntry], from: usize, to: usize) -> &[ShownEntry]
+    requires rises { from ≤ to }
+    requires within { to ≤ length entries.now }
+    ensures { result.now ≡ slice_range entries.now from to }
+{
+    &entries[from..to]
 }
