@@ -15,8 +15,8 @@ returns-in_ok-add_numbered-in-Some c =
       refl,
       record {
         snap = c.number.new.snap;
-        refs = c.in_ok-number.ensures.refs;
-        imms = c.in_ok-number.ensures.imms;
-        added = c.in_ok-add_numbered.ensures.added;
+        refs = c.in_ok-number-in-Some.ensures.refs;
+        imms = c.in_ok-number-in-Some.ensures.imms;
+        added = c.in_ok-add_numbered-in-Some.ensures.added;
       },
     )

@@ -6,7 +6,7 @@ use Rattle.cal_channel.proofs.draft.SnapDraftImmediateSink.push_values.Goals as 
 pub returns : goal.returns
 returns g c values =
     plain-added values c.args.self.now.entries.items c.add_plain.new.entries.items
-    c.in_ok-lasts.lasts.now.imms.items c.in_ok-add_plain.ensures
+    c.deref.result.now c.in_ok-add_plain.ensures
     ∙ ap (λ is. map (immediate_shown values) c.args.self.now.entries.items ++ is)
-    (c.in_ok-lasts.ensures.imms ∙ c.in_ok-push_values.ensures
+    (c.deref.ensures.value ∙ c.in_ok-lasts.ensures.imms ∙ c.in_ok-push_values.ensures
     ∙ ap (λ is. is ++ _) c.clear.ensures)
