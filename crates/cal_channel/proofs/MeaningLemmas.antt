@@ -35,7 +35,8 @@ use Rattle.cal_words.specs.declared.sort.NodeSort.{NodeSort}
 
 -- ---- paths
 
-module _ (attributes : List Attribute) (script : Script) (tree : Tree) (seat : RowSeat NodeSort) where
+module _ (attributes : List Attribute) (script : Script) (tree : Tree)
+    (seat : RowSeat NodeSort) where
   P : NodeId → List (Opened Variant) → Type 0
   P = NodeAt tree seat
 

@@ -19,8 +19,8 @@ use Rattle.cal_board.specs.declared.opened.Slot.{Slot}
 use Rattle.cal_channel.specs.Channels.{HasSmallNumber}
 use Rattle.cal_context.specs.Tree.{no_value}
 use Rattle.cal_filter.specs.Numbers.{number_in}
-use Rattle.cal_run.proofs.FitLemmas.{FitsBoard, IsFitted, IsFittedSlot, IsGood, MayBeGood, SaysValue}
-use Rattle.cal_run.proofs.FitLemmas.{opened-fitted}
+use Rattle.cal_run.proofs.FitLemmas.{FitsBoard, IsFitted, IsFittedSlot, IsGood, MayBeGood}
+use Rattle.cal_run.proofs.FitLemmas.{SaysValue, opened-fitted}
 use Rattle.cal_run.proofs.HeldLemmas.{slice_get-All}
 use Rattle.cal_run.proofs.ServiceLemmas.{depths-asked}
 use Rattle.cal_run.specs.Lines.{attr_ref, attribute_of, is_shared, value_of}
