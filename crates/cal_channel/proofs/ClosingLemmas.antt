@@ -6,8 +6,8 @@ use Rattle.std.proofs.lemmas.List.{get_or_push, map-append}
 use Rattle.std.proofs.lemmas.Option.{slice_get-get_or}
 use Rattle.cal_board.specs.PathBoards.{last_opened}
 use Rattle.cal_board.specs.declared.opened.Opened.{Opened}
-use Rattle.cal_channel.specs.Closing.{EndsWith, IsOwnValue}
-use Rattle.cal_hand.specs.Nodes.{NodeAt, node_entry}
+use Rattle.cal_channel.specs.Closing.{IsOwnValue}
+use Rattle.cal_hand.specs.Nodes.{node_entry}
 use Rattle.cal_once.specs.declared.seat.RowSeat.{RowSeat}
 use Rattle.cal_tree.proofs.Ways.{last_split}
 use Rattle.cal_tree.specs.Paths.{NodeEntry}

@@ -16,7 +16,6 @@ use Rattle.cal_once.specs.Views.{KnowsMore}
 use Rattle.cal_once.specs.declared.seat.RowSeat.{RowSeat}
 use Rattle.cal_script.specs.declared.script.Script.{Script}
 use Rattle.cal_snap.specs.declared.numbered.NumberedEntry.{NumberedEntry}
-use Rattle.cal_snap.specs.declared.numbered.NumberedSnap.{NumberedSnap}
 use Rattle.cal_table.specs.TableLaws.{Same-refl}
 use Rattle.cal_table.specs.Tables.{TableValue, empty_table}
 use Rattle.cal_table.specs.declared.shape.TableShape.{TableShape}

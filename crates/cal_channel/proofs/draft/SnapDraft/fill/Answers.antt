@@ -1,4 +1,4 @@
-use Rattle.std.proofs.Common.{◌<◌, List, [], ◌∷◌, ◌++◌, length, map, ap, subst, sym, ◌∙◌}
+use Rattle.std.proofs.Common.{◌<◌, List, [], ◌++◌, length, map, ap, subst, sym, ◌∙◌}
 use Rattle.std.specs.List.{AllZip}
 use Rattle.std.proofs.lemmas.List.Elements.{All-nil}
 use Rattle.cal_board.specs.PathBoards.{entries_of}
