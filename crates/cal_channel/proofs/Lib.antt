@@ -1,0 +1,6 @@
+pub mod TraceLemmas
+pub mod MeaningLemmas
+pub mod ClosingLemmas
+pub mod ChannelLemmas
+pub mod LawLemmas
+pub mod SmallLemmas

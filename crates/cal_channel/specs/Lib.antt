@@ -1,0 +1,5 @@
+pub mod Shown
+pub mod Traces
+pub mod Values
+pub mod Closing
+pub mod Channels
