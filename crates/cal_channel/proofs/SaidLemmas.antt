@@ -1,7 +1,7 @@
 -- The boards of a running thread and of its process hold values of the script.
 use Rattle.std.proofs.Common.{ℕ, zero, suc, ◌<◌, ◌^◌, Bool, true, false, ◌&&◌, if◌then◌else◌}
-use Rattle.std.proofs.Common.{List, [], ◌∷◌, take, arith}
-use Rattle.std.specs.Prelude.{Option, not, slice_index_or, zip}
+use Rattle.std.proofs.Common.{List, [], ◌∷◌, arith}
+use Rattle.std.specs.Prelude.{not, slice_index_or, zip}
 use Rattle.std.specs.List.{All}
 use Rattle.std.proofs.lemmas.List.Elements.{All-nil, All-take}
 use Rattle.cal_channel.proofs.SmallLemmas.{small-snapshot}
@@ -66,6 +66,7 @@ said-behind script history ls notes placed =
 
 -- ---- the lines of a thread
 
+-- those of each thread are of the script
 thread-lines : (P : Line → Type 0) (threads : List (List Line)) (thread : ℕ) → All (All P) threads
     → All P (slice_index_or threads thread [])
 thread-lines P [] thread all = All-nil P
