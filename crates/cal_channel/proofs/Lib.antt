@@ -4,3 +4,4 @@ pub mod ClosingLemmas
 pub mod ChannelLemmas
 pub mod LawLemmas
 pub mod SmallLemmas
+pub mod SaidLemmas

@@ -3,3 +3,4 @@ pub mod Traces
 pub mod Values
 pub mod Closing
 pub mod Channels
+pub mod SmallNumbers

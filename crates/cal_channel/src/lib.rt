@@ -13,6 +13,7 @@ mod draft;
 mod ends;
 mod laws;
 mod shown;
+mod small_numbers;
 mod trace;
 
 pub use channel::ThreadChannel;
@@ -22,4 +23,5 @@ pub use laws::{
     numbers_of_snapshots, parts_of_channels, room_for_snapshots, taken_at_start, taken_for_good,
 };
 pub use shown::{ShownEntry, ShownValue};
+pub use small_numbers::{said_values_law, small_numbers_law};
 pub use trace::{Trace, TraceSnap};
