@@ -2,7 +2,6 @@
 -- off the script's.
 use Rattle.std.specs.Prelude.{◌≡◌, ℕ, Bool, true, false, List, [], ◌∷◌, Option, Some, None}
 use Rattle.cal_base.specs.Told.{Gives}
-use Rattle.cal_script.specs.declared.journal.Journal.{Journal}
 
 -- A clock was asked for this reading, which it tells; where there is none, it wasn't asked.
 abbrev pub Asked : {K : Type 0} → (given : K → Option (List ℕ)) → (old new : K) → Option ℕ → Type 0
@@ -13,7 +12,3 @@ Asked given old new None = new ≡ old
 abbrev pub off_clock : (real : Bool) → Option ℕ → Option ℕ
 off_clock true reading = reading
 off_clock false reading = None
-
--- a journal of which only the clock is said
-abbrev pub journal_by : (real : Bool) → Journal
-journal_by real = record { real = real; ops = []; threads = [] }

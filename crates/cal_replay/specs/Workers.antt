@@ -1,14 +1,14 @@
--- What a worker keeps between two lines: its thread, as the plain meaning of a run has it, and its
--- notes.
-use Rattle.std.specs.Prelude.{◌≡◌, ℕ, List, [], length, fold, slice_index_or}
+-- What a worker keeps between two lines: its thread, as the plain meaning of a run has it, and notes
+-- that keep the rules of journals.
+use Rattle.std.specs.Prelude.{◌≡◌, ℕ, List, [], length, take, slice_index_or}
+use Rattle.cal_notes.specs.Running.{HasNoted, state_behind}
+use Rattle.cal_process.specs.Operations.{history_of}
 use Rattle.cal_process.specs.Replicas.{IsCommon}
-use Rattle.cal_replay.specs.Readings.{journal_by}
 use Rattle.cal_replay.specs.declared.shared.Shared.{Shared}
 use Rattle.cal_replay.specs.declared.worker.Worker.{Worker}
-use Rattle.cal_run.specs.Lawful.{IsRead, takes_start_reading}
 use Rattle.cal_run.specs.Steps.{ThreadState, at_start}
 use Rattle.cal_run.specs.Timers.{AreTimers}
-use Rattle.cal_script.specs.declared.journal.LineNote.{LineNote}
+use Rattle.cal_script.specs.declared.journal.ThreadNote.{ThreadNote}
 use Rattle.cal_script.specs.declared.script.Line.{Line}
 use Rattle.cal_script.specs.declared.script.Script.{Script}
 use Rattle.cal_thread.specs.Threads.{IsThread}
@@ -28,9 +28,13 @@ script_of shared = shared.common.script.now
 abbrev pub lines_of : Script → (thread : ℕ) → List Line
 lines_of script thread = slice_index_or script.threads thread []
 
--- how many operations the last of these lines has seen
-abbrev pub last_seen : List LineNote → ℕ
-last_seen notes = fold (λ (before : ℕ) (note : LineNote). note.seen) 0 notes
+-- those that a worker has done, which are as many as it has notes of
+abbrev pub lines_done : Script → Worker → List Line
+lines_done script w = take (length w.note.lines) (lines_of script w.thread.number)
+
+-- the state of its thread behind them, by these operations of the history
+abbrev pub state_of : Script → List OpRec → Worker → ThreadState
+state_of script h w = state_behind script (history_of h) (lines_done script w) w.note
 
 module _ (shared : Shared) where
   -- A worker that wasn't started: its thread is before its first line, and nothing is noted.
@@ -39,15 +43,16 @@ module _ (shared : Shared) where
     pub timed : w.thread.timed ≡ shared.timers.some
     pub noted : w.note.lines ≡ []
 
-  -- A worker between two lines, behind as many as it has notes of: its thread has seen these
-  -- operations and has this state, and the start reading was taken where one is due.
-  pub record IsWorker (w : Worker) (h : List OpRec) (state : ThreadState) : Type 0 where
-    pub thread : IsThread shared.common w.thread (length w.note.lines) h state
+  -- A worker between two lines: its thread has seen exactly these operations, with which the history
+  -- begins, and has the state that the plain meaning of a run gives it by them; and its notes of the
+  -- lines done keep the rules of journals by them.
+  pub record IsWorker (w : Worker) (h : List OpRec) : Type 0 where
+    pub thread : IsThread shared.common w.thread (length w.note.lines) h
+        (state_of (script_of shared) h w)
     pub timed : w.thread.timed ≡ shared.timers.some
-    pub started : IsRead (script_of shared) (journal_by shared.real)
-        (takes_start_reading (script_of shared)) 0 w.note.start
-    pub seen : w.thread.process.seen ≡ last_seen w.note.lines
+    pub noted : HasNoted (script_of shared) shared.real (history_of h) w.thread.number
+        (lines_done (script_of shared) w) w.note
 
-  -- for some operations and some state
+  -- for some operations
   abbrev pub IsSomeWorker : Worker → Type 0
-  IsSomeWorker w = (h : List OpRec) × (state : ThreadState) × IsWorker w h state
+  IsSomeWorker w = (h : List OpRec) × IsWorker w h

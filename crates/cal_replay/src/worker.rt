@@ -43,7 +43,7 @@ impl Worker {
     pub fn start<K: Clock>(&mut self, shared: &Shared<'_>, clock: &mut K)
         requires shared { IsShared shared.now }
         requires worker { IsHired shared.now self.old }
-        ensures worker { IsWorker shared.now self.new [] at_start }
+        ensures worker { IsWorker shared.now self.new [] }
         ensures noted { self.new.note.lines ≡ [] }
         ensures number { self.new.thread.number ≡ self.old.thread.number }
         ensures asked { Asked K.given clock.old clock.new

@@ -1,0 +1,4 @@
+pub mod Takings
+pub mod OwnLines
+pub mod SharedLines
+pub mod NotedLines
