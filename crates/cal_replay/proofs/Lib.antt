@@ -2,3 +2,4 @@ pub mod Takings
 pub mod OwnLines
 pub mod SharedLines
 pub mod NotedLines
+pub mod Starting

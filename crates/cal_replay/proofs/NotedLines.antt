@@ -9,8 +9,10 @@ use Rattle.cal_notes.proofs.NextLines.{noted-next, state-next}
 use Rattle.cal_notes.specs.Running.{HasNoted, RunsNext, next_line, seen_behind}
 use Rattle.cal_notes.specs.Running.{state_behind, with_line}
 use Rattle.cal_process.specs.Operations.{history_of, placed_as}
-use Rattle.cal_replay.specs.Steps.{Runs, RunsLine, noted_line}
+use Rattle.cal_replay.specs.Readings.{Asked, off_clock}
+use Rattle.cal_replay.specs.Steps.{Runs, RunsLine, StepsOver, noted_line, noted_with}
 use Rattle.cal_replay.specs.Workers.{IsWorker, lines_done, lines_of, script_of, state_of}
+use Rattle.cal_replay.specs.declared.answer.Answer.{Answer}
 use Rattle.cal_replay.specs.declared.shared.Shared.{Shared}
 use Rattle.cal_replay.specs.declared.worker.Worker.{Worker}
 use Rattle.cal_run.specs.Lawful.{NotedLine}
@@ -22,6 +24,7 @@ use Rattle.cal_script.specs.declared.journal.ThreadNote.{ThreadNote}
 use Rattle.cal_script.specs.declared.script.Line.{Line}
 use Rattle.cal_script.specs.declared.script.Script.{Script}
 use Rattle.cal_thread.specs.Threads.{IsThread}
+use Rattle.cal_thread.specs.declared.thread.Thread.{Thread}
 use Rattle.cal_words.specs.declared.op.OpRec.{OpRec}
 
 -- the line of a number is that of its place
@@ -36,7 +39,7 @@ module _ (shared : Shared) (old new : Worker) (l : Line) (note : LineNote) (h : 
     (next : line_at (script_of shared) old.thread.number (length old.note.lines + 1) ≡ Some l)
     (w : IsWorker shared old h)
     (r : Runs shared old.thread new.thread l note (length old.note.lines) h
-      (state_of (script_of shared) h old))
+    (state_of (script_of shared) h old))
     (noted : new.note ≡ with_line old.note note)
     (number : new.thread.number ≡ old.thread.number)
     (timed : new.thread.timed ≡ old.thread.timed) where
@@ -125,4 +128,39 @@ module _ (shared : Shared) (old new : Worker) (l : Line) (note : LineNote) (h : 
       timed = timed ∙ w.timed;
       noted = has-noted;
     };
+  }
+
+-- ---- a step
+
+module _ {K : Type 0} (given : K → Option (List ℕ)) (was is : K) (shared : Shared)
+    (old : Worker) (mid : Thread) (new : Worker) (l : Line) (answer : Answer)
+    (next : line_at (script_of shared) old.thread.number (length old.note.lines + 1) ≡ Some l)
+    (lines : new.note.lines ≡ old.note.lines ++ noted_with answer mid ∷ [])
+    (start : new.note.start ≡ old.note.start)
+    (thread : new.thread ≡ mid)
+    (number : mid.number ≡ old.thread.number)
+    (timed : mid.timed ≡ old.thread.timed)
+    (asked : Asked given was is (off_clock shared.real answer.reading))
+    (runs : (h : List OpRec) (state : ThreadState)
+    → IsThread shared.common old.thread (length old.note.lines) h state
+    → Runs shared old.thread mid l (noted_with answer mid) (length old.note.lines) h state) where
+  noted-is : new.note ≡ with_line old.note (noted_with answer mid)
+  noted-is = λ j. record { start = start j; lines = lines j }
+
+  same-number : new.thread.number ≡ old.thread.number
+  same-number = ap (λ (t : Thread). t.number) thread ∙ number
+
+  pub steps-over : StepsOver shared given was is old new
+  steps-over = record {
+    line = l;
+    next = next;
+    note = noted_with answer mid;
+    noted = noted-is;
+    number = same-number;
+    asked = asked;
+    runs = λ h w. line-runs shared old new l (noted_with answer mid) h next w
+        (subst (λ (t : Thread). Runs shared old.thread t l (noted_with answer mid)
+        (length old.note.lines) h (state_of (script_of shared) h old)) (sym thread)
+        (runs h (state_of (script_of shared) h old) w.thread)) noted-is same-number
+        (ap (λ (t : Thread). t.timed) thread ∙ timed);
   }

@@ -82,15 +82,15 @@ found-noted script history t done seen l sees reading state found is note e =
     record { reply = unwrap_or found reply.Merged; seen = sees; reading = reading } in
     let same : found_reply script history l made state ≡ found = is made refl in
     let by : IsNotedReply (noted_line t done seen l made state)
-        (found_reply script history l made state) =
+    (found_reply script history l made state) =
     subst (λ (r : replies.Reply). IsNotedReply (noted_line t done seen l
-        (record { reply = r; seen = sees; reading = reading }) state)
-        (found_reply script history l made state))
-        (ap (λ (o : Option replies.Reply). unwrap_or o reply.Merged) same)
-        (reply-noted script (acted_on script history l made state) t done seen sees reading
-        state l) in
+    (record { reply = r; seen = sees; reading = reading }) state)
+    (found_reply script history l made state))
+    (ap (λ (o : Option replies.Reply). unwrap_or o reply.Merged) same)
+    (reply-noted script (acted_on script history l made state) t done seen sees reading
+    state l) in
     subst (λ (n : LineNote). IsNotedReply (noted_line t done seen l n state)
-        (found_reply script history l n state)) (sym e) by
+    (found_reply script history l n state)) (sym e) by
 
 -- ---- the line
 
@@ -116,14 +116,14 @@ module _ (shared : Shared) (old mid new : Thread) (l : lines.Line) (met : Met)
     (m : MeetsOwn shared.common old mid l met done h state)
     (number : mid.number ≡ old.number)
     (read : IsRead (script_of shared)
-      (known_journal shared.real (history_of h ++ history_of m.ops))
-      (is_due (script_of shared) l met.reply) mid.clock reading)
+    (known_journal shared.real (history_of h ++ history_of m.ops))
+    (is_due (script_of shared) l met.reply) mid.clock reading)
     (process : new.process ≡ mid.process)
     (makes : (note : LineNote) → reading_of note ≡ unwrap_or reading 0
-      → IsThread shared.common mid done (h ++ m.ops) state
-      → IsThread shared.common new done (h ++ m.ops)
-      (if met.accepted then changed (script_of shared) (history_of (h ++ m.ops)) l note state
-      else state)) where
+    → IsThread shared.common mid done (h ++ m.ops) state
+    → IsThread shared.common new done (h ++ m.ops)
+    (if met.accepted then changed (script_of shared) (history_of (h ++ m.ops)) l note state
+    else state)) where
   abbrev script : Script
   script = script_of shared
 
@@ -156,7 +156,7 @@ module _ (shared : Shared) (old mid new : Thread) (l : lines.Line) (met : Met)
   others = subst (λ (n : ℕ). OfOthers n (history_of m.ops)) number
       (taken-others shared.common mid h m.ops state m.kept.has (λ place behind within.
       let same = looks-published shared.common old.process mid.process m.ops
-          (looks script (history_of (h ++ m.ops)) l note state) (m.sees note) in
+      (looks script (history_of (h ++ m.ops)) l note state) (m.sees note) in
       let was = w.has.taken.long in
       ap (times place) same ∙ none-published (view old.process.log).published old.process.seen
       place w.below (omega (arith, behind, was))))

@@ -55,7 +55,7 @@ module _ (shared : Shared) (old mid new : Thread) (l : Line) (op : OpRec)
     (m : MeetsShared shared.common old mid l op answer h state)
     (t : TakesOwn shared.common mid new op (h ++ m.ops) state)
     (read : IsRead (script_of shared) (known_journal shared.real (history_of h))
-      (is_due (script_of shared) l answer) mid.clock reading) where
+    (is_due (script_of shared) l answer) mid.clock reading) where
   abbrev script : Script
   script = script_of shared
 
@@ -120,7 +120,7 @@ module _ (shared : Shared) (old mid new : Thread) (l : Line) (op : OpRec)
     history_of m.ops,
     others,
     (map-append placed_as m.ops (op ∷ [])
-    ∙ ap (λ (p : Placed). history_of m.ops ++ p ∷ []) own),
+        ∙ ap (λ (p : Placed). history_of m.ops ++ p ∷ []) own),
   )
 
   pub shared-runs : Runs shared old new l note done h state

@@ -30,17 +30,17 @@ pub taken-others : (common : Common) (t : Thread) (h ops : List OpRec) (state : 
     → OfOthers t.number (history_of ops)
 taken-others common t h ops state s none =
     All-map (λ (p : Placed). p.thread ≢ t.number) placed_as ops (λ k d less same.
-      let sum = length-append h ops in
-      let at : get_or (h ++ ops) (length h + k) d ≡ get_or ops k d = get_or-append-add h ops k d in
-      let has : HasOp (slots_of common.log) (view t.process.log) (length h + k)
-          (get_or ops k d) =
-      subst (λ (op : OpRec). HasOp (slots_of common.log) (view t.process.log) (length h + k) op)
-          at (s.taken.read (length h + k) d (omega (arith, less, sum))) in
-      let once = is_once (plan_of common.log) (view t.process.log) s.taken.at_log.sound
-          (length h + k) (get_or ops k d) has
-          (s.number ∙ ap (λ (n : ℕ). n + 1) (sym same)) in
-      let zero = none (length h + k) (omega arith) (omega (arith, less)) in
-      absurd (omega (arith, once, zero)))
+    let sum = length-append h ops in
+    let at : get_or (h ++ ops) (length h + k) d ≡ get_or ops k d = get_or-append-add h ops k d in
+    let has : HasOp (slots_of common.log) (view t.process.log) (length h + k)
+    (get_or ops k d) =
+    subst (λ (op : OpRec). HasOp (slots_of common.log) (view t.process.log) (length h + k) op)
+    at (s.taken.read (length h + k) d (omega (arith, less, sum))) in
+    let once = is_once (plan_of common.log) (view t.process.log) s.taken.at_log.sound
+    (length h + k) (get_or ops k d) has
+    (s.number ∙ ap (λ (n : ℕ). n + 1) (sym same)) in
+    let zero = none (length h + k) (omega arith) (omega (arith, less)) in
+    absurd (omega (arith, once, zero)))
 
 -- a line that is no process line publishes nothing
 pub looks-published : (common : Common) (old new : Replica) (ops : List OpRec) (look : Bool)

@@ -47,7 +47,14 @@ pub(crate) fn run_own<K: Clock>(
     let met = thread.look(alloc, &shared.common, line)?;
     let shown = thread.clock;
     let reading = read_line(shared, line, met.reply, shown, clock);
-    change_if(alloc, &shared.common, thread, line, met.accepted, reading.unwrap_or(0))?;
+    change_if(
+        alloc,
+        &shared.common,
+        thread,
+        line,
+        met.accepted,
+        reading.unwrap_or(0),
+    )?;
     Ok(Answer {
         reply: met.reply.unwrap_or(Reply::Merged),
         reading,

@@ -85,7 +85,8 @@ impl Worker {
             seen: self.thread.process.seen,
             reading: answer.reading,
         };
-        self.note.lines.push(note)
+        self.note.lines.push(note)?;
+        Ok(())
     }
 }
 
