@@ -1,7 +1,7 @@
 -- What keeps the rules by a beginning of the history keeps them by a longer one.
-use Rattle.std.proofs.Common.{◌≡◌, ℕ, suc, ◌+◌, ◌-◌, ◌<◌, ◌≤◌, List, [], ◌∷◌, ◌++◌, Bool, true}
+use Rattle.std.proofs.Common.{◌≡◌, ℕ, ◌+◌, ◌-◌, ◌≤◌, List, [], ◌∷◌, ◌++◌, Bool}
 use Rattle.std.proofs.Common.{length, refl, sym, ap, ◌∙◌, subst, arith}
-use Rattle.std.specs.Prelude.{Option, Some, slice_get, zip}
+use Rattle.std.specs.Prelude.{Option, slice_get, zip}
 use Rattle.std.specs.List.{All}
 use Rattle.std.proofs.lemmas.List.{length-append}
 use Rattle.std.proofs.lemmas.List.Elements.{All-cons, All-nil, All-same, All-weaker}
@@ -11,8 +11,7 @@ use Rattle.cal_notes.specs.Running.{state_behind}
 use Rattle.cal_run.proofs.FrontLemmas.{found_reply-front, is_read-front, looks-front}
 use Rattle.cal_run.proofs.FrontLemmas.{noted_from-front, state_after_lines-front}
 use Rattle.cal_run.proofs.LawLemmas.{all-rest}
-use Rattle.cal_run.specs.Lawful.{IsRead, NotedLine, SeenOwn, SeesOwn, noted_from, noted_of}
-use Rattle.cal_run.specs.Lines.{is_process_line}
+use Rattle.cal_run.specs.Lawful.{IsRead, NotedLine, SeesOwn, noted_from, noted_of}
 use Rattle.cal_run.specs.Seeing.{HaveSeen}
 use Rattle.cal_run.specs.Steps.{ThreadState, at_start, found_reply, is_read, looks, state_after}
 use Rattle.cal_script.specs.declared.journal.Journal.{Journal}

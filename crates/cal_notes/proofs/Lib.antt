@@ -1,5 +1,9 @@
 pub mod Lists
 pub mod Fronts
+pub mod MoreLines
 pub mod NextLines
 pub mod Taken
+pub mod NotedLines
 pub mod Ends
+pub mod Backs
+pub mod Histories

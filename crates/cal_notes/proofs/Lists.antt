@@ -83,4 +83,5 @@ module _ (thread : ℕ) where
   pub placed_of-own : (number : ℕ)
       → placed_of thread (record { thread = thread; line = number } ∷ []) ≡ number ∷ []
   placed_of-own number =
-      ap (λ (b : Bool). cons_option (if b then Some number else None) []) (eq-eqb thread thread refl)
+      ap (λ (b : Bool). cons_option (if b then Some number else None) [])
+      (eq-eqb thread thread refl)

@@ -1,92 +1,29 @@
 -- One line more.
-use Rattle.std.proofs.Common.{◌≡◌, ℕ, suc, zero, ◌+◌, ◌-◌, ◌<◌, ◌≤◌, List, [], ◌∷◌, ◌++◌, Bool}
-use Rattle.std.proofs.Common.{true, false, if◌then◌else◌, length, map, refl, sym, ap, ◌∙◌, subst}
+use Rattle.std.proofs.Common.{◌≡◌, ℕ, ◌+◌, ◌-◌, List, [], ◌∷◌, ◌++◌, Bool}
+use Rattle.std.proofs.Common.{true, false, if◌then◌else◌, length, refl, sym, ap, ◌∙◌, subst}
 use Rattle.std.proofs.Common.{append_assoc, append-nil, arith}
-use Rattle.std.specs.Prelude.{Option, Some, slice_get, zip}
-use Rattle.std.specs.List.{All}
+use Rattle.std.specs.Prelude.{Option, slice_get, zip}
 use Rattle.std.proofs.lemmas.List.{length-append}
 use Rattle.std.proofs.lemmas.List.Elements.{All-nil, All-push, All-same}
 use Rattle.std.proofs.lemmas.Slice.Zip.{length-zip, seconds-zip}
 use Rattle.cal_notes.proofs.Fronts.{lines-front, state-front}
 use Rattle.cal_notes.proofs.Lists.{placed_of-append, placed_of-others, placed_of-own}
 use Rattle.cal_notes.proofs.Lists.{process_lines-push, slice_get-last, zip-push}
-use Rattle.cal_notes.specs.Notes.{KeepsRules, LineKeeps, OfOthers, known_journal}
+use Rattle.cal_notes.proofs.MoreLines.{line_behind, noted_from-push, notes_of, seen_from-push}
+use Rattle.cal_notes.proofs.MoreLines.{state_after_lines-push}
+use Rattle.cal_notes.specs.Notes.{KeepsRules, LineKeeps, known_journal}
 use Rattle.cal_notes.specs.Running.{HasNoted, Learns, RunsNext, next_line, number_placed, own_place}
 use Rattle.cal_notes.specs.Running.{seen_behind, seen_from, started, state_behind, with_line}
 use Rattle.cal_run.specs.Lawful.{IsRead, NotedLine, SeesOwn, noted_from, noted_of, placed_of}
 use Rattle.cal_run.specs.Lawful.{takes_start_reading}
 use Rattle.cal_run.specs.Lines.{is_process_line}
 use Rattle.cal_run.specs.Runs.{state_after_lines}
-use Rattle.cal_run.specs.Steps.{ThreadState, at_start, looks, state_after}
+use Rattle.cal_run.specs.Steps.{at_start, looks, state_after}
 use Rattle.cal_script.specs.declared.journal.LineNote.{LineNote}
 use Rattle.cal_script.specs.declared.journal.Placed.{Placed}
 use Rattle.cal_script.specs.declared.journal.ThreadNote.{ThreadNote}
 use Rattle.cal_script.specs.declared.script.Line.{Line}
 use Rattle.cal_script.specs.declared.script.Script.{Script}
-
--- ---- lists of lines
-
-abbrev notes_of : List (Line × LineNote) → List LineNote
-notes_of ls = map (λ (l : Line × LineNote). l.1) ls
-
-module _ (script : Script) (h : List Placed) where
-  pub state_after_lines-push : (state : ThreadState) (ls : List (Line × LineNote))
-      (l : Line × LineNote) → state_after_lines script h state (ls ++ l ∷ [])
-      ≡ state_after script h l.0 l.1 (state_after_lines script h state ls)
-  state_after_lines-push state [] l = refl
-  state_after_lines-push state (k ∷ ls) l =
-      state_after_lines-push (state_after script h k.0 k.1 state) ls l
-
-  -- a line behind lines
-  abbrev line_behind : (thread number before : ℕ) → ThreadState → List (Line × LineNote)
-      → Line × LineNote → NotedLine
-  line_behind thread number before state ls l = record {
-    thread = thread;
-    number = number + length ls;
-    line = l.0;
-    note = l.1;
-    before = seen_from before (notes_of ls);
-    state = state_after_lines script h state ls;
-  }
-
-  noted_from-push : (thread number before : ℕ) (state : ThreadState) (ls : List (Line × LineNote))
-      (l : Line × LineNote) → noted_from script h thread number before state (ls ++ l ∷ [])
-      ≡ noted_from script h thread number before state ls
-      ++ line_behind thread number before state ls l ∷ []
-  noted_from-push thread number before state [] l =
-      ap (λ (n : ℕ). record {
-        thread = thread;
-        number = n;
-        line = l.0;
-        note = l.1;
-        before = before;
-        state = state;
-      } ∷ []) (let e : number ≡ number + 0 = omega arith in e)
-  noted_from-push thread number before state (k ∷ ls) l =
-      let after : ThreadState = state_after script h k.0 k.1 state in
-      let first : NotedLine = record {
-        thread = thread;
-        number = number;
-        line = k.0;
-        note = k.1;
-        before = before;
-        state = state;
-      } in
-      ap (λ rest. first ∷ rest)
-      (noted_from-push thread (number + 1) k.1.seen after ls l
-      ∙ ap (λ (n : ℕ). noted_from script h thread (number + 1) k.1.seen after ls ++ record {
-        thread = thread;
-        number = n;
-        line = l.0;
-        note = l.1;
-        before = seen_from k.1.seen (notes_of ls);
-        state = state_after_lines script h after ls;
-      } ∷ []) (let e : number + 1 + length ls ≡ number + suc (length ls) = omega arith in e))
-
-pub seen_from-push : (before : ℕ) (ns : List LineNote) (n : LineNote)
-    → seen_from before (ns ++ n ∷ []) ≡ n.seen
-seen_from-push before [] n = refl
-seen_from-push before (m ∷ ns) n = seen_from-push m.seen ns n
 
 -- ---- the start
 
@@ -196,7 +133,8 @@ module _ (script : Script) (real : Bool) (h more : List Placed) (thread : ℕ) (
   abbrev own : Placed
   own = own_place coming
 
-  sees-own : is_process_line script l ≡ true → SeesOwn script (known_journal real (h ++ more)) coming
+  sees-own : is_process_line script l ≡ true
+      → SeesOwn script (known_journal real (h ++ more)) coming
   sees-own process =
       let learns : Learns true (looks script (h ++ more) l n coming.state) own more =
       subst (λ p. Learns p (looks script (h ++ more) l n coming.state) own more) process runs.learns
@@ -243,7 +181,7 @@ module _ (script : Script) (real : Bool) (h more : List Placed) (thread : ℕ) (
   pub noted-next : HasNoted script real (h ++ more) thread (ls ++ l ∷ []) (with_line note n)
   noted-next = record {
     rules = rules-next script real h more thread ls note l n noted.rules line-keeps
-        (learned-places (is_process_line script l) (looks script (h ++ more) l n coming.state) own more
-        runs.learns);
+        (learned-places (is_process_line script l) (looks script (h ++ more) l n coming.state)
+        own more runs.learns);
     seen = seen_from-push 0 note.lines n ∙ runs.seen;
   }

@@ -33,6 +33,16 @@ module _ (script : Script) (channel : Channel) where
       (previous_after script a l.0 l.1 state channel previous) ls
       (λ i d m. seen (suc i) d (omega (arith, m)))
 
+  previous_from-push : (h : List Placed) (state : ThreadState) (previous : ℕ)
+      (ls : List (Line × LineNote)) (l : Line × LineNote)
+      → previous_from script h channel state previous (ls ++ l ∷ [])
+      ≡ previous_after script h l.0 l.1 (state_after_lines script h state ls) channel
+      (previous_from script h channel state previous ls)
+  previous_from-push h state previous [] l = refl
+  previous_from-push h state previous (k ∷ ls) l =
+      previous_from-push h (state_after script h k.0 k.1 state)
+      (previous_after script h k.0 k.1 state channel previous) ls l
+
   -- with one line more comes what it takes
   taken_from-push : (h : List Placed) (state : ThreadState) (previous : ℕ)
       (ls : List (Line × LineNote)) (l : Line × LineNote)
@@ -78,3 +88,15 @@ module _ (script : Script) (real : Bool) (h more : List Placed) (thread : ℕ) (
       (zip-push ls note.lines l n keeps.long)
       ∙ taken_from-push script channel (h ++ more) at_start start pairs (l, n)
       ∙ (λ j. taken-same j ++ taken_in script (h ++ more) l n (state j) channel (last j))
+
+  pub previous-next : (l : Line) (n : LineNote)
+      → previous_behind script (h ++ more) channel (ls ++ l ∷ []) (with_line note n)
+      ≡ previous_after script (h ++ more) l n (state_behind script h ls note) channel
+      (previous_behind script h channel ls note)
+  previous-next l n =
+      let state = state-front script real h thread ls note keeps more in
+      let last = previous_from-front script channel h more at_start start pairs seen in
+      ap (previous_from script (h ++ more) channel at_start start)
+      (zip-push ls note.lines l n keeps.long)
+      ∙ previous_from-push script channel (h ++ more) at_start start pairs (l, n)
+      ∙ (λ j. previous_after script (h ++ more) l n (state j) channel (last j))

@@ -8,8 +8,7 @@ use Rattle.cal_script.specs.declared.journal.Placed.{Placed}
 use Rattle.cal_script.specs.declared.journal.Reply as replies
 use Rattle.cal_script.specs.declared.journal.Reply.TheVariants as reply
 use Rattle.cal_script.specs.declared.journal.ThreadNote.{ThreadNote}
-use Rattle.cal_script.specs.declared.script.Line as lines
-use Rattle.cal_script.specs.declared.script.Line.TheVariants as line
+use Rattle.cal_script.specs.declared.script.Line.{Line}
 use Rattle.cal_script.specs.declared.script.Script.{Script}
 
 -- The journal as a thread knows it: which clock was read, and a beginning of the history. None of
@@ -23,14 +22,14 @@ OfOthers thread ops = All (λ (op : Placed). op.thread ≢ thread) ops
 
 -- The reply to a flush is merged, or busy with another thread. That this one merged is said of all
 -- threads together.
-abbrev pub IsFlushNote : (thread : ℕ) → lines.Line → replies.Reply → Type 0
-IsFlushNote thread (line.Flush channel) reply.Merged = Unit {0}
-IsFlushNote thread (line.Flush channel) (reply.Busy holder) = holder ≢ thread
-IsFlushNote thread _ _ = ⊥
+abbrev pub IsFlushNote : (thread : ℕ) → replies.Reply → Type 0
+IsFlushNote thread reply.Merged = Unit {0}
+IsFlushNote thread (reply.Busy holder) = holder ≢ thread
+IsFlushNote thread _ = ⊥
 
 -- The reply is the one that is found; to a flush none is.
 abbrev pub IsNotedReply : NotedLine → Option replies.Reply → Type 0
-IsNotedReply n None = IsFlushNote n.thread n.line n.note.reply
+IsNotedReply n None = IsFlushNote n.thread n.note.reply
 IsNotedReply n (Some found) = n.note.reply ≡ found
 
 -- A line keeps the journal's rules, but for who merged where its flush was busy.
@@ -46,7 +45,7 @@ pub record LineKeeps (script : Script) (journal : Journal) (n : NotedLine) : Typ
 -- of each line, the start reading and each line are as they should be, and the thread's operations
 -- in the history are those of these lines, in order.
 pub record KeepsRules (script : Script) (real : Bool) (h : List Placed) (thread : ℕ)
-    (ls : List lines.Line) (note : ThreadNote) : Type 0 where
+    (ls : List Line) (note : ThreadNote) : Type 0 where
   pub long : length note.lines ≡ length ls
   pub start : StartIsRead script (known_journal real h) note
   pub lines : All (LineKeeps script (known_journal real h)) (noted_of script h (thread, (ls, note)))

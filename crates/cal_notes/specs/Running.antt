@@ -1,7 +1,7 @@
 -- A thread that runs, line after line: what its next line may note, by what it learns of the
 -- history meanwhile.
 use Rattle.std.specs.Prelude.{◌≡◌, ℕ, ◌+◌, Bool, true, false, List, [], ◌∷◌, ◌++◌, length, zip}
-use Rattle.std.specs.Prelude.{if◌then◌else◌, Option, unwrap_or}
+use Rattle.std.specs.Prelude.{if◌then◌else◌, Option, fold, unwrap_or}
 use Rattle.cal_notes.specs.Notes.{IsNotedReply, KeepsRules, OfOthers, known_journal}
 use Rattle.cal_run.specs.Lawful.{LineIsRead, NotedLine}
 use Rattle.cal_run.specs.Lines.{is_process_line}
@@ -19,8 +19,7 @@ use Rattle.cal_script.specs.declared.script.Script.{Script}
 
 -- how many operations a thread has seen behind lines with these notes
 abbrev pub seen_from : (before : ℕ) → List LineNote → ℕ
-seen_from before [] = before
-seen_from before (n ∷ ns) = seen_from n.seen ns
+seen_from = fold (λ (before : ℕ) (n : LineNote). n.seen)
 
 abbrev pub seen_behind : ThreadNote → ℕ
 seen_behind note = seen_from 0 note.lines
@@ -66,8 +65,8 @@ own_place n = record { thread = n.thread; line = n.number }
 
 -- What a thread learns of the history by a line: by a process line its own operation, behind others
 -- of other threads; by a line that looks others; and else nothing.
-abbrev pub Learns : (process looks : Bool) → (own : Placed) → List Placed → Type 0
-Learns true looks own more =
+abbrev pub Learns : (process look : Bool) → (own : Placed) → List Placed → Type 0
+Learns true look own more =
     (others : List Placed) × OfOthers own.thread others × (more ≡ others ++ own ∷ [])
 Learns false true own more = OfOthers own.thread more
 Learns false false own more = more ≡ []

@@ -12,20 +12,23 @@ use Rattle.cal_script.specs.declared.script.Line as lines
 use Rattle.cal_script.specs.declared.script.Line.TheVariants as line
 use Rattle.cal_script.specs.declared.script.Script.{Script}
 
+-- A history begins with these operations, and behind them none is the thread's.
+pub record Begins (thread : ℕ) (h all : List Placed) : Type 0 where
+  pub more : List Placed
+  pub whole : all ≡ h ++ more
+  pub others : OfOthers thread more
+
 module _ (script : Script) (journal : Journal) where
   -- a thread of the run ran these lines and has this note
   pub record RanLines (thread : ℕ) (ls : List lines.Line) (note : ThreadNote) : Type 0 where
     pub ran : slice_get script.threads thread ≡ Some ls
     pub noted : slice_get journal.threads thread ≡ Some note
 
-  -- The notes of a thread keep the rules by a beginning of the history, behind which no operation
-  -- is the thread's.
+  -- The notes of a thread keep the rules by a beginning of the history that has all its operations.
   pub record HasEnded (thread : ℕ) (ls : List lines.Line) (note : ThreadNote) : Type 0 where
     pub known : List Placed
-    pub more : List Placed
-    pub whole : journal.ops ≡ known ++ more
+    pub begins : Begins thread known journal.ops
     pub keeps : KeepsRules script journal.real known thread ls note
-    pub others : OfOthers thread more
 
   -- a flush of the channel was answered so
   abbrev pub WasFlushed : (channel : ℕ) → replies.Reply → lines.Line × LineNote → Type 0

@@ -1,13 +1,22 @@
 //! Laws of the notes of running threads. Nothing here is ever run.
 
-ghost use Rattle.std.specs.Prelude.{◌≡◌, ℕ, ◌+◌, ◌≤◌, Bool, List, [], ◌∷◌, ◌++◌, length, Option};
+ghost use Rattle.std.specs.Prelude.{◌≡◌, ℕ, ◌+◌, ◌<◌, ◌≤◌, Bool, List, [], ◌∷◌, ◌++◌, length};
+ghost use Rattle.std.specs.Prelude.{All, Option};
 ghost use Rattle.cal_notes.specs.Notes.{KeepsRules, LineKeeps, OfOthers, known_journal};
 ghost use Rattle.cal_notes.specs.Running.{HasNoted, RunsNext, next_line, number_placed};
 ghost use Rattle.cal_notes.specs.Running.{previous_behind, started, state_behind, with_line};
-ghost use Rattle.cal_notes.specs.Together.{HaveEnded};
-ghost use Rattle.cal_run.specs.Lawful.{IsRead, Lawful, placed_of, takes_start_reading};
+ghost use Rattle.cal_notes.specs.Together.{Begins, HaveEnded};
+ghost use Rattle.cal_once.specs.Layout.{times};
+ghost use Rattle.cal_once.specs.Sound.{IsSound};
+ghost use Rattle.cal_once.specs.declared.view.Plan.{Plan};
+ghost use Rattle.cal_once.specs.declared.view.View.{View};
+ghost use Rattle.cal_plog.specs.History.{HasJoined, HasSeen};
+ghost use Rattle.cal_plog.specs.Seats.{op_law};
+ghost use Rattle.cal_process.specs.Operations.{IsOpOf, history_of};
+ghost use Rattle.cal_run.specs.Lawful.{IsKnown, IsRead, Lawful, placed_of};
+ghost use Rattle.cal_run.specs.Lawful.{takes_start_reading};
 ghost use Rattle.cal_run.specs.Runs.{taken_by_thread};
-ghost use Rattle.cal_run.specs.Steps.{state_after, taken_in};
+ghost use Rattle.cal_run.specs.Steps.{previous_after, state_after, taken_in};
 ghost use Rattle.cal_script.specs.declared.journal.Journal.{Journal};
 ghost use Rattle.cal_script.specs.declared.journal.LineNote.{LineNote};
 ghost use Rattle.cal_script.specs.declared.journal.Placed.{Placed};
@@ -15,6 +24,8 @@ ghost use Rattle.cal_script.specs.declared.journal.ThreadNote.{ThreadNote};
 ghost use Rattle.cal_script.specs.declared.script.Channel.{Channel};
 ghost use Rattle.cal_script.specs.declared.script.Line.{Line};
 ghost use Rattle.cal_script.specs.declared.script.Script.{Script};
+ghost use Rattle.cal_words.specs.declared.op.OpRec.{OpRec};
+ghost use Rattle.cal_words.specs.declared.sort.OpSort.{OpSort};
 
 /// The law of the start: before its first line a thread knows nothing of the history, and its note
 /// keeps the rules if it has the start reading as due.
@@ -58,16 +69,35 @@ pub fn more_history_law()
         → state_behind script (h ++ more) ls note ≡ state_behind script h ls note }
 {}
 
+/// The law of the whole history, as the first seat has seen it. Its operations are process lines of
+/// the script. What a thread has seen whose seat was joined is a beginning of it, behind which no
+/// operation is the thread's, if it has seen all that it published.
+pub fn whole_history_law()
+    ensures known { (script : Script) (plan : Plan OpSort) (v : View OpSort) (all : List OpRec)
+        → IsSound op_law plan v → HasSeen plan.shape.slots v all
+        → All (IsOpOf script) plan.sort.ops → All (IsKnown script) (history_of all) }
+    ensures own { (plan : Plan OpSort) (v : View OpSort) (thread : ℕ) (places : List ℕ)
+        (h all : List OpRec) → IsSound op_law plan v → v.number ≡ 0
+        → HasJoined v thread places → HasSeen plan.shape.slots v h
+        → HasSeen plan.shape.slots v all → length h ≤ length all
+        → ((place : ℕ) → 0 < times place places → place < length h)
+        → Begins thread (history_of h) (history_of all) }
+{}
+
 /// The law of the end: where each thread's notes of all its lines keep the rules by a beginning of
 /// the history, behind which nothing is that thread's, the whole history is the script's, and the
-/// holder of each busy flush has merged, the notes and the history are a lawful journal.
+/// holder of each busy flush has merged, the notes and the history are a lawful journal; and the
+/// threads of every lawful journal are so.
 pub fn together_law()
-    ensures { (script : Script) (journal : Journal) → HaveEnded script journal
+    ensures lawful { (script : Script) (journal : Journal) → HaveEnded script journal
         → Lawful script journal }
+    ensures ended { (script : Script) (journal : Journal) → Lawful script journal
+        → HaveEnded script journal }
 {}
 
 /// The law of snapshots: what a channel takes of a thread's lines is the same by what the thread
-/// knows of the history and by more; and with the next line comes what that line takes.
+/// knows of the history and by more. With the next line comes what that line takes, and the
+/// channel's last reading is then the line's, or that of before.
 pub fn same_snapshots_law()
     ensures same { (script : Script) (real : Bool) (h more : List Placed) (thread : ℕ)
         (ls : List Line) (note : ThreadNote) (channel : Channel)
@@ -80,5 +110,11 @@ pub fn same_snapshots_law()
         → taken_by_thread script (h ++ more) channel (ls ++ line ∷ [], with_line note n)
         ≡ taken_by_thread script h channel (ls, note)
         ++ taken_in script (h ++ more) line n (state_behind script h ls note) channel
+        (previous_behind script h channel ls note) }
+    ensures previous { (script : Script) (real : Bool) (h more : List Placed) (thread : ℕ)
+        (ls : List Line) (note : ThreadNote) (line : Line) (n : LineNote) (channel : Channel)
+        → KeepsRules script real h thread ls note
+        → previous_behind script (h ++ more) channel (ls ++ line ∷ []) (with_line note n)
+        ≡ previous_after script (h ++ more) line n (state_behind script h ls note) channel
         (previous_behind script h channel ls note) }
 {}

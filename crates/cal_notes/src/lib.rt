@@ -8,4 +8,6 @@
 
 mod laws;
 
-pub use laws::{more_history_law, next_line_law, same_snapshots_law, start_law, together_law};
+pub use laws::{
+    more_history_law, next_line_law, same_snapshots_law, start_law, together_law, whole_history_law,
+};
