@@ -5,8 +5,8 @@ use Rattle.cal_notes.specs.Running.{RunsNext, with_line}
 use Rattle.cal_once.specs.Seats.{view}
 use Rattle.cal_process.specs.Operations.{history_of, placed_as}
 use Rattle.cal_process.specs.Takings.{KeepsLooks}
-use Rattle.cal_replay.specs.Readings.{Asked, off_clock}
-use Rattle.cal_replay.specs.Workers.{IsWorker, script_of, state_of}
+use Rattle.cal_replay.specs.Readings.{Asked, AskedFor, off_clock, readings_of}
+use Rattle.cal_replay.specs.Workers.{IsWorker, lines_done, lines_of, script_of, state_of}
 use Rattle.cal_replay.specs.declared.answer.Answer.{Answer}
 use Rattle.cal_replay.specs.declared.shared.Shared.{Shared}
 use Rattle.cal_replay.specs.declared.worker.Worker.{Worker}
@@ -96,3 +96,19 @@ module _ (shared : Shared) where
     pub number : new.thread.number ≡ old.thread.number
     pub asked : Asked given was is (off_clock shared.real note.reading)
     pub runs : (h : List OpRec) → IsWorker shared old h → RunsLine old new line note h
+
+  -- ---- what all lines do
+
+  -- A worker has done all its lines, and has seen these operations more.
+  pub record RunsAll (new : Worker) (h : List OpRec) : Type 0 where
+    pub ops : List OpRec
+    pub kept : IsWorker shared new (h ++ ops)
+    pub all : lines_done (script_of shared) new
+        ≡ lines_of (script_of shared) new.thread.number
+
+  -- Its notes are longer by these, for whose readings a clock was asked.
+  abbrev pub HasRead : {K : Type 0} → (given : K → Option (List ℕ)) → (was is : K)
+      → (old new : Worker) → Type 0
+  HasRead given was is old new = (added : List LineNote)
+      × (new.note.lines ≡ old.note.lines ++ added)
+      × AskedFor given shared.real was is (readings_of added)

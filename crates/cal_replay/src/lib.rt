@@ -10,6 +10,7 @@
 mod answer;
 mod own_line;
 mod reading;
+mod running;
 mod shared;
 mod shared_line;
 mod step;

@@ -20,7 +20,7 @@ impl<'a> Shared<'a> {
     pub fn new(common: Common<'a>, real: bool) -> Shared<'a>
         requires { IsCommon common }
         ensures shared { IsShared result }
-        ensures common { result.common ≡ common }
+        ensures common { result.common ≡ common.entry }
         ensures real { result.real ≡ real }
     {
         let timers = Timers::of(common.script);

@@ -1,9 +1,11 @@
 //! A worker's next line.
-ghost use Rattle.std.specs.Prelude.{◌≡◌, ◌+◌, ◌<◌, nat_lt, length, Some, IfOk, OnOk, ◌++◌, ◌∷◌, []};
+ghost use Rattle.std.specs.Prelude.{◌≡◌, ◌+◌, ◌<◌, ◌++◌, ◌∷◌, [], Some, IfOk, OnOk};
+ghost use Rattle.std.specs.Prelude.{length, nat_lt, slice_index_or};
 ghost use Rattle.cal_replay.specs.Steps.{StepsOver, noted_with};
 ghost use Rattle.cal_replay.specs.Workers.{IsShared, IsSomeWorker, lines_of, script_of};
 ghost use Rattle.cal_run.specs.Lines.{line_at};
 ghost use Rattle.cal_script.specs.Valid.{IsRunnable};
+ghost use Rattle.cal_script.specs.declared.script.Line as lines_of_script;
 
 use crate::answer::Answer;
 use crate::own_line::run_own;
@@ -107,10 +109,29 @@ fn next_line(script: &Script, thread: u32, done: usize) -> Next
     ensures number { result.number ≡ done + 1 }
     ensures more { result.more ≡ nat_lt (done + 1) (length (lines_of script.now thread)) }
 {
-    let lines = script.threads.as_slice()[thread as usize].as_slice();
+    let lines = thread_lines(script, thread);
+    let line = line_in(lines, done);
     Next {
-        line: lines[done],
+        line,
         number: done as u32 + 1,
         more: done + 1 < lines.len(),
     }
+}
+
+/// The lines of a thread.
+#[inline(always)]
+fn thread_lines(script: &Script, thread: u32) -> &[Line]
+    requires { thread < length script.now.threads }
+    ensures { result.now ≡ lines_of script.now thread }
+{
+    script.threads.as_slice()[thread as usize].as_slice()
+}
+
+/// The line at a place.
+#[inline(always)]
+fn line_in(lines: &[Line], place: usize) -> Line
+    requires { place < length lines.now }
+    ensures { (d : lines_of_script.Line) → result ≡ slice_index_or lines.now place d }
+{
+    lines[place]
 }
