@@ -3,4 +3,4 @@ pub mod OwnLines
 pub mod SharedLines
 pub mod NotedLines
 pub mod Starting
-pub mod Running
+pub mod ManyLines

@@ -2,7 +2,7 @@ use Rattle.std.proofs.Common.{◌++◌, ◌∙◌, ◌<◌, List, [], length, �
 use Rattle.std.proofs.Common.{arith}
 use Rattle.std.proofs.lemmas.Bool.{ltb-false, ltb-true}
 use Rattle.std.proofs.lemmas.List.{take_all}
-use Rattle.cal_replay.proofs.Running.{asked-none, one-more, ran-more, readings-then}
+use Rattle.cal_replay.proofs.ManyLines.{asked-none, one-more, ran-more, readings-then}
 use Rattle.cal_replay.specs.Workers.{IsWorker, lines_of, script_of}
 use Rattle.cal_words.specs.declared.op.OpRec.{OpRec}
 use Rattle.cal_replay.proofs.worker.Worker.run.Goals as goal
