@@ -1,17 +1,15 @@
--- A worker that is started, and where the next line of a thread stands.
-use Rattle.std.proofs.Common.{◌≡◌, ◌⊎◌, ℕ, ◌+◌, ◌<◌, ◌≤◌, List, [], length, refl, sym, ap, subst}
-use Rattle.std.proofs.Common.{inl, inr, arith, get_or}
-use Rattle.std.specs.Prelude.{slice_index_or}
-use Rattle.std.proofs.lemmas.Bool.{cases_lt}
+-- A worker that is started, and how many lines a thread has.
+use Rattle.std.proofs.Common.{◌≡◌, ℕ, suc, zero, List, [], ◌∷◌, length, refl, sym, subst}
+use Rattle.std.specs.Prelude.{None, slice_get, slice_index_or}
 use Rattle.cal_notes.proofs.NextLines.{starts}
 use Rattle.cal_notes.specs.Notes.{known_journal}
 use Rattle.cal_notes.specs.Running.{started}
-use Rattle.cal_replay.specs.Workers.{IsWorker, lines_of, script_of}
+use Rattle.cal_replay.specs.Workers.{IsWorker, script_of}
 use Rattle.cal_replay.specs.declared.shared.Shared.{Shared}
 use Rattle.cal_replay.specs.declared.worker.Worker.{Worker}
 use Rattle.cal_run.specs.Lawful.{IsRead, takes_start_reading}
 use Rattle.cal_run.specs.Steps.{at_start}
-use Rattle.cal_script.specs.declared.script.Script.{Script}
+use Rattle.cal_script.specs.declared.script.Line.{Line}
 use Rattle.cal_thread.specs.Threads.{IsThread}
 
 pub starts-worker : (shared : Shared) (w : Worker) → IsThread shared.common w.thread 0 [] at_start
@@ -29,3 +27,10 @@ starts-worker shared w thread timed noted read =
       timed = timed;
       noted = starts (script_of shared) shared.real w.thread.number w.note.start read;
     })
+
+-- a thread that isn't there has no lines
+pub no-lines : (ts : List (List Line)) (i : ℕ) → slice_get ts i ≡ None
+    → length (slice_index_or ts i []) ≡ 0
+no-lines [] i none = refl
+no-lines (t ∷ ts) zero none = absurd cc
+no-lines (t ∷ ts) (suc i) none = no-lines ts i none

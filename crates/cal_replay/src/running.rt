@@ -6,6 +6,7 @@ ghost use Rattle.cal_words.specs.declared.op.OpRec as words;
 
 use crate::{Shared, Worker};
 use cal_base::{Clock, Gate};
+use cal_script::Script;
 use cal_value::OutOfMemory;
 use std::alloc::Global;
 
@@ -37,14 +38,17 @@ impl Worker {
         ensures { result ≡ nat_lt (length self.now.note.lines)
             (length (lines_of (script_of shared.now) self.now.thread.number)) }
     {
-        match shared
-            .common
-            .script
-            .threads
-            .get(self.thread.number as usize)
-        {
-            None => false,
-            Some(lines) => self.note.lines.len() < lines.len(),
-        }
+        self.note.lines.len() < line_count(shared.common.script, self.thread.number)
+    }
+}
+
+/// How many lines a thread has.
+#[inline(always)]
+fn line_count(script: &Script, thread: u32) -> usize
+    ensures { result ≡ length (lines_of script.now thread) }
+{
+    match script.threads.get(thread as usize) {
+        None => 0,
+        Some(lines) => lines.len(),
     }
 }

@@ -5,8 +5,8 @@ use Rattle.cal_words.specs.declared.op.OpRec.{OpRec}
 use Rattle.cal_replay.proofs.worker.Worker.run.Given as goal
 
 -- whatever it had seen before, it has seen more now
-abbrev pub invariant-loop : goal.invariant-loop
-invariant-loop g l =
+abbrev pub invariant-loop-alloc : goal.invariant-loop-alloc
+invariant-loop-alloc g l =
     let clock = g.K.Clock in
     record {
       some : (h : List OpRec) × IsWorker l.shared l.self h;
@@ -16,6 +16,6 @@ invariant-loop g l =
       read : HasRead l.shared clock.given l.fn.clock l.clock l.fn.self l.self;
     }
 
-abbrev pub decreases-loop : goal.decreases-loop
-decreases-loop g l =
+abbrev pub decreases-loop-alloc : goal.decreases-loop-alloc
+decreases-loop-alloc g l =
     length (lines_of (script_of l.shared) l.self.thread.number) - length l.self.note.lines
