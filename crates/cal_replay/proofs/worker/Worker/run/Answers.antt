@@ -28,14 +28,14 @@ step-requires-clause-worker g c = c.loop-alloc.invariant.some
 
 pub step-requires-clause-remains : goal.step-requires-clause-remains
 step-requires-clause-remains g c =
-    ltb-true _ _ (sym c.has_more.ensures ∙ c.if-has_more.true)
+    ltb-true _ _ (sym c.has_more.ensures ∙ c.loop-alloc-test.true)
 
 pub loop-alloc-smaller : goal.loop-alloc-smaller
 loop-alloc-smaller g c =
     let s = c.in_ok-_more.ensures.steps in
     let below = ltb-true (length c.loop-alloc.self.note.lines)
     (length (lines_of (script_of c.args.shared.now) c.loop-alloc.self.thread.number))
-    (sym c.has_more.ensures ∙ c.if-has_more.true) in
+    (sym c.has_more.ensures ∙ c.loop-alloc-test.true) in
     let one = one-more _ c.args.shared.now c.args.self.now c.loop-alloc.self c.step.new.self
     c.args.clock.now c.loop-alloc.clock c.step.new.clock s in
     let same = ap (λ (n : ℕ). length (lines_of (script_of c.args.shared.now) n)) s.number in
@@ -64,7 +64,7 @@ returns-clause-runs g c h w =
       kept = m.1;
       all = take_all (length c.loop-alloc.self.note.lines) lines
           (ltb-false (length c.loop-alloc.self.note.lines) (length lines)
-          (sym c.has_more.ensures ∙ c.if-has_more.false));
+          (sym c.has_more.ensures ∙ c.loop-alloc-test.false));
     }
 
 pub returns-clause-number : goal.returns-clause-number
