@@ -1,0 +1,74 @@
+use Rattle.std.proofs.Common.{◌++◌, ◌∙◌, ◌<◌, List, [], length, ℕ, refl, sym, ap, subst, append-nil}
+use Rattle.std.proofs.Common.{arith}
+use Rattle.std.proofs.lemmas.Bool.{ltb-false, ltb-true}
+use Rattle.std.proofs.lemmas.List.{take_all}
+use Rattle.cal_replay.proofs.ManyLines.{asked-none, one-more, ran-more, readings-then}
+use Rattle.cal_replay.specs.Workers.{IsWorker, lines_of, script_of}
+use Rattle.cal_words.specs.declared.op.OpRec.{OpRec}
+use Rattle.cal_replay.proofs.worker.Worker.run.Goals as goal
+
+pub loop-alloc-init : goal.loop-alloc-init
+loop-alloc-init g c = record {
+  some = c.requires.worker;
+  more = λ h w. (
+    [],
+    subst (λ (hs : List OpRec). IsWorker c.args.shared.now c.args.self.now hs)
+        (sym (append-nil h)) w,
+  );
+  number = refl;
+  read = (
+    [],
+    sym (append-nil c.args.self.now.note.lines),
+    asked-none _ c.args.shared.now.real c.args.clock.now,
+  );
+}
+
+pub step-requires-clause-worker : goal.step-requires-clause-worker
+step-requires-clause-worker g c = c.loop-alloc.invariant.some
+
+pub step-requires-clause-remains : goal.step-requires-clause-remains
+step-requires-clause-remains g c =
+    ltb-true _ _ (sym c.has_more.ensures ∙ c.loop-alloc-test.true)
+
+pub loop-alloc-smaller : goal.loop-alloc-smaller
+loop-alloc-smaller g c =
+    let s = c.in_ok-_more.ensures.steps in
+    let below = ltb-true (length c.loop-alloc.self.note.lines)
+    (length (lines_of (script_of c.args.shared.now) c.loop-alloc.self.thread.number))
+    (sym c.has_more.ensures ∙ c.loop-alloc-test.true) in
+    let one = one-more _ c.args.shared.now c.args.self.now c.loop-alloc.self c.step.new.self
+    c.args.clock.now c.loop-alloc.clock c.step.new.clock s in
+    let same = ap (λ (n : ℕ). length (lines_of (script_of c.args.shared.now) n)) s.number in
+    omega (arith, below, one, same)
+
+pub loop-alloc-preserved : goal.loop-alloc-preserved
+loop-alloc-preserved g c =
+    let i = c.loop-alloc.invariant in
+    let s = c.in_ok-_more.ensures.steps in
+    let more = ran-more _ c.args.shared.now c.args.self.now c.loop-alloc.self c.step.new.self
+    c.args.clock.now c.loop-alloc.clock c.step.new.clock s in
+    record {
+      some = (_, (s.runs i.some.0 i.some.1).kept);
+      more = λ h w. more h (i.more h w);
+      number = s.number ∙ i.number;
+      read = readings-then _ c.args.shared.now c.args.self.now c.loop-alloc.self c.step.new.self
+          c.args.clock.now c.loop-alloc.clock c.step.new.clock s i.read;
+    }
+
+pub returns-clause-runs : goal.returns-clause-runs
+returns-clause-runs g c h w =
+    let m = c.loop-alloc.invariant.more h w in
+    let lines = lines_of (script_of c.args.shared.now) c.loop-alloc.self.thread.number in
+    record {
+      ops = m.0;
+      kept = m.1;
+      all = take_all (length c.loop-alloc.self.note.lines) lines
+          (ltb-false (length c.loop-alloc.self.note.lines) (length lines)
+          (sym c.has_more.ensures ∙ c.loop-alloc-test.false));
+    }
+
+pub returns-clause-number : goal.returns-clause-number
+returns-clause-number g c = c.loop-alloc.invariant.number
+
+pub returns-clause-read : goal.returns-clause-read
+returns-clause-read g c = c.loop-alloc.invariant.read

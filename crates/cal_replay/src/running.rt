@@ -1,0 +1,54 @@
+//! All lines of a worker, one after another.
+ghost use Rattle.std.specs.Prelude.{◌≡◌, List, length, nat_lt, OnOk};
+ghost use Rattle.cal_replay.specs.Steps.{HasRead, RunsAll};
+ghost use Rattle.cal_replay.specs.Workers.{IsShared, IsSomeWorker, IsWorker, lines_of, script_of};
+ghost use Rattle.cal_words.specs.declared.op.OpRec as words;
+
+use crate::{Shared, Worker};
+use cal_base::{Clock, Gate};
+use cal_script::Script;
+use cal_value::OutOfMemory;
+use std::alloc::Global;
+
+impl Worker {
+    /// Runs all lines that remain. Behind an `Err` the worker may not run on.
+    pub fn run<K: Clock, G: Gate>(
+        &mut self,
+        alloc: Global,
+        shared: &Shared<'_>,
+        clock: &mut K,
+        gate: &G,
+    ) -> Result<(), OutOfMemory>
+        requires shared { IsShared shared.now }
+        requires worker { IsSomeWorker shared.now self.old }
+        ensures runs { OnOk result ((h : List words.OpRec) → IsWorker shared.now self.old h
+            → RunsAll shared.now self.new h) }
+        ensures number { OnOk result (self.new.thread.number ≡ self.old.thread.number) }
+        ensures read { OnOk result
+            (HasRead shared.now K.given clock.old clock.new self.old self.new) }
+    {
+        while self.has_more(shared) {
+            let _more = self.step(alloc, shared, clock, gate)?;
+        }
+        Ok(())
+    }
+
+    /// Whether lines remain.
+    fn has_more(&self, shared: &Shared<'_>) -> bool
+        ensures { result ≡ nat_lt (length self.now.note.lines)
+            (length (lines_of (script_of shared.now) self.now.thread.number)) }
+    {
+        self.note.lines.len() < line_count(shared.common.script, self.thread.number)
+    }
+}
+
+/// How many lines a thread has.
+#[inline(always)]
+fn line_count(script: &Script, thread: u32) -> usize
+    ensures { result ≡ length (lines_of script.now thread) }
+{
+    match script.threads.get(thread as usize) {
+        None => 0,
+        Some(lines) => lines.len(),
+    }
+}
