@@ -1,6 +1,6 @@
 -- What was read until nothing was found is the whole history.
-use Rattle.std.proofs.Common.{◌≡◌, ◌⊎◌, ℕ, ◌+◌, ◌<◌, ◌≤◌, List, [], ◌∷◌, ◌++◌, drop, length}
-use Rattle.std.proofs.Common.{⊎_elim, inl, inr, refl, sym, ap, ◌∙◌, subst, arith}
+use Rattle.std.proofs.Common.{◌≡◌, ℕ, List, [], ◌∷◌, ◌++◌, drop, length}
+use Rattle.std.proofs.Common.{⊎_elim, inl, inr, sym, ap, ◌∙◌, subst, arith}
 use Rattle.std.specs.Prelude.{None, Option, slice_get}
 use Rattle.std.specs.List.{All}
 use Rattle.std.proofs.lemmas.List.{map-append}
@@ -8,9 +8,7 @@ use Rattle.cal_ending.proofs.WholeLemmas.{all-known, begins-with, none-learns, n
 use Rattle.cal_ending.proofs.WholeLemmas.{none-noted, others-behind}
 use Rattle.cal_ending.specs.Joining.{IsJoined}
 use Rattle.cal_ending.specs.Whole.{IsWhole, KnowsOwn}
-use Rattle.cal_once.specs.Layout.{times}
 use Rattle.cal_once.specs.Seats.{view}
-use Rattle.cal_once.specs.Views.{KnowsMore}
 use Rattle.cal_once.specs.declared.seat.RowSeat.{RowSeat}
 use Rattle.cal_plog.specs.Answers.{Reads}
 use Rattle.cal_plog.specs.History.{HasJoined, HasSeen}
@@ -47,16 +45,18 @@ module _ (common : Common) where
         placed = is;
         read = known;
         begins = λ h seen.
-          let less = none-longer (plan_of common.log) (view mid) (view new) k none (view old) h
-          learns.more seen in
-          (drop (length h) ops, begins-with (plan_of common.log) (view new) seat.sound h ops
-            (seen-later slots (view mid) (view new) h last.more
-            (seen-later slots (view old) (view mid) h learns.more seen)) known
-            (omega (arith, less, long)));
+            let less = none-longer (plan_of common.log) (view mid) (view new) k none (view old) h
+            learns.more seen in (
+              drop (length h) ops,
+              begins-with (plan_of common.log) (view new) seat.sound h ops
+                  (seen-later slots (view mid) (view new) h last.more
+                  (seen-later slots (view old) (view mid) h learns.more seen)) known
+                  (omega (arith, less, long)),
+            );
         end = ⊎_elim (λ (e : k ≡ slots). inl (long ∙ e))
-          (λ e. inr (e ∙ ap (λ (ps : List ℕ). ps ++ k ∷ []) looks
-          ∙ ap (λ (n : ℕ). (view old).looks ++ n ∷ []) (sym long)))
-          (none-noted (plan_of common.log) (view mid) (view new) k none);
+            (λ e. inr (e ∙ ap (λ (ps : List ℕ). ps ++ k ∷ []) looks
+            ∙ ap (λ (n : ℕ). (view old).looks ++ n ∷ []) (sym long)))
+            (none-noted (plan_of common.log) (view mid) (view new) k none);
       }
 
   module _ (old new : RowSeat OpSort) (history : List Placed) (seat : IsLogSeat common.log new)
@@ -87,6 +87,6 @@ module _ (common : Common) where
           more = history_of b.0;
           whole = whole.placed ∙ ap history_of b.1 ∙ map-append placed_as h b.0;
           others = others-behind (plan_of common.log) (view new) seat.sound
-            (learns.number ∙ hired.first_log) t.number places there h b.0 read
-            (λ p some. let less = is.below p some in omega (arith, less, long));
+              (learns.number ∙ hired.first_log) t.number places there h b.0 read
+              (λ p some. let less = is.below p some in omega (arith, less, long));
         }

@@ -1,15 +1,14 @@
 -- What the first seats know once they took in a thread's.
-use Rattle.std.proofs.Common.{◌≡◌, ◌≢◌, ℕ, suc, zero, ◌+◌, ◌-◌, ◌<◌, ◌≤◌, List, [], ◌∷◌, ◌++◌}
-use Rattle.std.proofs.Common.{length, true, refl, sym, ap, ◌∙◌, subst, arith}
+use Rattle.std.proofs.Common.{◌≡◌, ◌≢◌, ℕ, suc, zero, ◌+◌, ◌-◌, ◌<◌, List, [], ◌∷◌}
+use Rattle.std.proofs.Common.{length, refl, sym, ap, ◌∙◌, arith}
 use Rattle.std.specs.Prelude.{All, IsTrue, Option, Some, None, slice_get, slice_index_or}
 use Rattle.cal_ending.specs.Joining.{AreInOrder, IsJoined}
 use Rattle.cal_once.proofs.Seen.{Saw_left, Saw_right, length-joined}
 use Rattle.cal_once.specs.Seats.{view}
-use Rattle.cal_once.specs.Views.{KnowsMore, Learns, Saw, joined, joined_with, none_away}
+use Rattle.cal_once.specs.Views.{KnowsMore, Learns, joined, joined_with, none_away}
 use Rattle.cal_once.specs.declared.seat.RowSeat.{RowSeat}
 use Rattle.cal_once.specs.declared.view.View.{View}
 use Rattle.cal_plog.proofs.Joins.{is_joined, stays_joined}
-use Rattle.cal_plog.specs.History.{HasJoined}
 use Rattle.cal_thread.specs.declared.thread.Thread.{Thread}
 use Rattle.cal_words.specs.declared.sort.NodeSort.{NodeSort}
 use Rattle.cal_words.specs.declared.sort.OpSort.{OpSort}
@@ -105,6 +104,7 @@ pub threads-joined : (tree : RowSeat NodeSort) (log : RowSeat OpSort) (ts : List
     → (k : ℕ) → k < length (view log).others → WasJoined (view log).others k
 threads-joined tree log [] order all long k l = absurd (omega (arith, l, long))
 threads-joined tree log (t ∷ ts) order all long k l =
-    let m : k < length (t ∷ ts) = omega (arith, l, long) in
-    ((view (slice_index_or (t ∷ ts) k t).process.log).published,
-      ap (λ (n : ℕ). slice_get (view log).others n) (sym (order k t m)) ∙ (all k t m).published)
+    let m : k < length (t ∷ ts) = omega (arith, l, long) in (
+      (view (slice_index_or (t ∷ ts) k t).process.log).published,
+      ap (λ (n : ℕ). slice_get (view log).others n) (sym (order k t m)) ∙ (all k t m).published,
+    )

@@ -1,8 +1,8 @@
 -- The whole history, and what threads knew of it.
-use Rattle.std.proofs.Common.{◌≡◌, ◌≢◌, ◌⊎◌, ℕ, suc, zero, ◌+◌, ◌-◌, ◌<◌, ◌≤◌, List, [], ◌∷◌}
+use Rattle.std.proofs.Common.{◌≡◌, ◌≢◌, ◌⊎◌, ℕ, suc, ◌+◌, ◌-◌, ◌<◌, ◌≤◌, List, [], ◌∷◌}
 use Rattle.std.proofs.Common.{◌++◌, take, drop, length, get_or, append-nil, inl, inr}
 use Rattle.std.proofs.Common.{⊎_elim, Bool, if◌then◌else◌, refl, sym, ap, ◌∙◌, subst, arith}
-use Rattle.std.specs.Prelude.{Option, Some, None, ◌==◌}
+use Rattle.std.specs.Prelude.{Some, None, ◌==◌}
 use Rattle.std.specs.List.{All, cons_option}
 use Rattle.std.proofs.lemmas.Bool.{cases_lt, ne_eqb}
 use Rattle.std.proofs.lemmas.List.{ext_get_or, length-append, length-take-le, take-append-drop}
@@ -50,7 +50,7 @@ learns-then u v w a b = record {
 
 module _ (plan : Plan OpSort) (v w : View OpSort) (k : ℕ)
     (none : ((k ≡ plan.shape.slots) × (w ≡ v))
-      ⊎ ((k < plan.shape.slots) × WasEmpty plan v k × Learns (noting k v) w)) where
+    ⊎ ((k < plan.shape.slots) × WasEmpty plan v k × Learns (noting k v) w)) where
   -- a look that found nothing
   pub none-learns : OnlyLearns v w
   none-learns = by none
@@ -111,10 +111,10 @@ module _ (plan : Plan OpSort) (v : View OpSort) (sound : IsSound op_law plan v) 
       let front : take (length h) ops ≡ h =
       ext_get_or o (take (length h) ops) h (omega (arith, n))
       (λ i l.
-        let m : i < length h = omega (arith, l, n) in
-        get_or-take (length h) ops i o m
-        ∙ one_op plan v sound i (get_or ops i o) (get_or h i o)
-          (read i o (omega (arith, m, long))) (seen i o m)) in
+      let m : i < length h = omega (arith, l, n) in
+      get_or-take (length h) ops i o m
+      ∙ one_op plan v sound i (get_or ops i o) (get_or h i o)
+      (read i o (omega (arith, m, long))) (seen i o m)) in
       sym (take-append-drop (length h) ops) ∙ ap (λ xs. xs ++ drop (length h) ops) front
 
   -- and behind what a thread has seen none is the thread's
@@ -123,16 +123,16 @@ module _ (plan : Plan OpSort) (v : View OpSort) (sound : IsSound op_law plan v) 
       → ((p : ℕ) → 0 < times p places → p < length h) → OfOthers thread (history_of more)
   others-behind first thread places is h more read below =
       All-map (λ (p : Placed). p.thread ≢ thread) placed_as more (λ i d l same.
-        let long = length-append h more in
-        let sum : length h + i - length h ≡ i = omega arith in
-        let at : get_or (h ++ more) (length h + i) d ≡ get_or more i d =
-        get_or-append_right h more (length h) (length h + i) d refl (omega arith)
-        ∙ ap (λ (n : ℕ). get_or more n d) sum in
-        let has = read (length h + i) d (omega (arith, l, long)) in
-        let once = published_own plan v thread places sound first is (length h + i)
-        (get_or (h ++ more) (length h + i) d) has (ap (λ (o : OpRec). o.thread) at ∙ same) in
-        let less = below (length h + i) (omega (arith, once)) in
-        omega (arith, less))
+      let long = length-append h more in
+      let sum : length h + i - length h ≡ i = omega arith in
+      let at : get_or (h ++ more) (length h + i) d ≡ get_or more i d =
+      get_or-append_right h more (length h) (length h + i) d refl (omega arith)
+      ∙ ap (λ (n : ℕ). get_or more n d) sum in
+      let has = read (length h + i) d (omega (arith, l, long)) in
+      let once = published_own plan v thread places sound first is (length h + i)
+      (get_or (h ++ more) (length h + i) d) has (ap (λ (o : OpRec). o.thread) at ∙ same) in
+      let less = below (length h + i) (omega (arith, once)) in
+      omega (arith, less))
 
   -- all that was read is among what may be appended
   pub all-known : (script : Script) (ops : List OpRec) → All (IsOpOf script) plan.sort.ops

@@ -13,8 +13,8 @@ use Rattle.cal_script.specs.declared.script.Script.{Script}
 use Rattle.cal_words.specs.declared.op.OpRec.{OpRec}
 use Rattle.cal_words.specs.declared.sort.OpSort.{OpSort}
 
--- The seat has read these operations, from the first place on, up to a slot that was found empty, or
--- to the end of the slots. Whatever beginning of the history it had seen before begins them.
+-- The seat has read these operations, from the first place on, up to a slot that was found empty,
+-- or to the end of the slots. Whatever beginning of the history it had seen before begins them.
 pub record IsWhole (common : Common) (old new : RowSeat OpSort) (history : List Placed)
     : Type 0 where
   pub ops : List OpRec

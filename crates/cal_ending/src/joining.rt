@@ -37,8 +37,8 @@ pub fn join_thread(common: &Common<'_>, thread: Thread, tree: &mut TreeSeat, log
     common.log.join(log, process.log);
 }
 
-/// The first seats take in those of all threads of a run, in the order of their numbers. It takes no
-/// memory and never waits.
+/// The first seats take in those of all threads of a run, which are given in the order of their
+/// numbers. It takes no memory and never waits.
 pub fn join_threads(
     common: &Common<'_>,
     mut threads: Vec<Thread>,

@@ -19,8 +19,8 @@ ghost use Rattle.cal_words.specs.declared.op.OpRec.{OpRec};
 ghost use Rattle.cal_words.specs.declared.sort.NodeSort.{NodeSort};
 ghost use Rattle.cal_words.specs.declared.sort.OpSort.{OpSort};
 
-/// The law of a thread whose seats were joined: what it has seen of the history the first seats have
-/// seen, and each path that it knows they know; and this stays while they learn more.
+/// The law of a thread whose seats were joined: what it has seen of the history the first seat has
+/// seen, and each path that it knows the first seat knows; and this stays while they learn more.
 pub fn joined_thread_law()
     ensures seen { (common : Common) (tree : RowSeat NodeSort) (log : RowSeat OpSort) (t : Thread)
         (h : List OpRec) → IsJoined tree log t

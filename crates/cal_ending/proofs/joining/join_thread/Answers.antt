@@ -1,4 +1,4 @@
-use Rattle.std.proofs.Common.{◌∙◌, ap, arith}
+use Rattle.std.proofs.Common.{◌∙◌, arith}
 use Rattle.cal_once.specs.Seats.{view}
 use Rattle.cal_ending.proofs.JoinLemmas.{here-joined, number-same, others-long, there-joined}
 use Rattle.cal_ending.proofs.joining.join_thread.Goals as goal

@@ -1,12 +1,12 @@
-use Rattle.std.proofs.Common.{◌≡◌, ◌≢◌, ◌+◌, ◌-◌, ◌<◌, ◌≤◌, ◌++◌, ℕ, List, [], ◌∷◌, length, refl}
+use Rattle.std.proofs.Common.{◌≡◌, ◌+◌, ◌-◌, ◌<◌, ◌++◌, ℕ, List, [], ◌∷◌, length}
 use Rattle.std.proofs.Common.{append_assoc, sym, ap, ◌∙◌, subst, arith}
 use mathlib.Core.Logic.{dite}
 use native.Mathlib.Decide.{ℕ_discrete}
-use Rattle.std.specs.Prelude.{Option, slice_get, slice_index_or}
+use Rattle.std.specs.Prelude.{Option, slice_index_or}
 use Rattle.std.proofs.lemmas.List.{length-append}
 use Rattle.std.proofs.Math.Seq.{get_or-append_seam}
-use Rattle.cal_ending.proofs.JoinLemmas.{WasJoined, all-joined, others-are, threads-joined, was-here}
-use Rattle.cal_ending.proofs.JoinLemmas.{was-there}
+use Rattle.cal_ending.proofs.JoinLemmas.{WasJoined, all-joined, others-are, threads-joined}
+use Rattle.cal_ending.proofs.JoinLemmas.{was-here, was-there}
 use Rattle.cal_ending.specs.Joining.{AtTree, IsJoined}
 use Rattle.cal_once.specs.Seats.{view}
 use Rattle.cal_once.specs.Views.{joined_with}
@@ -25,8 +25,11 @@ whole c = c.loop-thread.invariant.left.1
 more-left : (c : In-Some) → length c.pop.new.self.items < length c.args.threads.items
 more-left c =
     let e = ap (λ (xs : List Thread). length xs) (whole c) in
-    omega (arith, e,
-    length-append c.pop.new.self.items (c.in-Some.thread ∷ c.loop-thread.invariant.left.0))
+    omega (
+      arith,
+      e,
+      length-append c.pop.new.self.items (c.in-Some.thread ∷ c.loop-thread.invariant.left.0),
+    )
 
 here : (c : In-Some) (d : Thread)
     → slice_index_or c.args.threads.items (length c.pop.new.self.items) d ≡ c.in-Some.thread
@@ -68,10 +71,10 @@ loop-thread-preserved c =
       left = (t ∷ i.left.0, whole s);
       joined = λ j d low high. dite (ℕ_discrete k j)
           (λ e. subst (λ (m : ℕ). IsJoined tree log (slice_index_or c.args.threads.items m d)) e
-            (subst (λ (u : Thread). IsJoined tree log u) (sym (here s d)) done.joined))
+          (subst (λ (u : Thread). IsJoined tree log u) (sym (here s d)) done.joined))
           (λ ne. done.others (slice_index_or c.args.threads.items j d)
-            (λ e. let is = c.requires.order j d high in ne (omega (arith, e, is, at)))
-            (i.joined j d (omega (arith, low, ne, popped, sum)) high));
+          (λ e. let is = c.requires.order j d high in ne (omega (arith, e, is, at)))
+          (i.joined j d (omega (arith, low, ne, popped, sum)) high));
       nodes = λ own j low high.
           let old = (view c.loop-thread.tree).others in
           let places = (view t.tree).published in
@@ -84,9 +87,9 @@ loop-thread-preserved c =
           (subst (λ (m : ℕ). WasJoined (joined_with old m places) j) (sym place)
           (dite (ℕ_discrete k j)
           (λ e. subst (λ (m : ℕ). WasJoined (joined_with old k places) m) e
-            (places, was-here old k places (omega (arith, less, long))))
+          (places, was-here old k places (omega (arith, less, long))))
           (λ ne. let was = i.nodes own j (omega (arith, low, ne, popped, sum)) high in
-            (was.0, was-there old k j places ne ∙ was.1))));
+          (was.0, was-there old k j places ne ∙ was.1))));
     }
 
 pub returns-clause-history : goal.returns-clause-history
@@ -94,10 +97,12 @@ returns-clause-history c =
     let i = c.loop-thread.invariant in
     let gone = c.in_default.ensures.cases.0 in
     let items = c.loop-thread.threads.ok in
-    let none : length c.loop-thread.threads.items ≡ 0 = omega (arith, gone, items) in
-    (i.hired.first_log, all-joined (view c.loop-thread.log).others
-      (threads-joined c.loop-thread.tree c.loop-thread.log c.args.threads.items c.requires.order
-      (λ k d l. i.joined k d (omega (arith, none)) l) i.hired.log_others))
+    let none : length c.loop-thread.threads.items ≡ 0 = omega (arith, gone, items) in (
+      i.hired.first_log,
+      all-joined (view c.loop-thread.log).others
+          (threads-joined c.loop-thread.tree c.loop-thread.log c.args.threads.items c.requires.order
+          (λ k d l. i.joined k d (omega (arith, none)) l) i.hired.log_others),
+    )
 
 pub returns-clause-nodes : goal.returns-clause-nodes
 returns-clause-nodes c own =
@@ -105,6 +110,8 @@ returns-clause-nodes c own =
     let gone = c.in_default.ensures.cases.0 in
     let items = c.loop-thread.threads.ok in
     let none : length c.loop-thread.threads.items ≡ 0 = omega (arith, gone, items) in
-    let long = i.hired.tree_others in
-    (i.hired.first_tree, all-joined (view c.loop-thread.tree).others
-      (λ k l. i.nodes own k (omega (arith, none)) (omega (arith, l, long))))
+    let long = i.hired.tree_others in (
+      i.hired.first_tree,
+      all-joined (view c.loop-thread.tree).others
+          (λ k l. i.nodes own k (omega (arith, none)) (omega (arith, l, long))),
+    )

@@ -1,4 +1,4 @@
-use Rattle.std.proofs.Common.{◌≡◌, ◌+◌, ◌<◌, ◌≤◌, ◌++◌, ℕ, List, length, vec_len}
+use Rattle.std.proofs.Common.{◌≡◌, ◌<◌, ◌≤◌, ◌++◌, ℕ, List, length, vec_len}
 use Rattle.std.specs.Prelude.{All, slice_index_or}
 use Rattle.cal_ending.proofs.JoinLemmas.{WasJoined}
 use Rattle.cal_ending.specs.Joining.{AtTree, IsJoined}
