@@ -62,6 +62,9 @@ fn the_history_is_whole_when_both_threads_have_ended(rt: HostRuntime) -> Result<
     drop(script);
     let read = is_read(&history, &[placed(0, 1), placed(1, 1), placed(0, 2)]);
     drop(history);
-    assert!(rt; read, "both threads' process lines stand there in the order in which they came");
+    assert!(rt;
+        read,
+        "both threads' process lines stand there in the order in which they came"
+    );
     Ok(())
 }
