@@ -1,16 +1,22 @@
 //! A plain hash map of keys, to measure tables by.
 
 use cal_snap::NumberedSnap;
-use cal_value::{OutOfMemory, Variant};
+use cal_value::{OutOfMemory, TryCopy, Variant};
 use std::alloc::Global;
 use std::collections::HashMap;
 use std::hash::RandomState;
 
-/// Nodes, and numbers by their attributes.
+/// Nodes, and values by their attributes.
 #[derive(Drop, PartialEq, Eq, Hash)]
 pub struct PlainKey {
     nodes: Vec<u32>,
-    imms: Vec<(u32, u64)>,
+    imms: Vec<PlainEntry>,
+}
+
+#[derive(Drop, PartialEq, Eq, Hash)]
+struct PlainEntry {
+    attribute: u32,
+    value: Variant,
 }
 
 /// How many snapshots there are, and of their numbers the sum and the ends.
@@ -31,7 +37,7 @@ impl PlainKey {
     }
 
     // Becomes the key of a snapshot: its nodes, and its entries of the first attribute.
-    fn renew(&mut self, snap: &NumberedSnap) -> Result<(), OutOfMemory> {
+    fn renew(&mut self, alloc: Global, snap: &NumberedSnap) -> Result<(), OutOfMemory> {
         self.nodes.clear();
         for node in &snap.refs {
             self.nodes.push(node.0)?;
@@ -39,16 +45,20 @@ impl PlainKey {
         self.imms.clear();
         for entry in &snap.imms {
             if entry.attribute == 0 {
-                self.imms.push((0, number_in(&entry.value)))?;
+                self.imms.push(copied(alloc, 0, &entry.value)?)?;
             }
         }
         Ok(())
     }
 
     fn copy(&self, alloc: Global) -> Result<PlainKey, OutOfMemory> {
+        let mut imms = Vec::with_capacity(alloc, self.imms.len())?;
+        for entry in &self.imms {
+            imms.push(copied(alloc, entry.attribute, &entry.value)?)?;
+        }
         Ok(PlainKey {
             nodes: Vec::from_slice(alloc, self.nodes.as_slice())?,
-            imms: Vec::from_slice(alloc, self.imms.as_slice())?,
+            imms,
         })
     }
 }
@@ -60,6 +70,13 @@ impl PlainRow {
         self.least = self.least.min(number);
         self.greatest = self.greatest.max(number);
     }
+}
+
+fn copied(alloc: Global, attribute: u32, value: &Variant) -> Result<PlainEntry, OutOfMemory> {
+    Ok(PlainEntry {
+        attribute,
+        value: value.copy(alloc)?,
+    })
 }
 
 // The number of a value, or 0.
@@ -89,7 +106,7 @@ pub fn add_plain(
     snap: &NumberedSnap,
 ) -> Result<(), OutOfMemory> {
     let number = last_number(snap);
-    draft.renew(snap)?;
+    draft.renew(alloc, snap)?;
     if let Some(row) = map.get_mut(&*draft) {
         row.add(number);
         return Ok(());
