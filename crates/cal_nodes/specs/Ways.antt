@@ -25,9 +25,8 @@ module _ (tree : Tree) (seat : RowSeat NodeSort) where
   -- node of the path that is left, and takes the last value away.
   abbrev pub Climbs : List (Opened Variant) → List Step → List (Opened Variant) → Type 0
   Climbs path [] above = path ≡ above
-  Climbs path (s ∷ steps) above = NodeAt tree seat s.node path
-      × ((front : List (Opened Variant)) × (path ≡ front ++ opened_of s ∷ [])
-      × Climbs front steps above)
+  Climbs path (s ∷ steps) above = (front : List (Opened Variant)) × NodeAt tree seat s.node path
+      × (path ≡ front ++ opened_of s ∷ []) × Climbs front steps above
 
   -- the node of a path has this number; no value is the path of the context's root
   abbrev pub HasNumber : List (Option NodeNumber) → List (Opened Variant) → NodeNumber → Type 0

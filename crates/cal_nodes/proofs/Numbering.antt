@@ -1,0 +1,79 @@
+-- Numbers stay, and stand for whatever is known as their nodes' paths.
+use Rattle.std.proofs.Common.{◌≡◌, ◌⊎◌, ℕ, ◌+◌, ◌<◌, List, [], ◌∷◌, length, map, Option, Some, refl, sym, ap, ◌∙◌, subst, ⊎_elim, arith}
+use Rattle.cal_board.specs.ContextGrowth.{NodeStands-Grows}
+use Rattle.cal_board.specs.Contexts.{NodeStands}
+use Rattle.cal_board.specs.declared.opened.Opened.{Opened}
+use Rattle.cal_context.proofs.CallerLemmas.{within_attributes}
+use Rattle.cal_context.specs.Tree as contexts
+use Rattle.cal_context.specs.Tree.{Grows}
+use Rattle.cal_context.specs.declared.numbers.NodeNumber.{NodeNumber}
+use Rattle.cal_hand.specs.Nodes.{NodeAt, node_entry}
+use Rattle.cal_nodes.specs.Numbers.{AreNumbered, CanNumber, number_in}
+use Rattle.cal_once.specs.Seats.{view}
+use Rattle.cal_once.specs.Views.{KnowsMore}
+use Rattle.cal_once.specs.declared.seat.RowSeat.{RowSeat}
+use Rattle.cal_tree.proofs.Walks.{known_of_path}
+use Rattle.cal_tree.proofs.Ways.{leads_later, one_end, one_path}
+use Rattle.cal_tree.specs.Paths.{NodeEntry}
+use Rattle.cal_tree.specs.Seats.{IsKnownNode, IsTreeSeat, plan_of, slots_of}
+use Rattle.cal_tree.specs.declared.tree.Tree.{Tree}
+use Rattle.cal_value.specs.declared.variant.Variant.{Variant}
+use Rattle.cal_words.specs.declared.node.NodeId.{NodeId}
+use Rattle.cal_words.specs.declared.sort.NodeSort.{NodeSort}
+
+module _ (tree : Tree) (was is : RowSeat NodeSort) (more : KnowsMore (view was) (view is)) where
+  pub node_later : (node : NodeId) (path : List (Opened Variant)) → NodeAt tree was node path → NodeAt tree is node path
+  node_later node path at = record {
+    below = at.below;
+    has_path = leads_later (slots_of tree) (view was) (view is) 0 0 (map node_entry path) node.0 more at.has_path;
+  }
+
+  pub numbered_later : (old new : contexts.Tree) (numbers : List (Option NodeNumber)) → Grows old new → AreNumbered tree was old numbers → AreNumbered tree is new numbers
+  numbered_later old new numbers grows a = record {
+    long = a.long;
+    each = λ node n e. let s = a.each node n e in record {
+      path = s.path;
+      node_at = node_later node s.path s.node_at;
+      stands = NodeStands-Grows grows n s.path s.stands;
+    };
+  }
+
+  pub can_later : (old new : contexts.Tree) (node : NodeId) → Grows old new → CanNumber tree was old node → CanNumber tree is new node
+  can_later old new node grows c = record {
+    path = c.path;
+    node_at = node_later node c.path c.node_at;
+    listed = λ k d l. within_attributes grows _ (c.listed k d l);
+  }
+
+-- an open value is its entry
+opened_back : NodeEntry → Opened Variant
+opened_back e = record { attribute = e.attr; value = e.value }
+
+back_again : (path : List (Opened Variant)) → map opened_back (map node_entry path) ≡ path
+unfolding opened_back
+back_again [] = refl
+back_again (o ∷ path) = (λ i. o ∷ back_again path i)
+
+same_opened : (p q : List (Opened Variant)) → map node_entry p ≡ map node_entry q → p ≡ q
+same_opened p q e = sym (back_again p) ∙ ap (λ (es : List NodeEntry). map opened_back es) e ∙ back_again q
+
+-- a node that is known has its place
+pub place_within : (tree : Tree) (seat : RowSeat NodeSort) (node places : ℕ) → IsKnownNode tree seat node → slots_of tree < places → node < places
+place_within tree seat node places known long = ⊎_elim (λ root. omega arith) (λ t. let is = t.1 in let less = t.2 in omega arith) known
+
+pub known_node : (tree : Tree) (seat : RowSeat NodeSort) (node : NodeId) (path : List (Opened Variant)) → NodeAt tree seat node path → IsKnownNode tree seat node.0
+known_node tree seat node path at = known_of_path (slots_of tree) (view seat) (map node_entry path) node.0 at.has_path
+
+module _ (tree : Tree) (seat : RowSeat NodeSort) (is : IsTreeSeat tree seat) where
+  pub one_opened : (node : NodeId) (p q : List (Opened Variant)) → NodeAt tree seat node p → NodeAt tree seat node q → p ≡ q
+  one_opened node p q a b = same_opened p q (one_path (plan_of tree) (view seat) is.sound (map node_entry p) (map node_entry q) node.0 a.has_path b.has_path)
+
+  pub one_node_at : (m n : NodeId) (path : List (Opened Variant)) → NodeAt tree seat m path → NodeAt tree seat n path → m ≡ n
+  one_node_at m n path a b =
+      let same : m.0 ≡ n.0 = one_end (plan_of tree) (view seat) is.sound 0 0 (map node_entry path) m.0 n.0 a.has_path b.has_path in
+      λ i. record { 0 = same i }
+
+  pub stands_for : (t : contexts.Tree) (numbers : List (Option NodeNumber)) (node : NodeId) (n : NodeNumber) (path : List (Opened Variant)) → AreNumbered tree seat t numbers → number_in numbers node ≡ Some n → NodeAt tree seat node path → NodeStands t n path
+  stands_for t numbers node n path a e at =
+      let s = a.each node n e in
+      subst (λ (p : List (Opened Variant)). NodeStands t n p) (one_opened node s.path path s.node_at at) s.stands
