@@ -99,3 +99,11 @@ module _ (tree : Tree) (seat : RowSeat NodeSort) where
     climbs = subst (λ (p : List (Opened Variant)). Climbs tree seat p steps w.above) (one_opened tree seat is node w.path path w.node_at at) w.climbs;
     start = h;
   }
+
+-- the way goes on from a parent to its own
+pub climb_on : (tree : Tree) (was is : RowSeat NodeSort) → KnowsMore (view was) (view is) → (node : NodeId) (steps new : List Step) (up next : Up) → 0 < up.parent.0 → IsClimbed tree was node steps up → IsStepUp tree is steps new up.parent next → IsClimbed tree is node new next × (next.depth < up.depth)
+climb_on tree was is more node steps new up next below w s =
+    let later = climbed_later tree was is more node steps up w in
+    let at : NodeAt tree is up.parent later.above = record { below = below; has_path = later.here } in
+    let r = climb_step tree is node up.parent later.path steps new later.above next later.node_at later.climbs at s in
+    (r.0, subst (λ (d : ℕ). next.depth < d) (sym later.depth) r.1)

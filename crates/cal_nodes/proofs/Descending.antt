@@ -24,6 +24,7 @@ use Rattle.cal_nodes.specs.Ways.{CanDescend, IsWay, opened_of}
 use Rattle.cal_nodes.specs.declared.way.Step.{Step}
 use Rattle.cal_once.specs.declared.seat.RowSeat.{RowSeat}
 use Rattle.cal_tree.specs.declared.tree.Tree.{Tree}
+use Rattle.cal_value.specs.declared.attribute.Attribute.{Attribute}
 use Rattle.cal_value.specs.declared.variant.Variant.{Variant}
 use Rattle.cal_words.specs.declared.node.NodeId.{NodeId}
 use Rattle.cal_words.specs.declared.sort.NodeSort.{NodeSort}
@@ -63,9 +64,7 @@ module _ (tree : Tree) (seat : RowSeat NodeSort) (old new : contexts.Tree) (grow
     where
       there : List (Opened Variant)
       there = w.above ++ opened_of s ∷ []
-
       last = climbs_last tree seat path rest w.above s w.climbs
-
       long = w.numbered.long
 
       stands : NodeStands new n (w.above ++ opened_of s ∷ [])
@@ -112,6 +111,6 @@ goes_down-more t₀ numbers₀ n₀ steps₀ old new numbers parent n s rest gro
 pub can_descend-more : (old new : contexts.Tree) (numbers : List (Option NodeNumber)) (parent n : NodeNumber) (s : Step) (rest : List Step) → new.attributes ≡ old.attributes → n.0 < length new.paths → CanDescend old numbers parent (rest ++ s ∷ []) → CanDescend new (slice_set numbers s.node.0 (Some n)) n rest
 can_descend-more old new numbers parent n s rest same within can = record {
   start = within;
-  attributes = λ k d l. subst (λ as. (get_or rest k d).attr < length as) (sym same) (all_front (λ (x : Step). x.attr < length old.attributes) rest s can.attributes k d l);
+  attributes = λ k d l. subst (λ (attributes : List Attribute). (get_or rest k d).attr < length attributes) (sym same) (all_front (λ (x : Step). x.attr < length old.attributes) rest s can.attributes k d l);
   places = λ k d l. subst (λ (i : ℕ). (get_or rest k d).node.0 < i) (sym (length-set numbers s.node.0 (Some n))) (all_front (λ (x : Step). x.node.0 < length numbers) rest s can.places k d l);
 }

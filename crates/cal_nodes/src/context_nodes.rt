@@ -17,6 +17,7 @@ ghost use Rattle.cal_words.specs.Shapes.{IsShape};
 ghost use Rattle.cal_words.specs.declared.sort.NodeSort.{NodeSort};
 
 use crate::descent::descend;
+use crate::numbers::number_at;
 use crate::way::Way;
 use cal_context::{Context, NodeNumber};
 use cal_tree::{Tree, TreeSeat};
@@ -85,7 +86,7 @@ impl ContextNodes {
         ensures again { (n : numbers.NodeNumber) → number_in self.old node ≡ Some n
             → (context.new ≡ context.old) × (self.new ≡ self.old) }
     {
-        if let Some(number) = self.numbers[node.0 as usize] {
+        if let Some(number) = number_at(&self.numbers, node) {
             return Ok(number);
         }
         context.has_each_once();
@@ -126,6 +127,6 @@ impl ContextNodes {
         ensures { number_in self.now node ≡ Some result }
     {
         let _ = &self.way;
-        self.numbers[node.0 as usize].unwrap()
+        number_at(&self.numbers, node).unwrap()
     }
 }

@@ -9,6 +9,7 @@
 mod context_nodes;
 mod descent;
 mod laws;
+mod numbers;
 mod way;
 
 pub use context_nodes::ContextNodes;

@@ -10,6 +10,7 @@ ghost use Rattle.cal_once.specs.Views.{Learns};
 ghost use Rattle.cal_tree.specs.Seats.{IsKnownNode, IsTreeSeat, slots_of};
 ghost use Rattle.cal_value.specs.declared.variant.Variant as values;
 
+use crate::numbers::number_at;
 use cal_context::NodeNumber;
 use cal_tree::{Tree, TreeSeat, Up};
 use cal_value::{OutOfMemory, Variant};
@@ -64,7 +65,7 @@ impl Way {
         self.steps.clear();
         let mut up = self.read(alloc, tree, seat, node)?;
         while up.parent.0 != 0 {
-            if let Some(number) = numbers[up.parent.0 as usize] {
+            if let Some(number) = number_at(numbers, up.parent) {
                 return Ok(number);
             }
             up = self.read(alloc, tree, seat, up.parent)?;
