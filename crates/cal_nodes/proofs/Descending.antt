@@ -1,5 +1,5 @@
 -- The way down, step by step.
-use Rattle.std.proofs.Common.{◌≡◌, ◌≢◌, ◌⊎◌, ℕ, ◌+◌, ◌<◌, ◌++◌, List, [], ◌∷◌, length, map, get_or, Option, Some, None, refl, sym, ap, ◌∙◌, subst, inl, inr, ⊎_elim, arith, length-append}
+use Rattle.std.proofs.Common.{◌≡◌, ◌≢◌, ◌⊎◌, ℕ, zero, suc, ◌+◌, ◌<◌, ◌++◌, List, [], ◌∷◌, length, map, get_or, Option, Some, None, Result, Ok, Err, IfOk, refl, sym, ap, ◌∙◌, subst, inl, inr, ⊎_elim, arith, length-append}
 use Rattle.std.specs.Prelude.{slice_set}
 use Rattle.std.specs.List.{All}
 use mathlib.Core.Logic.{dite}
@@ -11,20 +11,22 @@ use Rattle.cal_board.proofs.ContextLemmas.{child_stands}
 use Rattle.cal_board.specs.ContextGrowth.{NodeStands-Grows}
 use Rattle.cal_board.specs.Contexts.{NodeStands}
 use Rattle.cal_board.specs.declared.opened.Opened.{Opened}
-use Rattle.cal_context.proofs.CallerLemmas.{one_node}
+use Rattle.cal_context.proofs.CallerLemmas.{one_node, root_within}
 use Rattle.cal_context.specs.Children.{IsChild}
 use Rattle.cal_context.specs.Tree as contexts
 use Rattle.cal_context.specs.Tree.{Grows, IsContext}
 use Rattle.cal_context.specs.declared.numbers.NodeNumber.{NodeNumber}
 use Rattle.cal_hand.specs.Nodes.{NodeAt}
 use Rattle.cal_nodes.proofs.Climbing.{climbs_last}
-use Rattle.cal_nodes.proofs.Numbering.{known_node, place_within, stands_for}
+use Rattle.cal_nodes.proofs.Numbering.{known_node, one_node_at, place_within, stands_for}
 use Rattle.cal_nodes.specs.Numbers.{AreNumbered, KeepsNumbers, StandsFor, number_in}
-use Rattle.cal_nodes.specs.Ways.{CanDescend, IsWay, opened_of}
+use Rattle.cal_nodes.specs.Ways.{CanDescend, Climbs, HasNumber, IsPut, IsWay, opened_of}
 use Rattle.cal_nodes.specs.declared.way.Step.{Step}
 use Rattle.cal_once.specs.declared.seat.RowSeat.{RowSeat}
+use Rattle.cal_tree.specs.Seats.{IsTreeSeat, slots_of}
 use Rattle.cal_tree.specs.declared.tree.Tree.{Tree}
 use Rattle.cal_value.specs.declared.attribute.Attribute.{Attribute}
+use Rattle.cal_value.specs.declared.memory.OutOfMemory.{OutOfMemory}
 use Rattle.cal_value.specs.declared.variant.Variant.{Variant}
 use Rattle.cal_words.specs.declared.node.NodeId.{NodeId}
 use Rattle.cal_words.specs.declared.sort.NodeSort.{NodeSort}
@@ -114,3 +116,49 @@ can_descend-more old new numbers parent n s rest same within can = record {
   attributes = λ k d l. subst (λ (attributes : List Attribute). (get_or rest k d).attr < length attributes) (sym same) (all_front (λ (x : Step). x.attr < length old.attributes) rest s can.attributes k d l);
   places = λ k d l. subst (λ (i : ℕ). (get_or rest k d).node.0 < i) (sym (length-set numbers s.node.0 (Some n))) (all_front (λ (x : Step). x.node.0 < length numbers) rest s can.places k d l);
 }
+
+-- the steps of a way are of nodes that have a place, by attributes of its path
+steps_listed : (tree : Tree) (seat : RowSeat NodeSort) (count : ℕ) (path : List (Opened Variant)) (steps : List Step) (above : List (Opened Variant)) → Climbs tree seat path steps above → All (λ (o : Opened Variant). o.attribute < count) path → All (λ (s : Step). s.attr < count) steps
+steps_listed tree seat count path [] above c all k d l = absurd (omega arith)
+steps_listed tree seat count path (s ∷ steps) above c all zero d l = all_last (λ (o : Opened Variant). o.attribute < count) c.0 (opened_of s) (subst (λ (p : List (Opened Variant)). All (λ (o : Opened Variant). o.attribute < count) p) c.2 all)
+steps_listed tree seat count path (s ∷ steps) above c all (suc k) d l = steps_listed tree seat count c.0 steps above c.3 (all_front (λ (o : Opened Variant). o.attribute < count) c.0 (opened_of s) (subst (λ (p : List (Opened Variant)). All (λ (o : Opened Variant). o.attribute < count) p) c.2 all)) k d (omega arith)
+
+steps_placed : (tree : Tree) (seat : RowSeat NodeSort) (places : ℕ) → slots_of tree < places → (path : List (Opened Variant)) (steps : List Step) (above : List (Opened Variant)) → Climbs tree seat path steps above → All (λ (s : Step). s.node.0 < places) steps
+steps_placed tree seat places long path [] above c k d l = absurd (omega arith)
+steps_placed tree seat places long path (s ∷ steps) above c zero d l = place_within tree seat s.node.0 places (known_node tree seat s.node path c.1) long
+steps_placed tree seat places long path (s ∷ steps) above c (suc k) d l = steps_placed tree seat places long c.0 steps above c.3 k d (omega arith)
+
+pub way_can : (tree : Tree) (seat : RowSeat NodeSort) (t : contexts.Tree) (numbers : List (Option NodeNumber)) (n : NodeNumber) (steps : List Step) (path : List (Opened Variant)) → IsContext t → IsWay tree seat t numbers n steps path → All (λ (o : Opened Variant). o.attribute < length t.attributes) path → CanDescend t numbers n steps
+way_can tree seat t numbers n steps path is w listed = record {
+  start = ⊎_elim (λ root. subst (λ (m : NodeNumber). m.0 < length t.paths) (sym root.1) (root_within is)) (λ h. (w.numbered.each h.0 n h.2).stands.within) w.start;
+  attributes = steps_listed tree seat (length t.attributes) path steps w.above w.climbs listed;
+  places = steps_placed tree seat (length numbers) w.numbered.long path steps w.above w.climbs;
+}
+
+-- the way down ended, or stopped
+pub put_all : (tree : Tree) (seat : RowSeat NodeSort) (t : contexts.Tree) (old numbers : List (Option NodeNumber)) (n : NodeNumber) (steps : List Step) (path : List (Opened Variant)) → steps ≡ [] → IsWay tree seat t numbers n steps path → KeepsNumbers old numbers → IsPut tree seat t numbers old path (Ok n)
+put_all tree seat t old numbers n steps path none w keeps =
+    let end : path ≡ w.above = subst (λ (st : List Step). Climbs tree seat path st w.above) none w.climbs in
+    record {
+      numbered = w.numbered;
+      keeps = keeps;
+      number = subst (λ (p : List (Opened Variant)). HasNumber tree seat numbers p n) (sym end) w.start;
+    }
+
+pub put_some : (tree : Tree) (seat : RowSeat NodeSort) (t : contexts.Tree) (old numbers : List (Option NodeNumber)) (n : NodeNumber) (steps : List Step) (path : List (Opened Variant)) (given : Result NodeNumber OutOfMemory) (e : OutOfMemory) → given ≡ Err e → IsWay tree seat t numbers n steps path → KeepsNumbers old numbers → IsPut tree seat t numbers old path given
+put_some tree seat t old numbers n steps path given e stopped w keeps = record {
+  numbered = w.numbered;
+  keeps = keeps;
+  number = subst (λ (r : Result NodeNumber OutOfMemory). IfOk r (HasNumber tree seat numbers path)) (sym stopped) tt;
+}
+
+-- the number that the node of a path has
+pub number_of_node : (tree : Tree) (seat : RowSeat NodeSort) → IsTreeSeat tree seat → (numbers : List (Option NodeNumber)) (node : NodeId) (path : List (Opened Variant)) (n : NodeNumber) → NodeAt tree seat node path → HasNumber tree seat numbers path n → number_in numbers node ≡ Some n
+number_of_node tree seat is numbers node path n at = ⊎_elim
+    (λ root.
+    let none = (subst (λ (p : List (Opened Variant)). NodeAt tree seat node p) root.0 at).has_path in
+    let below = at.below in
+    absurd (omega arith))
+    (λ h.
+    let same : h.0 ≡ node = one_node_at tree seat is h.0 node path h.1 at in
+    subst (λ (m : NodeId). number_in numbers m ≡ Some n) same h.2)

@@ -30,7 +30,7 @@ pub(crate) fn descend(
 {
     let mut number = start;
     while let Some(step) = steps.pop() {
-        number = put(numbers, context, number, &step)?;
+        number = put(numbers, context, number, step)?;
     }
     Ok(number)
 }
@@ -40,15 +40,15 @@ fn put(
     numbers: &mut Vec<Option<NodeNumber>>,
     context: &mut Context,
     parent: NodeNumber,
-    step: &Step,
+    step: Step,
 ) -> Result<NodeNumber, OutOfMemory>
     requires parent { parent.0 < length context.old.paths }
-    requires attribute { step.now.attr < length context.old.attributes }
-    requires place { step.now.node.0 < length numbers.old.items }
+    requires attribute { step.attr < length context.old.attributes }
+    requires place { step.node.0 < length numbers.old.items }
     ensures child { IfOk result (λ n. AddsChild context.old parent
-        (record { 0 = step.now.attr }) step.now.value context.new n) }
+        (record { 0 = step.attr }) step.value context.new n) }
     ensures kept { IfOk result (λ n.
-        numbers.new.items ≡ slice_set numbers.old.items step.now.node.0 (Some n)) }
+        numbers.new.items ≡ slice_set numbers.old.items step.node.0 (Some n)) }
     ensures grows { Grows context.old context.new }
     ensures once { IsContext context.old × IsContext context.new }
     ensures err { OnErr result
