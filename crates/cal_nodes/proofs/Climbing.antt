@@ -107,3 +107,11 @@ climb_on tree was is more node steps new up next below w s =
     let at : NodeAt tree is up.parent later.above = record { below = below; has_path = later.here } in
     let r = climb_step tree is node up.parent later.path steps new later.above next later.node_at later.climbs at s in
     (r.0, subst (λ (d : ℕ). next.depth < d) (sym later.depth) r.1)
+
+-- the way up that was found, where what it was found in is this list
+pub way_from : (tree : Tree) (was is : RowSeat NodeSort) → KnowsMore (view was) (view is) → (t : contexts.Tree) (numbers found : List (Option NodeNumber)) → numbers ≡ found → AreNumbered tree was t numbers
+    → (node : NodeId) (path : List (Opened Variant)) → NodeAt tree was node path → (start : NodeNumber) (steps : List Step)
+    → ((t : contexts.Tree) (path : List (Opened Variant)) → AreNumbered tree was t found → NodeAt tree is node path → IsWay tree is t found start steps path)
+    → IsWay tree is t numbers start steps path
+way_from tree was is more t numbers found same a node path at start steps way = subst (λ (ns : List (Option NodeNumber)). IsWay tree is t ns start steps path) (sym same)
+    (way t path (subst (λ (ns : List (Option NodeNumber)). AreNumbered tree was t ns) same a) (node_later tree was is more node path at))

@@ -66,7 +66,11 @@ module _ (tree : Tree) (seat : RowSeat NodeSort) (old new : contexts.Tree) (grow
     where
       there : List (Opened Variant)
       there = w.above ++ opened_of s ∷ []
+
+      last : NodeAt tree seat s.node (w.above ++ opened_of s ∷ []) × Climbs tree seat path rest (w.above ++ opened_of s ∷ [])
       last = climbs_last tree seat path rest w.above s w.climbs
+
+      long : slots_of tree < length numbers
       long = w.numbered.long
 
       stands : NodeStands new n (w.above ++ opened_of s ∷ [])

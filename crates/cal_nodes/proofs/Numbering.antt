@@ -1,5 +1,7 @@
 -- Numbers stay, and stand for whatever is known as their nodes' paths.
-use Rattle.std.proofs.Common.{◌≡◌, ◌⊎◌, ℕ, ◌+◌, ◌<◌, List, [], ◌∷◌, length, map, Option, Some, refl, sym, ap, ◌∙◌, subst, ⊎_elim, arith}
+use Rattle.std.proofs.Common.{◌≡◌, ◌⊎◌, ℕ, ◌+◌, ◌<◌, ◌≤◌, get_or, List, [], ◌∷◌, length, map, Option, Some, refl, sym, ap, ◌∙◌, subst, ⊎_elim, arith}
+use Rattle.std.proofs.lemmas.Bool.{cases_lt}
+use Rattle.std.proofs.lemmas.List.{get_or_default}
 use Rattle.cal_board.specs.ContextGrowth.{NodeStands-Grows}
 use Rattle.cal_board.specs.Contexts.{NodeStands}
 use Rattle.cal_board.specs.declared.opened.Opened.{Opened}
@@ -8,7 +10,7 @@ use Rattle.cal_context.specs.Tree as contexts
 use Rattle.cal_context.specs.Tree.{Grows}
 use Rattle.cal_context.specs.declared.numbers.NodeNumber.{NodeNumber}
 use Rattle.cal_hand.specs.Nodes.{NodeAt, node_entry}
-use Rattle.cal_nodes.specs.Numbers.{AreNumbered, CanNumber, number_in}
+use Rattle.cal_nodes.specs.Numbers.{AreNumbered, CanNumber, IsNumbered, KeepsNumbers, number_in}
 use Rattle.cal_once.specs.Seats.{view}
 use Rattle.cal_once.specs.Views.{KnowsMore}
 use Rattle.cal_once.specs.declared.seat.RowSeat.{RowSeat}
@@ -77,3 +79,12 @@ module _ (tree : Tree) (seat : RowSeat NodeSort) (is : IsTreeSeat tree seat) whe
   stands_for t numbers node n path a e at =
       let s = a.each node n e in
       subst (λ (p : List (Opened Variant)). NodeStands t n p) (one_opened node s.path path s.node_at at) s.stands
+
+-- the nodes so far have numbers, and one more has
+pub numbered_more : (old new : List (Option NodeNumber)) → KeepsNumbers old new → (nodes : List NodeId) (i : ℕ) (e : NodeId) → i < length nodes → ((k : ℕ) (d : NodeId) → k < i → IsNumbered old (get_or nodes k d)) → IsNumbered new (get_or nodes i e) → (k : ℕ) (d : NodeId) → k < i + 1 → IsNumbered new (get_or nodes k d)
+numbered_more old new keeps nodes i e less so_far this k d l = ⊎_elim
+    (λ (before : k < i). let h = so_far k d before in (h.0, keeps (get_or nodes k d) h.0 h.1))
+    (λ (last : i ≤ k).
+    let at : k ≡ i = omega arith in
+    subst (λ (m : NodeId). IsNumbered new m) (get_or_default nodes i e d less ∙ ap (λ (j : ℕ). get_or nodes j d) (sym at)) this)
+    (cases_lt k i)

@@ -3,6 +3,7 @@ use Rattle.std.proofs.lemmas.Result.{IfOk-weaker}
 use Rattle.cal_board.specs.Contexts.{NodeStands}
 use Rattle.cal_context.proofs.CallerLemmas.{Grows-refl}
 use Rattle.cal_context.specs.declared.numbers.NodeNumber.{NodeNumber}
+use Rattle.cal_nodes.proofs.Climbing.{way_from}
 use Rattle.cal_nodes.proofs.Descending.{number_of_node, way_can}
 use Rattle.cal_nodes.proofs.Numbering.{known_node, node_later, numbered_later, place_within, stands_for}
 use Rattle.cal_nodes.specs.Numbers.{AreNumbered, KeepsNumbers, number_in}
@@ -30,24 +31,28 @@ returns-in_err-start-clause-numbered c =
     subst (λ (ns : List (Option NodeNumber)). AreNumbered tree c.climb.new.seat t ns) same
     (numbered_later tree c.args.seat.now c.climb.new.seat c.climb.ensures.learns.more t t c.args.self.now (Grows-refl t) c.requires.numbered)
 
--- the way down from the node's number
+-- the way down to the node
 way_of : (c : In_ok-start) → IsWay c.args.tree.now c.climb.new.seat c.args.context.now c.self.inside.numbers.items c.in_ok-start.start c.climb.new.self.steps.items c.requires.node.path
 way_of c =
-    let tree = c.args.tree.now in
-    let t = c.args.context.now in
-    let is = c.climb.new.seat in
-    let path = c.requires.node.path in
-    let same : c.args.self.now ≡ c.deref-2.result.now = cc in
-    let inside : c.deref-2.result.now ≡ c.self.inside.numbers.items = cc in
-    let numbered = subst (λ (ns : List (Option NodeNumber)). AreNumbered tree c.args.seat.now t ns) same c.requires.numbered in
-    let at = node_later tree c.args.seat.now is c.climb.ensures.learns.more c.args.node path c.requires.node.node_at in
-    subst (λ (ns : List (Option NodeNumber)). IsWay tree is t ns c.in_ok-start.start c.climb.new.self.steps.items path) inside (c.in_ok-start.ensures.way t path numbered at)
+    let viewed : c.args.self.now ≡ c.self.inside.numbers.items = cc in
+    let same : c.self.inside.numbers.items ≡ c.deref-2.result.now = cc in
+    let numbered = subst (λ (ns : List (Option NodeNumber)). AreNumbered c.args.tree.now c.args.seat.now c.args.context.now ns) viewed c.requires.numbered in
+    way_from c.args.tree.now c.args.seat.now c.climb.new.seat c.climb.ensures.learns.more c.args.context.now c.self.inside.numbers.items c.deref-2.result.now same numbered
+    c.args.node c.requires.node.path c.requires.node.node_at c.in_ok-start.start c.climb.new.self.steps.items c.in_ok-start.ensures.way
+
+way_after : (c : After-descend) → IsWay c.args.tree.now c.climb.new.seat c.args.context.now c.self.inside.numbers.items c.in_ok-start.start c.climb.new.self.steps.items c.requires.node.path
+way_after c =
+    let viewed : c.args.self.now ≡ c.self.inside.numbers.items = cc in
+    let same : c.self.inside.numbers.items ≡ c.deref-2.result.now = cc in
+    let numbered = subst (λ (ns : List (Option NodeNumber)). AreNumbered c.args.tree.now c.args.seat.now c.args.context.now ns) viewed c.requires.numbered in
+    way_from c.args.tree.now c.args.seat.now c.climb.new.seat c.climb.ensures.learns.more c.args.context.now c.self.inside.numbers.items c.deref-2.result.now same numbered
+    c.args.node c.requires.node.path c.requires.node.node_at c.in_ok-start.start c.climb.new.self.steps.items c.in_ok-start.ensures.way
 
 pub descend-requires : goal.descend-requires
 descend-requires c = way_can c.args.tree.now c.climb.new.seat c.args.context.now c.self.inside.numbers.items c.in_ok-start.start c.climb.new.self.steps.items c.requires.node.path c.has_each_once.ensures (way_of (goal.at.descend-requires c).In_ok-start) c.requires.node.listed
 
 put_of : (c : After-descend) → IsPut c.args.tree.now c.climb.new.seat c.descend.new.context c.descend.new.numbers.items c.self.inside.numbers.items c.requires.node.path c.descend.result
-put_of c = c.descend.ensures.put c.args.tree.now c.climb.new.seat c.requires.node.path (way_of c.In_ok-start)
+put_of c = c.descend.ensures.put c.args.tree.now c.climb.new.seat c.requires.node.path (way_after c)
 
 pub returns-clause-numbered : goal.returns-clause-numbered
 returns-clause-numbered c = (put_of (goal.at.returns-clause-numbered c).After-descend).numbered
