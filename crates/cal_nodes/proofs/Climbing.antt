@@ -1,5 +1,5 @@
 -- The way up from a node, step by step.
-use Rattle.std.proofs.Common.{◌≡◌, ◌⊎◌, ℕ, ◌+◌, ◌<◌, ◌++◌, List, [], ◌∷◌, length, map, Option, Some, refl, sym, ap, ◌∙◌, subst, inl, inr, arith, length-append}
+use Rattle.std.proofs.Common.{◌≡◌, ℕ, ◌+◌, ◌<◌, ◌++◌, List, [], ◌∷◌, length, map, Option, refl, sym, ap, ◌∙◌, subst, arith, length-append}
 use Rattle.cal_board.specs.declared.opened.Opened.{Opened}
 use Rattle.cal_context.specs.Tree as contexts
 use Rattle.cal_context.specs.declared.numbers.NodeNumber.{NodeNumber}

@@ -1,5 +1,5 @@
 -- The way down, step by step.
-use Rattle.std.proofs.Common.{◌≡◌, ◌≢◌, ◌⊎◌, ℕ, zero, suc, ◌+◌, ◌<◌, ◌++◌, List, [], ◌∷◌, length, map, get_or, Option, Some, None, Result, Ok, Err, IfOk, refl, sym, ap, ◌∙◌, subst, inl, inr, ⊎_elim, arith, length-append}
+use Rattle.std.proofs.Common.{◌≡◌, ◌≢◌, ℕ, zero, suc, ◌<◌, ◌++◌, List, [], ◌∷◌, length, get_or, Option, Some, None, Result, Ok, Err, IfOk, refl, sym, ap, ◌∙◌, subst, inr, ⊎_elim, arith, length-append}
 use Rattle.std.specs.Prelude.{slice_set}
 use Rattle.std.specs.List.{All}
 use mathlib.Core.Logic.{dite}
@@ -19,7 +19,7 @@ use Rattle.cal_context.specs.declared.numbers.NodeNumber.{NodeNumber}
 use Rattle.cal_hand.specs.Nodes.{NodeAt}
 use Rattle.cal_nodes.proofs.Climbing.{climbs_last}
 use Rattle.cal_nodes.proofs.Numbering.{known_node, one_node_at, place_within, stands_for}
-use Rattle.cal_nodes.specs.Numbers.{AreNumbered, KeepsNumbers, StandsFor, number_in}
+use Rattle.cal_nodes.specs.Numbers.{KeepsNumbers, StandsFor, number_in}
 use Rattle.cal_nodes.specs.Ways.{CanDescend, Climbs, HasNumber, IsPut, IsWay, opened_of}
 use Rattle.cal_nodes.specs.declared.way.Step.{Step}
 use Rattle.cal_once.specs.declared.seat.RowSeat.{RowSeat}

@@ -6,8 +6,8 @@ use Rattle.cal_context.specs.declared.numbers.NodeNumber.{NodeNumber}
 use Rattle.cal_nodes.proofs.Climbing.{way_from}
 use Rattle.cal_nodes.proofs.Descending.{number_of_node, way_can}
 use Rattle.cal_nodes.proofs.Numbering.{known_node, node_later, numbered_later, place_within, stands_for}
-use Rattle.cal_nodes.specs.Numbers.{AreNumbered, KeepsNumbers, number_in}
-use Rattle.cal_nodes.specs.Ways.{CanDescend, HasNumber, IsPut, IsWay}
+use Rattle.cal_nodes.specs.Numbers.{AreNumbered, number_in}
+use Rattle.cal_nodes.specs.Ways.{HasNumber, IsPut, IsWay}
 use Rattle.cal_nodes.proofs.context_nodes.ContextNodes.number_of.Goals as goal
 use Rattle.cal_nodes.proofs.context_nodes.ContextNodes.number_of.Goals.{After-descend, In_ok-start}
 

@@ -1,5 +1,4 @@
-use Rattle.std.proofs.Common.{◌≡◌, ◌<◌, List, Option, Some, [], refl, sym, ◌∙◌, subst, inl, inr, arith}
-use Rattle.cal_board.specs.declared.opened.Opened.{Opened}
+use Rattle.std.proofs.Common.{◌≡◌, ◌<◌, List, Some, refl, sym, ◌∙◌, subst, inl, inr, arith}
 use Rattle.cal_context.proofs.CallerLemmas.{Grows-refl}
 use Rattle.cal_hand.specs.Nodes.{NodeAt}
 use Rattle.cal_nodes.proofs.Climbing.{above_root, climb_ends, climb_on, climb_step}
