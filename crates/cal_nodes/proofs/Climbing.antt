@@ -1,6 +1,8 @@
 -- The way up from a node, step by step.
 use Rattle.std.proofs.Common.{◌≡◌, ℕ, ◌+◌, ◌<◌, ◌++◌, List, [], ◌∷◌, length, map, Option, refl, sym, ap, ◌∙◌, subst, arith, length-append}
+use Rattle.std.proofs.lemmas.List.{append_assoc, append-nil}
 use Rattle.cal_board.specs.declared.opened.Opened.{Opened}
+use Rattle.cal_context.specs.Lists.{IsFront}
 use Rattle.cal_context.specs.Tree as contexts
 use Rattle.cal_context.specs.declared.numbers.NodeNumber.{NodeNumber}
 use Rattle.cal_hand.specs.Nodes.{NodeAt, node_entry}
@@ -57,6 +59,13 @@ module _ (tree : Tree) (seat : RowSeat NodeSort) where
   climbs_last path (x ∷ steps) above s c =
       let r = climbs_last c.0 steps above s c.3 in
       (r.0, (c.0, c.1, c.2, r.1))
+
+  -- a way up leads to a beginning of the path
+  pub climbs_front : (path : List (Opened Variant)) (steps : List Step) (above : List (Opened Variant)) → Climbs tree seat path steps above → IsFront above path
+  climbs_front path [] above c = ([], c ∙ sym (append-nil above))
+  climbs_front path (s ∷ steps) above c =
+      let f = climbs_front c.0 steps above c.3 in
+      (f.0 ++ opened_of s ∷ [], c.2 ∙ ap (λ (p : List (Opened Variant)). p ++ opened_of s ∷ []) f.1 ∙ append_assoc above f.0 (opened_of s ∷ []))
 
   -- a node was read, of which the path is known
   pub climb_step : (node m : NodeId) (path : List (Opened Variant)) (steps new : List Step) (above : List (Opened Variant)) (up : Up) → NodeAt tree seat node path → Climbs tree seat path steps above → NodeAt tree seat m above → IsStepUp tree seat steps new m up → IsClimbed tree seat node new up × (up.depth < length above + 1)

@@ -1,9 +1,10 @@
 -- The way down, step by step.
-use Rattle.std.proofs.Common.{◌≡◌, ◌≢◌, ℕ, zero, suc, ◌<◌, ◌++◌, List, [], ◌∷◌, length, get_or, Option, Some, None, Result, Ok, Err, IfOk, refl, sym, ap, ◌∙◌, subst, inr, ⊎_elim, arith, length-append}
+use Rattle.std.proofs.Common.{◌≡◌, ◌≢◌, ℕ, zero, suc, ◌+◌, ◌<◌, ◌≤◌, ◌++◌, List, [], ◌∷◌, length, get_or, Option, Some, None, Result, Ok, Err, IfOk, refl, sym, ap, ◌∙◌, subst, inr, ⊎_elim, arith, length-append}
 use Rattle.std.specs.Prelude.{slice_set}
 use Rattle.std.specs.List.{All}
 use mathlib.Core.Logic.{dite}
 use native.Mathlib.Decide.{ℕ_discrete}
+use Rattle.std.proofs.lemmas.Bool.{cases_lt}
 use Rattle.std.proofs.Math.ListN.{get_or-append}
 use Rattle.std.proofs.Math.Seq.{get_or-append_seam}
 use Rattle.std.proofs.lemmas.List.{get_or-set_other, get_or-set_same, length-set}
@@ -12,15 +13,16 @@ use Rattle.cal_board.specs.ContextGrowth.{NodeStands-Grows}
 use Rattle.cal_board.specs.Contexts.{NodeStands}
 use Rattle.cal_board.specs.declared.opened.Opened.{Opened}
 use Rattle.cal_context.proofs.CallerLemmas.{one_node, root_within}
-use Rattle.cal_context.specs.Children.{IsChild}
+use Rattle.cal_context.specs.Children.{AddsChild, IsChild}
+use Rattle.cal_context.specs.Lists.{Adds, IsFront}
 use Rattle.cal_context.specs.Tree as contexts
-use Rattle.cal_context.specs.Tree.{Grows, IsContext}
+use Rattle.cal_context.specs.Tree.{Grows, IsContext, path_at}
 use Rattle.cal_context.specs.declared.numbers.NodeNumber.{NodeNumber}
 use Rattle.cal_hand.specs.Nodes.{NodeAt}
-use Rattle.cal_nodes.proofs.Climbing.{climbs_last}
+use Rattle.cal_nodes.proofs.Climbing.{climbs_front, climbs_last}
 use Rattle.cal_nodes.proofs.Numbering.{known_node, one_node_at, place_within, stands_for}
 use Rattle.cal_nodes.specs.Numbers.{KeepsNumbers, StandsFor, number_in}
-use Rattle.cal_nodes.specs.Ways.{CanDescend, Climbs, HasNumber, IsPut, IsWay, opened_of}
+use Rattle.cal_nodes.specs.Ways.{AddsFronts, CanDescend, Climbs, HasNumber, IsPut, IsWay, opened_of}
 use Rattle.cal_nodes.specs.declared.way.Step.{Step}
 use Rattle.cal_once.specs.declared.seat.RowSeat.{RowSeat}
 use Rattle.cal_tree.specs.Seats.{IsTreeSeat, slots_of}
@@ -37,12 +39,13 @@ all_front P xs x all k d l = subst P (get_or-append xs (x ∷ []) d k l) (all k 
 pub all_last : {A : Type 0} (P : A → Type 0) (xs : List A) (x : A) → All P (xs ++ x ∷ []) → P x
 all_last P xs x all = subst P (get_or-append_seam xs x [] x) (all (length xs) x (omega (arith, length-append xs (x ∷ []))))
 
--- From these numbers to those whatever is a way goes on, and each number stays.
+-- From these numbers to those whatever is a way goes on, each number stays, and the context has more
+-- for the way alone.
 pub record GoesDown (t₀ : contexts.Tree) (numbers₀ : List (Option NodeNumber)) (n₀ : NodeNumber) (steps₀ : List Step) (t : contexts.Tree) (numbers : List (Option NodeNumber)) (n : NodeNumber) (steps : List Step) : Type 0 where
-  pub way : (tree : Tree) (seat : RowSeat NodeSort) (path : List (Opened Variant)) → IsWay tree seat t₀ numbers₀ n₀ steps₀ path → IsWay tree seat t numbers n steps path × KeepsNumbers numbers₀ numbers
+  pub way : (tree : Tree) (seat : RowSeat NodeSort) (path : List (Opened Variant)) → IsWay tree seat t₀ numbers₀ n₀ steps₀ path → IsWay tree seat t numbers n steps path × KeepsNumbers numbers₀ numbers × AddsFronts t₀ t path
 
 pub goes_down-none : (t : contexts.Tree) (numbers : List (Option NodeNumber)) (n : NodeNumber) (steps : List Step) → GoesDown t numbers n steps t numbers n steps
-goes_down-none t numbers n steps = record { way = λ tree seat path w. (w, λ node m e. e) }
+goes_down-none t numbers n steps = record { way = λ tree seat path w. (w, λ node m e. e, λ m late within. absurd (omega arith)) }
 
 module _ (tree : Tree) (seat : RowSeat NodeSort) (old new : contexts.Tree) (grows : Grows old new) (is : IsContext old) (becomes : IsContext new) where
   -- the child stands for the path that is known of its step
@@ -52,7 +55,7 @@ module _ (tree : Tree) (seat : RowSeat NodeSort) (old new : contexts.Tree) (grow
       (λ t. child_stands is grows (Some parent) parent (record { 0 = s.attr }) s.value n w.above refl child (stands_for tree seat w.is_seat old numbers t.0 parent w.above w.numbered t.2 t.1))
       w.start
 
-  pub way_goes : (numbers : List (Option NodeNumber)) (parent n : NodeNumber) (s : Step) (rest : List Step) (path : List (Opened Variant)) → IsChild new parent (record { 0 = s.attr }) s.value n → IsWay tree seat old numbers parent (rest ++ s ∷ []) path → IsWay tree seat new (slice_set numbers s.node.0 (Some n)) n rest path × KeepsNumbers numbers (slice_set numbers s.node.0 (Some n))
+  pub way_goes : (numbers : List (Option NodeNumber)) (parent n : NodeNumber) (s : Step) (rest : List Step) (path : List (Opened Variant)) → IsChild new parent (record { 0 = s.attr }) s.value n → IsWay tree seat old numbers parent (rest ++ s ∷ []) path → IsWay tree seat new (slice_set numbers s.node.0 (Some n)) n rest path × KeepsNumbers numbers (slice_set numbers s.node.0 (Some n)) × (front : List (Opened Variant)) × IsFront front path × NodeStands new n front
   way_goes numbers parent n s rest path child w = (
     record {
       is_seat = w.is_seat;
@@ -62,6 +65,9 @@ module _ (tree : Tree) (seat : RowSeat NodeSort) (old new : contexts.Tree) (grow
       start = inr (s.node, last.0, here);
     },
     keeps,
+    there,
+    climbs_front tree seat path rest there last.1,
+    stands,
   )
     where
       there : List (Opened Variant)
@@ -102,15 +108,29 @@ module _ (tree : Tree) (seat : RowSeat NodeSort) (old new : contexts.Tree) (grow
           ap (λ (i : ℕ). get_or (slice_set numbers s.node.0 (Some n)) i None) same ∙ here ∙ ap (λ (k : NodeNumber). Some k) is_number)
           (λ apart. other node apart ∙ e)
 
+-- a node more that stands for a beginning of the path
+adds_more : (t₀ old new : contexts.Tree) (path front : List (Opened Variant)) (n : NodeNumber) → AddsFronts t₀ old path → Grows old new → IsContext old → IsFront front path → NodeStands new n front → Adds old.paths (path_at new n) new.paths → AddsFronts t₀ new path
+adds_more t₀ old new path front n adds grows is begins stands added m late within = ⊎_elim
+    (λ (before : m.0 < length old.paths). let h = adds m late before in (h.0, h.1, NodeStands-Grows grows m h.0 h.2))
+    (λ (last : length old.paths ≤ m.0). ⊎_elim
+    (λ had. let long = ap (λ ps. length ps) had.1 in absurd (omega arith))
+    (λ more.
+    let at : m.0 ≡ length old.paths = omega (arith, ap (λ ps. length ps) more.1, length-append old.paths (path_at new n ∷ [])) in
+    let same : path_at new m ≡ path_at new n = ap (λ (i : ℕ). get_or new.paths i []) at ∙ ap (λ ps. get_or ps (length old.paths) []) more.1 ∙ get_or-append_seam old.paths (path_at new n) [] [] in
+    let some = root_within is in
+    (front, begins, record { below = omega arith; within = within; known = stands.known; entries = same ∙ stands.entries }))
+    added)
+    (cases_lt m.0 (length old.paths))
+
 -- one step of the way down
 pub goes_down-more : (t₀ : contexts.Tree) (numbers₀ : List (Option NodeNumber)) (n₀ : NodeNumber) (steps₀ : List Step) (old new : contexts.Tree) (numbers : List (Option NodeNumber)) (parent n : NodeNumber) (s : Step) (rest : List Step)
-    → Grows old new → IsContext old → IsContext new → IsChild new parent (record { 0 = s.attr }) s.value n → GoesDown t₀ numbers₀ n₀ steps₀ old numbers parent (rest ++ s ∷ [])
+    → Grows old new → IsContext old → IsContext new → AddsChild old parent (record { 0 = s.attr }) s.value new n → GoesDown t₀ numbers₀ n₀ steps₀ old numbers parent (rest ++ s ∷ [])
     → GoesDown t₀ numbers₀ n₀ steps₀ new (slice_set numbers s.node.0 (Some n)) n rest
-goes_down-more t₀ numbers₀ n₀ steps₀ old new numbers parent n s rest grows is becomes child g = record {
+goes_down-more t₀ numbers₀ n₀ steps₀ old new numbers parent n s rest grows is becomes added g = record {
   way = λ tree seat path w.
       let was = g.way tree seat path w in
-      let goes = way_goes tree seat old new grows is becomes numbers parent n s rest path child was.0 in
-      (goes.0, λ node m e. goes.1 node m (was.1 node m e));
+      let goes = way_goes tree seat old new grows is becomes numbers parent n s rest path added.child was.0 in
+      (goes.0, λ node m e. goes.1 node m (was.1 node m e), adds_more t₀ old new path goes.2 n was.2 grows is goes.3 goes.4 added.paths);
 }
 
 -- what is left of the steps can be put below the child
@@ -140,19 +160,21 @@ way_can tree seat t numbers n steps path is w listed = record {
 }
 
 -- the way down ended, or stopped
-pub put_all : (tree : Tree) (seat : RowSeat NodeSort) (t : contexts.Tree) (old numbers : List (Option NodeNumber)) (n : NodeNumber) (steps : List Step) (path : List (Opened Variant)) → steps ≡ [] → IsWay tree seat t numbers n steps path → KeepsNumbers old numbers → IsPut tree seat t numbers old path (Ok n)
-put_all tree seat t old numbers n steps path none w keeps =
+pub put_all : (tree : Tree) (seat : RowSeat NodeSort) (before t : contexts.Tree) (old numbers : List (Option NodeNumber)) (n : NodeNumber) (steps : List Step) (path : List (Opened Variant)) → steps ≡ [] → IsWay tree seat t numbers n steps path → KeepsNumbers old numbers → AddsFronts before t path → IsPut tree seat t numbers before old path (Ok n)
+put_all tree seat before t old numbers n steps path none w keeps only =
     let end : path ≡ w.above = subst (λ (st : List Step). Climbs tree seat path st w.above) none w.climbs in
     record {
       numbered = w.numbered;
       keeps = keeps;
+      only = only;
       number = subst (λ (p : List (Opened Variant)). HasNumber tree seat numbers p n) (sym end) w.start;
     }
 
-pub put_some : (tree : Tree) (seat : RowSeat NodeSort) (t : contexts.Tree) (old numbers : List (Option NodeNumber)) (n : NodeNumber) (steps : List Step) (path : List (Opened Variant)) (given : Result NodeNumber OutOfMemory) (e : OutOfMemory) → given ≡ Err e → IsWay tree seat t numbers n steps path → KeepsNumbers old numbers → IsPut tree seat t numbers old path given
-put_some tree seat t old numbers n steps path given e stopped w keeps = record {
+pub put_some : (tree : Tree) (seat : RowSeat NodeSort) (before t : contexts.Tree) (old numbers : List (Option NodeNumber)) (n : NodeNumber) (steps : List Step) (path : List (Opened Variant)) (given : Result NodeNumber OutOfMemory) (e : OutOfMemory) → given ≡ Err e → IsWay tree seat t numbers n steps path → KeepsNumbers old numbers → AddsFronts before t path → IsPut tree seat t numbers before old path given
+put_some tree seat before t old numbers n steps path given e stopped w keeps only = record {
   numbered = w.numbered;
   keeps = keeps;
+  only = only;
   number = subst (λ (r : Result NodeNumber OutOfMemory). IfOk r (HasNumber tree seat numbers path)) (sym stopped) tt;
 }
 

@@ -10,7 +10,7 @@ use Rattle.cal_context.specs.Tree as contexts
 use Rattle.cal_context.specs.Tree.{Grows}
 use Rattle.cal_context.specs.declared.numbers.NodeNumber.{NodeNumber}
 use Rattle.cal_hand.specs.Nodes.{NodeAt, node_entry}
-use Rattle.cal_nodes.specs.Numbers.{AreNumbered, CanNumber, IsNumbered, KeepsNumbers, number_in}
+use Rattle.cal_nodes.specs.Numbers.{AddsWay, AddsWays, AreNumbered, CanNumber, IsNumbered, IsOnWay, KeepsNumbers, number_in}
 use Rattle.cal_once.specs.Seats.{view}
 use Rattle.cal_once.specs.Views.{KnowsMore}
 use Rattle.cal_once.specs.declared.seat.RowSeat.{RowSeat}
@@ -88,3 +88,23 @@ numbered_more old new keeps nodes i e less so_far this k d l = ⊎_elim
     let at : k ≡ i = omega arith in
     subst (λ (m : NodeId). IsNumbered new m) (get_or_default nodes i e d less ∙ ap (λ (j : ℕ). get_or nodes j d) (sym at)) this)
     (cases_lt k i)
+
+-- what is on the way to a node stays so
+pub on_way_later : (tree : Tree) (was is : RowSeat NodeSort) → KnowsMore (view was) (view is) → (old new : contexts.Tree) → Grows old new → (n : NodeNumber) (node : NodeId) → IsOnWay tree was old n node → IsOnWay tree is new n node
+on_way_later tree was is more old new grows n node h = record {
+  path = h.path;
+  node_at = node_later tree was is more node h.path h.node_at;
+  front = h.front;
+  begins = h.begins;
+  stands = NodeStands-Grows grows n h.front h.stands;
+}
+
+-- what was put there for the nodes so far, and for one more
+pub adds_ways-more : (tree : Tree) (was is : RowSeat NodeSort) → KnowsMore (view was) (view is) → (t₀ old new : contexts.Tree) → Grows old new → (nodes : List NodeId) (i : ℕ) → i < length nodes
+    → AddsWays tree was old t₀ nodes → AddsWay tree is new old (get_or nodes i (record { 0 = 0 })) → AddsWays tree is new t₀ nodes
+adds_ways-more tree was is more t₀ old new grows nodes i less so_far this n late within = ⊎_elim
+    (λ (before : n.0 < length old.paths).
+    let h = so_far n late before in
+    (h.0, h.1, on_way_later tree was is more old new grows n (get_or nodes h.0 (record { 0 = 0 })) h.2))
+    (λ (last : length old.paths ≤ n.0). (i, less, this n last within))
+    (cases_lt n.0 (length old.paths))

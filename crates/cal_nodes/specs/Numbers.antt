@@ -1,7 +1,8 @@
 -- Which nodes of a shared tree have numbers in a context, by a list with a place for each node.
-use Rattle.std.specs.Prelude.{◌≡◌, ◌<◌, List, length, slice_index_or, Option, Some, None, All}
+use Rattle.std.specs.Prelude.{◌≡◌, ℕ, ◌<◌, ◌≤◌, List, length, slice_index_or, Option, Some, None, All}
 use Rattle.cal_board.specs.Contexts.{NodeStands}
 use Rattle.cal_board.specs.declared.opened.Opened.{Opened}
+use Rattle.cal_context.specs.Lists.{IsFront}
 use Rattle.cal_context.specs.Tree as contexts
 use Rattle.cal_context.specs.declared.numbers.NodeNumber.{NodeNumber}
 use Rattle.cal_hand.specs.Nodes.{NodeAt}
@@ -43,3 +44,20 @@ module _ (tree : Tree) (seat : RowSeat NodeSort) (t : contexts.Tree) where
   pub record AreNumbered (numbers : List (Option NodeNumber)) : Type 0 where
     pub long : slots_of tree < length numbers
     pub each : (node : NodeId) (n : NodeNumber) → number_in numbers node ≡ Some n → StandsFor n node
+
+  -- the number stands in the context for the node or for one above it: for a beginning of its path
+  pub record IsOnWay (n : NodeNumber) (node : NodeId) : Type 0 where
+    pub path : List (Opened Variant)
+    pub node_at : NodeAt tree seat node path
+    pub front : List (Opened Variant)
+    pub begins : IsFront front path
+    pub stands : NodeStands t n front
+
+  -- each node that the context has more is on the way to this one
+  abbrev pub AddsWay : contexts.Tree → NodeId → Type 0
+  AddsWay old node = (n : NodeNumber) → length old.paths ≤ n.0 → n.0 < length t.paths → IsOnWay n node
+
+  -- or to one of these
+  abbrev pub AddsWays : contexts.Tree → List NodeId → Type 0
+  AddsWays old nodes = (n : NodeNumber) → length old.paths ≤ n.0 → n.0 < length t.paths
+      → (k : ℕ) × (k < length nodes) × IsOnWay n (slice_index_or nodes k (record { 0 = 0 }))

@@ -1,7 +1,9 @@
 -- The way from a node up to one that has a number, and down again.
-use Rattle.std.specs.Prelude.{◌≡◌, ◌⊎◌, ◌+◌, ◌<◌, List, [], ◌∷◌, ◌++◌, length, map, All, Option, Some}
+use Rattle.std.specs.Prelude.{◌≡◌, ◌⊎◌, ◌+◌, ◌<◌, ◌≤◌, List, [], ◌∷◌, ◌++◌, length, map, All, Option, Some}
 use Rattle.std.specs.Prelude.{Result, IfOk}
+use Rattle.cal_board.specs.Contexts.{NodeStands}
 use Rattle.cal_board.specs.declared.opened.Opened.{Opened}
+use Rattle.cal_context.specs.Lists.{IsFront}
 use Rattle.cal_context.specs.Tree as contexts
 use Rattle.cal_context.specs.declared.numbers.NodeNumber.{NodeNumber}
 use Rattle.cal_hand.specs.Nodes.{NodeAt, node_entry}
@@ -19,6 +21,11 @@ use Rattle.cal_words.specs.declared.sort.NodeSort.{NodeSort}
 -- the open value of a node's own entry
 abbrev pub opened_of : Step → Opened Variant
 opened_of s = record { attribute = s.attr; value = s.value }
+
+-- each node that a context has more stands for a beginning of these open values
+abbrev pub AddsFronts : contexts.Tree → contexts.Tree → List (Opened Variant) → Type 0
+AddsFronts old new path = (n : NodeNumber) → length old.paths ≤ n.0 → n.0 < length new.paths
+    → (front : List (Opened Variant)) × IsFront front path × NodeStands new n front
 
 module _ (tree : Tree) (seat : RowSeat NodeSort) where
   -- The steps from the node of a path up to that of another one, the innermost first: each is the
@@ -55,10 +62,11 @@ module _ (tree : Tree) (seat : RowSeat NodeSort) where
 
     -- Some of the steps were put into the context, and perhaps all of them: then the node of the
     -- path has the number that is given.
-    pub record IsPut (old : List (Option NodeNumber)) (path : List (Opened Variant))
-        (given : Result NodeNumber OutOfMemory) : Type 0 where
+    pub record IsPut (was : contexts.Tree) (old : List (Option NodeNumber))
+        (path : List (Opened Variant)) (given : Result NodeNumber OutOfMemory) : Type 0 where
       pub numbered : AreNumbered tree seat t numbers
       pub keeps : KeepsNumbers old numbers
+      pub only : AddsFronts was t path
       pub number : IfOk given (HasNumber numbers path)
 
 -- the number is one of the context's, and the steps are by attributes there and of nodes that have

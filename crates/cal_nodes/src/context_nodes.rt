@@ -5,8 +5,8 @@ ghost use Rattle.cal_context.specs.Tree as contexts;
 ghost use Rattle.cal_context.specs.Tree.{Grows};
 ghost use Rattle.cal_context.specs.declared.numbers.NodeNumber as numbers;
 ghost use Rattle.cal_hand.specs.Nodes.{NodeAt};
-ghost use Rattle.cal_nodes.specs.Numbers.{AreNumbered, CanNumber, IsNumbered, KeepsNumbers};
-ghost use Rattle.cal_nodes.specs.Numbers.{number_in};
+ghost use Rattle.cal_nodes.specs.Numbers.{AddsWay, AddsWays, AreNumbered, CanNumber, IsNumbered};
+ghost use Rattle.cal_nodes.specs.Numbers.{KeepsNumbers, number_in};
 ghost use Rattle.cal_once.specs.Seats.{view};
 ghost use Rattle.cal_once.specs.Views.{Learns};
 ghost use Rattle.cal_once.specs.declared.seat.RowSeat.{RowSeat};
@@ -83,8 +83,9 @@ impl ContextNodes {
         ensures number { IfOk result (λ n. number_in self.new node ≡ Some n) }
         ensures stands { (path : List (Opened Variant)) → NodeAt tree.now seat.new node path
             → IfOk result (λ n. NodeStands context.new n path) }
+        ensures only { AddsWay tree.now seat.new context.new context.old node }
         ensures again { (n : numbers.NodeNumber) → number_in self.old node ≡ Some n
-            → (context.new ≡ context.old) × (self.new ≡ self.old) }
+            → (context.new ≡ context.old) × (self.new ≡ self.old) × (seat.new ≡ seat.old) }
     {
         if let Some(number) = number_at(&self.numbers, node) {
             return Ok(number);
@@ -113,6 +114,7 @@ impl ContextNodes {
         ensures attributes { context.new.attributes ≡ context.old.attributes }
         ensures numbered { AreNumbered tree.now seat.new context.new self.new }
         ensures keeps { KeepsNumbers self.old self.new }
+        ensures only { AddsWays tree.now seat.new context.new context.old nodes.now }
         ensures all { OnOk result (All (IsNumbered self.new) nodes.now) }
     {
         for node in nodes {

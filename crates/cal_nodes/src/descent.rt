@@ -26,7 +26,7 @@ pub(crate) fn descend(
     ensures attributes { context.new.attributes ≡ context.old.attributes }
     ensures put { (tree : trees.Tree) (seat : RowSeat NodeSort) (path : List (Opened Variant))
         → IsWay tree seat context.old numbers.old.items start steps.old.items path
-        → IsPut tree seat context.new numbers.new.items numbers.old.items path result }
+        → IsPut tree seat context.new numbers.new.items context.old numbers.old.items path result }
 {
     let mut number = start;
     while let Some(step) = steps.pop() {

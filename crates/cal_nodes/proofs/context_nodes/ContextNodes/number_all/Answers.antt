@@ -1,6 +1,6 @@
 use Rattle.std.proofs.Common.{◌<◌, ◌∙◌, length, get_or, arith}
 use Rattle.cal_context.proofs.CallerLemmas.{Grows-trans}
-use Rattle.cal_nodes.proofs.Numbering.{can_later, numbered_more}
+use Rattle.cal_nodes.proofs.Numbering.{adds_ways-more, can_later, numbered_more}
 use Rattle.cal_once.proofs.Learning.{learns_then}
 use Rattle.cal_once.specs.Seats.{view}
 use Rattle.cal_words.specs.declared.node.NodeId.{NodeId}
@@ -32,5 +32,6 @@ loop-node-preserved c =
       attributes = done.attributes ∙ inv.attributes;
       numbered = done.numbered;
       keeps = λ node n e. done.keeps node n (inv.keeps node n e);
+      only = adds_ways-more c.args.tree.now c.loop-node.seat c.number_of.new.seat done.learns.more c.args.context.now c.loop-node.context c.number_of.new.context done.grows nodes i less inv.only done.only;
       all = numbered_more c.loop-node.self c.number_of.new.self done.keeps nodes i none less inv.all (c.in_ok-number_of.field-0, c.in_ok-number_of.ensures.number);
     }

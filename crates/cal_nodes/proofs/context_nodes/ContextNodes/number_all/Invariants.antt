@@ -1,6 +1,6 @@
 use Rattle.std.proofs.Common.{◌≡◌, ◌<◌, ℕ, get_or}
 use Rattle.cal_context.specs.Tree.{Grows}
-use Rattle.cal_nodes.specs.Numbers.{AreNumbered, IsNumbered, KeepsNumbers}
+use Rattle.cal_nodes.specs.Numbers.{AddsWays, AreNumbered, IsNumbered, KeepsNumbers}
 use Rattle.cal_once.specs.Seats.{view}
 use Rattle.cal_once.specs.Views.{Learns}
 use Rattle.cal_tree.specs.Seats.{IsTreeSeat}
@@ -16,5 +16,6 @@ invariant-loop-node l = record {
   attributes : l.context.attributes ≡ l.fn.context.attributes;
   numbered : AreNumbered l.tree l.seat l.context l.self;
   keeps : KeepsNumbers l.fn.self l.self;
+  only : AddsWays l.tree l.seat l.context l.fn.context l.nodes;
   all : (k : ℕ) (d : NodeId) → k < l.node-index → IsNumbered l.self (get_or l.nodes k d);
 }

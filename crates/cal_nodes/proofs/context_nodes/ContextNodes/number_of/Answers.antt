@@ -51,7 +51,7 @@ way_after c =
 pub descend-requires : goal.descend-requires
 descend-requires c = way_can c.args.tree.now c.climb.new.seat c.args.context.now c.self.inside.numbers.items c.in_ok-start.start c.climb.new.self.steps.items c.requires.node.path c.has_each_once.ensures (way_of (goal.at.descend-requires c).In_ok-start) c.requires.node.listed
 
-put_of : (c : After-descend) → IsPut c.args.tree.now c.climb.new.seat c.descend.new.context c.descend.new.numbers.items c.self.inside.numbers.items c.requires.node.path c.descend.result
+put_of : (c : After-descend) → IsPut c.args.tree.now c.climb.new.seat c.descend.new.context c.descend.new.numbers.items c.args.context.now c.self.inside.numbers.items c.requires.node.path c.descend.result
 put_of c = c.descend.ensures.put c.args.tree.now c.climb.new.seat c.requires.node.path (way_after c)
 
 pub returns-clause-numbered : goal.returns-clause-numbered
@@ -84,3 +84,16 @@ returns-clause-stands c path at =
     IfOk-weaker c.descend.result (λ (n : NodeNumber). number_in numbers c.args.node ≡ Some n) (λ (n : NodeNumber). NodeStands c.descend.new.context n path)
     (λ (n : NodeNumber) (e : number_in numbers c.args.node ≡ Some n). stands_for tree is c.climb.ensures.seat c.descend.new.context numbers c.args.node n path put.numbered e at)
     (number_now (goal.at.returns-clause-stands c).After-descend)
+
+pub returns-clause-only : goal.returns-clause-only
+returns-clause-only c n late within =
+    let path = c.requires.node.path in
+    let put = put_of (goal.at.returns-clause-only c).After-descend in
+    let more = put.only n late within in
+    record {
+      path = path;
+      node_at = node_later c.args.tree.now c.args.seat.now c.climb.new.seat c.climb.ensures.learns.more c.args.node path c.requires.node.node_at;
+      front = more.0;
+      begins = more.1;
+      stands = more.2;
+    }
