@@ -35,3 +35,12 @@ loop-node-preserved c =
       only = adds_ways-more c.args.tree.now c.loop-node.seat c.number_of.new.seat done.learns.more c.args.context.now c.loop-node.context c.number_of.new.context done.grows nodes i less inv.only done.only;
       all = numbered_more c.loop-node.self c.number_of.new.self done.keeps nodes i none less inv.all (c.in_ok-number_of.field-0, c.in_ok-number_of.ensures.number);
     }
+
+pub returns-in_err-number_of-clause-only : goal.returns-in_err-number_of-clause-only
+returns-in_err-number_of-clause-only c =
+    let inv = c.loop-node.invariant in
+    let test = c.loop-node-test.true in
+    let nodes = c.args.nodes.now in
+    let i = c.loop-node.node-index in
+    let less : i < length nodes = omega arith in
+    adds_ways-more c.args.tree.now c.loop-node.seat c.number_of.new.seat c.number_of.ensures.learns.more c.args.context.now c.loop-node.context c.number_of.new.context c.number_of.ensures.grows nodes i less inv.only c.number_of.ensures.only
