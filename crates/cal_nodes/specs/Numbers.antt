@@ -1,5 +1,6 @@
 -- Which nodes of a shared tree have numbers in a context, by a list with a place for each node.
-use Rattle.std.specs.Prelude.{◌≡◌, ℕ, ◌<◌, ◌≤◌, List, length, slice_index_or, Option, Some, None, All}
+use Rattle.std.specs.Prelude.{◌≡◌, ℕ, ◌<◌, ◌≤◌, List, length, slice_index_or, Option, Some, None}
+use Rattle.std.specs.Prelude.{All}
 use Rattle.cal_board.specs.Contexts.{NodeStands}
 use Rattle.cal_board.specs.declared.opened.Opened.{Opened}
 use Rattle.cal_context.specs.Lists.{IsFront}
@@ -55,7 +56,8 @@ module _ (tree : Tree) (seat : RowSeat NodeSort) (t : contexts.Tree) where
 
   -- each node that the context has more is on the way to this one
   abbrev pub AddsWay : contexts.Tree → NodeId → Type 0
-  AddsWay old node = (n : NodeNumber) → length old.paths ≤ n.0 → n.0 < length t.paths → IsOnWay n node
+  AddsWay old node = (n : NodeNumber) → length old.paths ≤ n.0 → n.0 < length t.paths
+      → IsOnWay n node
 
   -- or to one of these
   abbrev pub AddsWays : contexts.Tree → List NodeId → Type 0

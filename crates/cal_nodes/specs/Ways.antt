@@ -1,5 +1,6 @@
 -- The way from a node up to one that has a number, and down again.
-use Rattle.std.specs.Prelude.{◌≡◌, ◌⊎◌, ◌+◌, ◌<◌, ◌≤◌, List, [], ◌∷◌, ◌++◌, length, map, All, Option, Some}
+use Rattle.std.specs.Prelude.{◌≡◌, ◌⊎◌, ◌+◌, ◌<◌, ◌≤◌, List, [], ◌∷◌, ◌++◌, length, map, All}
+use Rattle.std.specs.Prelude.{Option, Some}
 use Rattle.std.specs.Prelude.{Result, IfOk}
 use Rattle.cal_board.specs.Contexts.{NodeStands}
 use Rattle.cal_board.specs.declared.opened.Opened.{Opened}

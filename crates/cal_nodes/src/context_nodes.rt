@@ -1,4 +1,4 @@
-ghost use Rattle.std.specs.Prelude.{◌≡◌, ◌+◌, ◌<◌, length, None, Some, IfOk, OnOk, List, All, replicate};
+ghost use Rattle.std.specs.Prelude.{◌≡◌, ◌+◌, List, All, None, Some, IfOk, OnOk, replicate};
 ghost use Rattle.cal_board.specs.Contexts.{NodeStands};
 ghost use Rattle.cal_board.specs.declared.opened.Opened.{Opened};
 ghost use Rattle.cal_context.specs.Tree as contexts;

@@ -53,7 +53,8 @@ impl Way {
         node: NodeId,
     ) -> Result<NodeNumber, OutOfMemory>
         requires seat { IsTreeSeat tree.now seat.old }
-        requires known { (path : List (Opened values.Variant)) × NodeAt tree.now seat.old node path }
+        requires known { (path : List (Opened values.Variant))
+            × NodeAt tree.now seat.old node path }
         requires long { slots_of tree.now < length numbers.now }
         ensures seat { IsTreeSeat tree.now seat.new }
         ensures learns { Learns (view seat.old) (view seat.new) }

@@ -10,7 +10,8 @@ invariant-loop-step l = record {
   grows : Grows l.fn.context l.context;
   attributes : l.context.attributes ≡ l.fn.context.attributes;
   can : CanDescend l.context l.numbers.items l.number l.steps.items;
-  goes : GoesDown l.fn.context l.fn.numbers.items l.fn.start l.fn.steps.items l.context l.numbers.items l.number l.steps.items;
+  goes : GoesDown l.fn.context l.fn.numbers.items l.fn.start l.fn.steps.items l.context
+      l.numbers.items l.number l.steps.items;
 }
 
 abbrev pub decreases-loop-step : goal.decreases-loop-step

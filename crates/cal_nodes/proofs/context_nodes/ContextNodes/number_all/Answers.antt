@@ -14,7 +14,8 @@ number_of-requires-clause-node c =
     let i = c.loop-node.node-index in
     let none : NodeId = record { 0 = 0 } in
     let less : i < length nodes = omega arith in
-    can_later c.args.tree.now c.args.seat.now c.loop-node.seat inv.learns.more c.args.context.now c.loop-node.context (get_or nodes i none) inv.grows (c.requires.nodes i none less)
+    can_later c.args.tree.now c.args.seat.now c.loop-node.seat inv.learns.more c.args.context.now
+    c.loop-node.context (get_or nodes i none) inv.grows (c.requires.nodes i none less)
 
 pub loop-node-preserved : goal.loop-node-preserved
 loop-node-preserved c =
@@ -27,13 +28,18 @@ loop-node-preserved c =
     let less : i < length nodes = omega arith in
     record {
       seat = done.seat;
-      learns = learns_then (view c.args.seat.now) (view c.loop-node.seat) (view c.number_of.new.seat) inv.learns done.learns;
-      grows = Grows-trans c.args.context.now c.loop-node.context c.number_of.new.context inv.grows done.grows;
+      learns = learns_then (view c.args.seat.now) (view c.loop-node.seat)
+          (view c.number_of.new.seat) inv.learns done.learns;
+      grows = Grows-trans c.args.context.now c.loop-node.context c.number_of.new.context inv.grows
+          done.grows;
       attributes = done.attributes ∙ inv.attributes;
       numbered = done.numbered;
       keeps = λ node n e. done.keeps node n (inv.keeps node n e);
-      only = adds_ways-more c.args.tree.now c.loop-node.seat c.number_of.new.seat done.learns.more c.args.context.now c.loop-node.context c.number_of.new.context done.grows nodes i less inv.only done.only;
-      all = numbered_more c.loop-node.self c.number_of.new.self done.keeps nodes i none less inv.all (c.in_ok-number_of.field-0, c.in_ok-number_of.ensures.number);
+      only = adds_ways-more c.args.tree.now c.loop-node.seat c.number_of.new.seat done.learns.more
+          c.args.context.now c.loop-node.context c.number_of.new.context done.grows nodes i less
+          inv.only done.only;
+      all = numbered_more c.loop-node.self c.number_of.new.self done.keeps nodes i none less inv.all
+          (c.in_ok-number_of.field-0, c.in_ok-number_of.ensures.number);
     }
 
 pub returns-in_err-number_of-clause-only : goal.returns-in_err-number_of-clause-only
@@ -43,4 +49,7 @@ returns-in_err-number_of-clause-only c =
     let nodes = c.args.nodes.now in
     let i = c.loop-node.node-index in
     let less : i < length nodes = omega arith in
-    adds_ways-more c.args.tree.now c.loop-node.seat c.number_of.new.seat c.number_of.ensures.learns.more c.args.context.now c.loop-node.context c.number_of.new.context c.number_of.ensures.grows nodes i less inv.only c.number_of.ensures.only
+    adds_ways-more c.args.tree.now c.loop-node.seat c.number_of.new.seat
+    c.number_of.ensures.learns.more c.args.context.now c.loop-node.context
+    c.number_of.new.context c.number_of.ensures.grows nodes i less inv.only
+    c.number_of.ensures.only
