@@ -1,4 +1,4 @@
-ghost use Rattle.std.specs.Prelude.{◌≡◌, ◌+◌, List, All, None, Some, IfOk, OnOk, replicate};
+ghost use Rattle.std.specs.Prelude.{◌≡◌, ◌+◌, List, All, None, Some, Ok, IfOk, OnOk, replicate};
 ghost use Rattle.cal_board.specs.Contexts.{NodeStands};
 ghost use Rattle.cal_board.specs.declared.opened.Opened.{Opened};
 ghost use Rattle.cal_context.specs.Tree as contexts;
@@ -85,7 +85,8 @@ impl ContextNodes {
             → IfOk result (λ n. NodeStands context.new n path) }
         ensures only { AddsWay tree.now seat.new context.new context.old node }
         ensures again { (n : numbers.NodeNumber) → number_in self.old node ≡ Some n
-            → (context.new ≡ context.old) × (self.new ≡ self.old) × (seat.new ≡ seat.old) }
+            → (result ≡ Ok n) × (context.new ≡ context.old) × (self.new ≡ self.old)
+            × (seat.new ≡ seat.old) }
     {
         if let Some(number) = number_at(&self.numbers, node) {
             return Ok(number);
