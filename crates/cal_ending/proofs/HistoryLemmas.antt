@@ -80,7 +80,7 @@ module _ (common : Common) where
         let places = (view t.process.log).published in
         let there : HasJoined (view new) t.number places =
         ap (λ (os : List (Option (List ℕ))). slice_get os t.number) learns.others
-        ∙ joined.published in
+        ∙ joined.placed in
         let read = subst (λ (os : List OpRec). HasSeen slots (view new) os) b.1 whole.read in
         let long = is.has.taken.long in
         record {

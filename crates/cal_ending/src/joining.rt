@@ -1,7 +1,7 @@
 ghost use Rattle.std.specs.Prelude.{◌≡◌, ◌≢◌, ℕ, ◌<◌, All, length};
-ghost use Rattle.cal_ending.specs.Joining.{AreInOrder, AtTree, IsJoined};
+ghost use Rattle.cal_ending.specs.Joining.{AreInOrder, IsJoined};
 ghost use Rattle.cal_once.specs.Seats.{view};
-ghost use Rattle.cal_once.specs.Views.{AllJoined, Learns, joined};
+ghost use Rattle.cal_once.specs.Views.{AllJoined};
 ghost use Rattle.cal_thread.specs.Hiring.{HasHired};
 ghost use Rattle.cal_thread.specs.Threads.{HasSomeState};
 ghost use Rattle.cal_thread.specs.declared.thread.Thread as threads;
@@ -22,7 +22,6 @@ pub fn join_thread(common: &Common<'_>, thread: Thread, tree: &mut TreeSeat, log
     ensures joined { IsJoined tree.new log.new thread }
     ensures others { (other : threads.Thread) → other.number ≢ thread.number
         → IsJoined tree.old log.old other → IsJoined tree.new log.new other }
-    ensures nodes { Learns (joined (view tree.old) (view thread.tree)) (view tree.new) }
 {
     let Thread {
         number: _number,
@@ -51,7 +50,7 @@ pub fn join_threads(
     ensures hired { HasHired common.now tree.new log.new (length threads.items) }
     ensures joined { All (IsJoined tree.new log.new) threads.items }
     ensures history { AllJoined (view log.new) }
-    ensures nodes { All AtTree threads.items → AllJoined (view tree.new) }
+    ensures nodes { AllJoined (view tree.new) }
 {
     while let Some(thread) = threads.pop() {
         join_thread(common, thread, tree, log);

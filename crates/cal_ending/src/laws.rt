@@ -1,8 +1,8 @@
-ghost use Rattle.std.specs.Prelude.{◌≡◌, ℕ, List, Some, slice_get};
-ghost use Rattle.cal_ending.specs.Joining.{IsJoined};
+ghost use Rattle.std.specs.Prelude.{◌≡◌, ℕ, List, Some, All, length, slice_get};
+ghost use Rattle.cal_ending.specs.Joining.{AreInOrder, IsJoined};
 ghost use Rattle.cal_ending.specs.Whole.{KnowsOwn, KnowsOwnLines};
 ghost use Rattle.cal_once.specs.Seats.{view};
-ghost use Rattle.cal_once.specs.Views.{KnowsMore};
+ghost use Rattle.cal_once.specs.Views.{AllJoined, IsLater};
 ghost use Rattle.cal_once.specs.declared.seat.RowSeat.{RowSeat};
 ghost use Rattle.cal_plog.specs.History.{HasSeen};
 ghost use Rattle.cal_plog.specs.Seats.{slots_of};
@@ -12,6 +12,7 @@ ghost use Rattle.cal_run.specs.Lawful.{HasOrder, placed_of};
 ghost use Rattle.cal_script.specs.declared.journal.Placed.{Placed};
 ghost use Rattle.cal_script.specs.declared.script.Line.{Line};
 ghost use Rattle.cal_script.specs.declared.script.Script.{Script};
+ghost use Rattle.cal_thread.specs.Hiring.{HasHired};
 ghost use Rattle.cal_thread.specs.declared.thread.Thread.{Thread};
 ghost use Rattle.cal_tree.specs.Paths.{NodeEntry};
 ghost use Rattle.cal_tree.specs.Seats.{IsPathOf};
@@ -30,9 +31,16 @@ pub fn joined_thread_law()
         (path : List NodeEntry) (node : ℕ) → IsJoined tree log t
         → IsPathOf common.tree t.tree path node → IsPathOf common.tree tree path node }
     ensures stays { (tree later_tree : RowSeat NodeSort) (log later_log : RowSeat OpSort)
-        (t : Thread) → KnowsMore (view tree) (view later_tree)
+        (t : Thread) → IsLater (view tree) (view later_tree)
         → OnlyLearns (view log) (view later_log) → IsJoined tree log t
         → IsJoined later_tree later_log t }
+{}
+
+/// The law of all threads: once the seats of each thread of a run are joined, no seat is away.
+pub fn all_joined_law()
+    ensures { (common : Common) (tree : RowSeat NodeSort) (log : RowSeat OpSort) (ts : List Thread)
+        → HasHired common tree log (length ts) → AreInOrder ts → All (IsJoined tree log) ts
+        → AllJoined (view tree) × AllJoined (view log) }
 {}
 
 /// The law of order: where a thread knows all operations of its own, the whole history has the same

@@ -20,6 +20,7 @@ module _ (common : Common) where
   pub record HasState (t : Thread) (h : List OpRec) (state : ThreadState) : Type 0 where
     pub taken : HasTaken common t.tree t.process h
     pub number : (view t.process.log).number ≡ t.number + 1
+    pub at_nodes : (view t.tree).number ≡ t.number + 1
     pub mine : Held common t.tree t.board state.board
     pub readings : t.timed ≡ true → t.readings ≡ state.readings
     pub clock : t.clock ≡ state.clock

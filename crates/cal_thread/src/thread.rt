@@ -34,6 +34,7 @@ impl Thread {
     /// Before the first line. It takes no memory.
     pub fn new(alloc: Global, number: u32, timed: bool, tree: TreeSeat, log: LogSeat) -> Self
         requires number { (view log).number ≡ number + 1 }
+        requires at_nodes { (view tree).number ≡ number + 1 }
         requires fresh { (view log).published ≡ [] }
         ensures number { result.number ≡ number }
         ensures timed { result.timed ≡ timed }

@@ -26,12 +26,15 @@ returns-clause-joined c =
     let t = c.args.thread in
     let hired = c.requires.hired.1 in
     let within = c.requires.hired.2 in
+    let many = hired.tree_others in
     let long = hired.log_others in
+    let has = c.requires.thread.2 in
     here-joined c.args.tree.now c.join.new.seat c.args.log.now c.join-2.new.seat t
-    c.join.ensures.joined c.join-2.ensures.joined c.requires.thread.2.number
-    (omega (arith, within, long))
+    c.join.ensures.joined c.join-2.ensures.joined has.at_nodes has.number
+    (omega (arith, within, many)) (omega (arith, within, long))
 
 pub returns-clause-others : goal.returns-clause-others
 returns-clause-others c other apart is =
     there-joined c.args.tree.now c.join.new.seat c.args.log.now c.join-2.new.seat c.args.thread
-    c.join.ensures.joined c.join-2.ensures.joined c.requires.thread.2.number other apart is
+    c.join.ensures.joined c.join-2.ensures.joined c.requires.thread.2.at_nodes
+    c.requires.thread.2.number other apart is

@@ -1,15 +1,12 @@
-use Rattle.std.proofs.Common.{◌≡◌, ◌+◌, ◌-◌, ◌<◌, ◌++◌, ℕ, List, [], ◌∷◌, length}
+use Rattle.std.proofs.Common.{◌≡◌, ◌<◌, ◌++◌, ℕ, List, [], ◌∷◌, length}
 use Rattle.std.proofs.Common.{append_assoc, sym, ap, ◌∙◌, subst, arith}
 use mathlib.Core.Logic.{dite}
 use native.Mathlib.Decide.{ℕ_discrete}
-use Rattle.std.specs.Prelude.{Option, slice_index_or}
+use Rattle.std.specs.Prelude.{slice_index_or}
 use Rattle.std.proofs.lemmas.List.{length-append}
 use Rattle.std.proofs.Math.Seq.{get_or-append_seam}
-use Rattle.cal_ending.proofs.JoinLemmas.{WasJoined, all-joined, others-are, threads-joined}
-use Rattle.cal_ending.proofs.JoinLemmas.{was-here, was-there}
-use Rattle.cal_ending.specs.Joining.{AtTree, IsJoined}
-use Rattle.cal_once.specs.Seats.{view}
-use Rattle.cal_once.specs.Views.{joined_with}
+use Rattle.cal_ending.proofs.JoinLemmas.{log-joined, tree-joined}
+use Rattle.cal_ending.specs.Joining.{IsJoined}
 use Rattle.cal_thread.specs.Threads.{HasSomeState}
 use Rattle.cal_thread.specs.declared.thread.Thread.{Thread}
 use Rattle.cal_ending.proofs.joining.join_threads.Goals as goal
@@ -75,21 +72,6 @@ loop-thread-preserved c =
           (λ ne. done.others (slice_index_or c.args.threads.items j d)
           (λ e. let is = c.requires.order j d high in ne (omega (arith, e, is, at)))
           (i.joined j d (omega (arith, low, ne, popped, sum)) high));
-      nodes = λ own j low high.
-          let old = (view c.loop-thread.tree).others in
-          let places = (view t.tree).published in
-          let mine : (view t.tree).number ≡ t.number + 1 =
-          subst (λ (u : Thread). AtTree u) (here s t) (own k t less) in
-          let place : (view t.tree).number - 1 ≡ k = omega (arith, mine, at) in
-          let long = i.hired.tree_others in
-          let are = others-are (view c.loop-thread.tree) (view t.tree) (view tree) done.nodes in
-          subst (λ (os : List (Option (List ℕ))). WasJoined os j) (sym are)
-          (subst (λ (m : ℕ). WasJoined (joined_with old m places) j) (sym place)
-          (dite (ℕ_discrete k j)
-          (λ e. subst (λ (m : ℕ). WasJoined (joined_with old k places) m) e
-          (places, was-here old k places (omega (arith, less, long))))
-          (λ ne. let was = i.nodes own j (omega (arith, low, ne, popped, sum)) high in
-          (was.0, was-there old k j places ne ∙ was.1))));
     }
 
 pub returns-clause-history : goal.returns-clause-history
@@ -97,21 +79,13 @@ returns-clause-history c =
     let i = c.loop-thread.invariant in
     let gone = c.in_default.ensures.cases.0 in
     let items = c.loop-thread.threads.ok in
-    let none : length c.loop-thread.threads.items ≡ 0 = omega (arith, gone, items) in (
-      i.hired.first_log,
-      all-joined (view c.loop-thread.log).others
-          (threads-joined c.loop-thread.tree c.loop-thread.log c.args.threads.items c.requires.order
-          (λ k d l. i.joined k d (omega (arith, none)) l) i.hired.log_others),
-    )
+    log-joined c.args.common.now c.loop-thread.tree c.loop-thread.log c.args.threads.items i.hired
+    c.requires.order (λ k d l. i.joined k d (omega (arith, gone, items)) l)
 
 pub returns-clause-nodes : goal.returns-clause-nodes
-returns-clause-nodes c own =
+returns-clause-nodes c =
     let i = c.loop-thread.invariant in
     let gone = c.in_default.ensures.cases.0 in
     let items = c.loop-thread.threads.ok in
-    let none : length c.loop-thread.threads.items ≡ 0 = omega (arith, gone, items) in
-    let long = i.hired.tree_others in (
-      i.hired.first_tree,
-      all-joined (view c.loop-thread.tree).others
-          (λ k l. i.nodes own k (omega (arith, none)) (omega (arith, l, long))),
-    )
+    tree-joined c.args.common.now c.loop-thread.tree c.loop-thread.log c.args.threads.items i.hired
+    c.requires.order (λ k d l. i.joined k d (omega (arith, gone, items)) l)

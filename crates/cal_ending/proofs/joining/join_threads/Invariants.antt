@@ -1,8 +1,6 @@
 use Rattle.std.proofs.Common.{◌≡◌, ◌<◌, ◌≤◌, ◌++◌, ℕ, List, length, vec_len}
-use Rattle.std.specs.Prelude.{All, slice_index_or}
-use Rattle.cal_ending.proofs.JoinLemmas.{WasJoined}
-use Rattle.cal_ending.specs.Joining.{AtTree, IsJoined}
-use Rattle.cal_once.specs.Seats.{view}
+use Rattle.std.specs.Prelude.{slice_index_or}
+use Rattle.cal_ending.specs.Joining.{IsJoined}
 use Rattle.cal_thread.specs.Hiring.{HasHired}
 use Rattle.cal_thread.specs.declared.thread.Thread.{Thread}
 use Rattle.cal_ending.proofs.joining.join_threads.Given as goal
@@ -14,8 +12,6 @@ invariant-loop-thread l = record {
   left : (rest : List Thread) × (l.fn.threads.items ≡ l.threads.items ++ rest);
   joined : (k : ℕ) (d : Thread) → length l.threads.items ≤ k → k < length l.fn.threads.items
       → IsJoined l.tree l.log (slice_index_or l.fn.threads.items k d);
-  nodes : All AtTree l.fn.threads.items → (k : ℕ) → length l.threads.items ≤ k
-      → k < length l.fn.threads.items → WasJoined (view l.tree).others k;
 }
 
 abbrev pub decreases-loop-thread : goal.decreases-loop-thread

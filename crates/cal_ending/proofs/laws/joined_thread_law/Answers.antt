@@ -17,9 +17,10 @@ returns-clause-paths c common tree log t path node is has =
     leads_later (nodes.slots_of common.tree) (view t.tree) (view tree) 0 0 path node is.nodes has
 
 pub returns-clause-stays : goal.returns-clause-stays
-returns-clause-stays c tree later_tree log later_log t more learns is = record {
-  published = ap (λ (os : List (Option (List ℕ))). slice_get os t.number) learns.others
-      ∙ is.published;
+returns-clause-stays c tree later_tree log later_log t later learns is = record {
+  placed = ap (λ (os : List (Option (List ℕ))). slice_get os t.number) learns.others
+      ∙ is.placed;
+  made = ap (λ (os : List (Option (List ℕ))). slice_get os t.number) later.2 ∙ is.made;
   history = knows-then (view t.process.log) (view log) (view later_log) is.history learns.more;
-  nodes = knows-then (view t.tree) (view tree) (view later_tree) is.nodes more;
+  nodes = knows-then (view t.tree) (view tree) (view later_tree) is.nodes later.3;
 }

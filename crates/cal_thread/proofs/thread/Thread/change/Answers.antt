@@ -30,6 +30,7 @@ returns-in-None-clause-changed c done h state note reading w =
       has = record {
         taken = s.taken;
         number = s.number;
+        at_nodes = s.at_nodes;
         mine = subst (λ (o : Option Operation). Held c.args.common.now c.args.self.now.tree
             c.args.self.now.board (board_placed script state.board o)) e s.mine;
         readings = λ timed. s.readings timed
@@ -55,6 +56,7 @@ returns-in_ok-operate-in-Some-clause-changed c done h state note reading w =
       has = record {
         taken = r.taken;
         number = r.number;
+        at_nodes = r.at_nodes;
         mine = subst (λ (o : Option Operation). Held c.args.common.now new.tree new.board
             (board_placed script state.board o)) e r.mine;
         readings = λ timed. r.readings timed

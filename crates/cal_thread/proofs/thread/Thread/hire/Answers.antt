@@ -22,6 +22,11 @@ new-requires-clause-number c =
     ap (λ (v : View OpSort). v.number) c.split-own_log.ensures.new.same
     ∙ ap (λ (n : ℕ). n + 1) c.requires.hired.log_others
 
+pub new-requires-clause-at_nodes : goal.new-requires-clause-at_nodes
+new-requires-clause-at_nodes c =
+    ap (λ (v : View NodeSort). v.number) c.split-own_tree.ensures.new.same
+    ∙ ap (λ (n : ℕ). n + 1) c.requires.hired.tree_others
+
 pub new-requires-clause-fresh : goal.new-requires-clause-fresh
 new-requires-clause-fresh c =
     ap (λ (v : View OpSort). v.published) c.split-own_log.ensures.new.same

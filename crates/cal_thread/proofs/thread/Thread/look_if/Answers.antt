@@ -24,6 +24,7 @@ returns-in_ok-take_all-clause-looks c done h state w =
         has = record {
           taken = t.more.taken;
           number = learns.number ∙ w.has.number;
+          at_nodes = c.in_ok-take_all.ensures.later.1 ∙ w.has.at_nodes;
           mine = Held-later common old.tree c.take_all.new.seat
               c.in_ok-take_all.ensures.later.3 old.board state.board w.has.mine;
           readings = w.has.readings;

@@ -18,6 +18,7 @@ returns-clause-thread c common at_tree at_log =
       has = record {
         taken = c.new-process.ensures.taken common c.args.tree at_tree at_log;
         number = ap (λ (s : RowSeat OpSort). (view s).number) log ∙ c.requires.number;
+        at_nodes = c.requires.at_nodes;
         mine = subst (λ (b : Blackboard NodeId). Held common c.args.tree b nothing_open)
             (sym c.new-board.ensures) (nothing-held common c.args.tree);
         readings = λ timed. c.new-readings.ensures;

@@ -17,6 +17,7 @@ returns-clause-operated c h state s =
       taken = taken-later c.args.common.now c.args.self.now.tree c.perform.new.seat
           c.args.self.now.process h done.seat done.later.3 s.taken;
       number = s.number;
+      at_nodes = done.later.1 ∙ s.at_nodes;
       mine = done.changed state.board s.mine;
       readings = λ timed. c.in_ok-follow_if.ensures timed ∙ (λ j. readings_after
           (s.readings timed j) c.args.op.code (c.attr_ref-attr.ensures j) c.args.reading);

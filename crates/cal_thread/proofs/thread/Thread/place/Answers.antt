@@ -81,6 +81,7 @@ returns-clause-meets c done h state w line_is =
           taken = m.taken;
           number = m.learns.number ∙ ap (λ (x : View OpSort). x.number) app.learns.same
               ∙ w.has.number;
+          at_nodes = later.1 ∙ w.has.at_nodes;
           mine = Held-later common old.tree tree later.3 old.board state.board w.has.mine;
           readings = w.has.readings;
           clock = w.has.clock;

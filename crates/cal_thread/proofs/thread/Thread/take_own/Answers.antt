@@ -46,6 +46,7 @@ returns-clause-takes c op h state p =
         has = record {
           taken = subst (λ (x : OpRec). HasTaken common tree new (h ++ x ∷ [])) same o.taken;
           number = ap (λ (x : View OpSort). x.number) o.learns.same ∙ p.has.number;
+          at_nodes = c.in_ok-_own.ensures.later.1 ∙ p.has.at_nodes;
           mine = Held-later common old.tree tree c.in_ok-_own.ensures.later.3 old.board state.board
               p.has.mine;
           readings = p.has.readings;
