@@ -3,18 +3,19 @@ use Rattle.std.proofs.Common.{◌≡◌, ℕ, List, [], ◌∷◌, ◌++◌, dro
 use Rattle.std.proofs.Common.{⊎_elim, inl, inr, sym, ap, ◌∙◌, subst, arith}
 use Rattle.std.specs.Prelude.{None, Option, slice_get}
 use Rattle.std.specs.List.{All}
-use Rattle.std.proofs.lemmas.List.{map-append}
-use Rattle.cal_ending.proofs.WholeLemmas.{all-known, begins-with, none-learns, none-longer}
-use Rattle.cal_ending.proofs.WholeLemmas.{none-noted, others-behind}
+use Rattle.std.proofs.lemmas.List.{length-append}
+use Rattle.cal_ending.proofs.WholeLemmas.{longer-begins, none-learns, none-longer, none-noted}
 use Rattle.cal_ending.specs.Joining.{IsJoined}
-use Rattle.cal_ending.specs.Whole.{IsWhole, KnowsOwn}
+use Rattle.cal_ending.specs.Whole.{IsWhole}
+use Rattle.cal_notes.proofs.Histories.{begins-with, seen-known}
+use Rattle.cal_notes.specs.Together.{Begins}
 use Rattle.cal_once.specs.Seats.{view}
 use Rattle.cal_once.specs.declared.seat.RowSeat.{RowSeat}
 use Rattle.cal_plog.specs.Answers.{Reads}
 use Rattle.cal_plog.specs.History.{HasJoined, HasSeen}
 use Rattle.cal_plog.specs.Seats.{IsLogSeat, plan_of, slots_of}
 use Rattle.cal_process.proofs.TakingLemmas.{seen-later}
-use Rattle.cal_process.specs.Operations.{history_of, placed_as}
+use Rattle.cal_process.specs.Operations.{history_of}
 use Rattle.cal_process.specs.Replicas.{IsCommon}
 use Rattle.cal_process.specs.Takings.{OnlyLearns}
 use Rattle.cal_process.specs.declared.common.Common.{Common}
@@ -48,7 +49,7 @@ module _ (common : Common) where
             let less = none-longer (plan_of common.log) (view mid) (view new) k none (view old) h
             learns.more seen in (
               drop (length h) ops,
-              begins-with (plan_of common.log) (view new) seat.sound h ops
+              longer-begins (plan_of common.log) (view new) seat.sound h ops
                   (seen-later slots (view mid) (view new) h last.more
                   (seen-later slots (view old) (view mid) h learns.more seen)) known
                   (omega (arith, less, long)),
@@ -64,14 +65,14 @@ module _ (common : Common) where
     -- all of it are process lines of the script
     pub is-known : IsCommon common → All (IsKnown common.script.now) history
     is-known is = subst (All (IsKnown common.script.now)) (sym whole.placed)
-        (all-known (plan_of common.log) (view new) seat.sound common.script.now whole.ops is.ops
-        whole.read)
+        (seen-known common.script.now (plan_of common.log) (view new) whole.ops seat.sound
+        whole.read is.ops)
 
     -- and behind what a thread has seen of it none is the thread's
     pub knows-own : OnlyLearns (view old) (view new) → (tree : RowSeat NodeSort) (count done : ℕ)
         (t : Thread) (h : List OpRec) (state : ThreadState) → HasHired common tree old count
         → IsJoined tree old t → IsThread common t done h state
-        → KnowsOwn t.number (history_of h) history
+        → Begins t.number (history_of h) history
     knows-own learns tree count done t h state hired joined is =
         let slots : ℕ = slots_of common.log in
         let seen = seen-later slots (view t.process.log) (view old) h joined.history
@@ -81,12 +82,11 @@ module _ (common : Common) where
         let there : HasJoined (view new) t.number places =
         ap (λ (os : List (Option (List ℕ))). slice_get os t.number) learns.others
         ∙ joined.placed in
-        let read = subst (λ (os : List OpRec). HasSeen slots (view new) os) b.1 whole.read in
         let long = is.has.taken.long in
-        record {
-          more = history_of b.0;
-          whole = whole.placed ∙ ap history_of b.1 ∙ map-append placed_as h b.0;
-          others = others-behind (plan_of common.log) (view new) seat.sound
-              (learns.number ∙ hired.first_log) t.number places there h b.0 read
-              (λ p some. let less = is.below p some in omega (arith, less, long));
-        }
+        let longer = ap (λ (os : List OpRec). length os) b.1 ∙ length-append h b.0 in
+        subst (Begins t.number (history_of h)) (sym whole.placed)
+        (begins-with (plan_of common.log) (view new) t.number places h whole.ops seat.sound
+        (learns.number ∙ hired.first_log) there
+        (seen-later slots (view old) (view new) h learns.more seen) whole.read
+        (omega (arith, longer))
+        (λ p some. let less = is.below p some in omega (arith, less, long)))

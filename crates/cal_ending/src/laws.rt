@@ -1,6 +1,5 @@
-ghost use Rattle.std.specs.Prelude.{◌≡◌, ℕ, List, Some, All, length, slice_get};
+ghost use Rattle.std.specs.Prelude.{ℕ, List, All, length};
 ghost use Rattle.cal_ending.specs.Joining.{AreInOrder, IsJoined};
-ghost use Rattle.cal_ending.specs.Whole.{KnowsOwn, KnowsOwnLines};
 ghost use Rattle.cal_once.specs.Seats.{view};
 ghost use Rattle.cal_once.specs.Views.{AllJoined, IsLater};
 ghost use Rattle.cal_once.specs.declared.seat.RowSeat.{RowSeat};
@@ -8,10 +7,6 @@ ghost use Rattle.cal_plog.specs.History.{HasSeen};
 ghost use Rattle.cal_plog.specs.Seats.{slots_of};
 ghost use Rattle.cal_process.specs.Takings.{OnlyLearns};
 ghost use Rattle.cal_process.specs.declared.common.Common.{Common};
-ghost use Rattle.cal_run.specs.Lawful.{HasOrder, placed_of};
-ghost use Rattle.cal_script.specs.declared.journal.Placed.{Placed};
-ghost use Rattle.cal_script.specs.declared.script.Line.{Line};
-ghost use Rattle.cal_script.specs.declared.script.Script.{Script};
 ghost use Rattle.cal_thread.specs.Hiring.{HasHired};
 ghost use Rattle.cal_thread.specs.declared.thread.Thread.{Thread};
 ghost use Rattle.cal_tree.specs.Paths.{NodeEntry};
@@ -41,15 +36,4 @@ pub fn all_joined_law()
     ensures { (common : Common) (tree : RowSeat NodeSort) (log : RowSeat OpSort) (ts : List Thread)
         → HasHired common tree log (length ts) → AreInOrder ts → All (IsJoined tree log) ts
         → AllJoined (view tree) × AllJoined (view log) }
-{}
-
-/// The law of order: where a thread knows all operations of its own, the whole history has the same
-/// ones of it; so where each thread knows its own, which are those of its lines in line order, the
-/// whole history has the order of a lawful journal.
-pub fn own_order_law()
-    ensures placed { (thread : ℕ) (known history : List Placed) → KnowsOwn thread known history
-        → placed_of thread history ≡ placed_of thread known }
-    ensures order { (script : Script) (history : List Placed)
-        → ((thread : ℕ) (ls : List Line) → slice_get script.threads thread ≡ Some ls
-        → KnowsOwnLines script thread ls history) → HasOrder script history }
 {}

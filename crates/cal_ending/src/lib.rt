@@ -12,5 +12,5 @@ mod laws;
 mod reading;
 
 pub use joining::{join_thread, join_threads};
-pub use laws::{all_joined_law, joined_thread_law, own_order_law};
+pub use laws::{all_joined_law, joined_thread_law};
 pub use reading::read_history;

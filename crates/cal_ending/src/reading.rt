@@ -1,6 +1,7 @@
 ghost use Rattle.std.specs.Prelude.{◌≡◌, ℕ, List, All, IfOk};
 ghost use Rattle.cal_ending.specs.Joining.{IsJoined};
-ghost use Rattle.cal_ending.specs.Whole.{IsWhole, KnowsOwn};
+ghost use Rattle.cal_ending.specs.Whole.{IsWhole};
+ghost use Rattle.cal_notes.specs.Together.{Begins};
 ghost use Rattle.cal_once.specs.Seats.{view};
 ghost use Rattle.cal_once.specs.declared.seat.RowSeat as seats;
 ghost use Rattle.cal_plog.specs.Seats.{IsLogSeat};
@@ -37,7 +38,7 @@ pub fn read_history(
     ensures own { IfOk result (λ history. (tree : seats.RowSeat sorts.NodeSort) (count done : ℕ)
         (t : threads.Thread) (h : List words.OpRec) (state : ThreadState)
         → HasHired common.now tree log.old count → IsJoined tree log.old t
-        → IsThread common.now t done h state → KnowsOwn t.number (history_of h) history) }
+        → IsThread common.now t done h state → Begins t.number (history_of h) history) }
 {
     let mut history = Seq::new(alloc);
     let mut place = 0;
