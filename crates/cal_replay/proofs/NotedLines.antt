@@ -120,6 +120,7 @@ module _ (shared : Shared) (old new : Worker) (l : Line) (note : LineNote) (h : 
   line-runs = record {
     ops = r.ops;
     sees = r.sees;
+    words = r.words;
     kept = record {
       thread = subst (λ (n : ℕ). IsThread shared.common new.thread n (h ++ r.ops)
           (state_of script (h ++ r.ops) new)) (sym count)

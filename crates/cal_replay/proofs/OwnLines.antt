@@ -11,10 +11,12 @@ use Rattle.cal_notes.specs.Running.{Learns, RunsNext}
 use Rattle.cal_once.specs.Layout.{times}
 use Rattle.cal_once.specs.Seats.{view}
 use Rattle.cal_process.specs.Operations.{history_of, placed_as}
+use Rattle.cal_process.specs.Replicas.{AddsWords}
 use Rattle.cal_process.specs.declared.common.Common.{Common}
 use Rattle.cal_process.specs.declared.replica.Replica.{Replica}
-use Rattle.cal_replay.proofs.Takings.{looks-published, taken-others}
-use Rattle.cal_replay.specs.Steps.{Runs, Sees, noted_line, noted_with}
+use Rattle.cal_replay.proofs.Takings.{looks-published, looks-used, taken-others}
+use Rattle.cal_replay.specs.Steps.{Runs, Sees, UsesWords, noted_line, noted_with}
+use Rattle.cal_replay.specs.Steps.{own_words, placed_words}
 use Rattle.cal_replay.specs.Workers.{script_of}
 use Rattle.cal_replay.specs.declared.shared.Shared.{Shared}
 use Rattle.cal_run.specs.Lawful.{IsRead}
@@ -30,7 +32,7 @@ use Rattle.cal_script.specs.declared.script.Line as lines
 use Rattle.cal_script.specs.declared.script.Line.TheVariants as line
 use Rattle.cal_script.specs.declared.script.Script.{Script}
 use Rattle.cal_thread.proofs.ThreadLemmas.{line-done, own-after}
-use Rattle.cal_thread.specs.Lines.{Looks, MeetsOwn}
+use Rattle.cal_thread.specs.Lines.{Looks, MeetsOwn, words_of_line}
 use Rattle.cal_thread.specs.Threads.{IsThread}
 use Rattle.cal_thread.specs.declared.looking.Met.{Met}
 use Rattle.cal_thread.specs.declared.thread.Thread.{Thread}
@@ -123,7 +125,8 @@ module _ (shared : Shared) (old mid new : Thread) (l : lines.Line) (met : Met)
     → IsThread shared.common mid done (h ++ m.ops) state
     → IsThread shared.common new done (h ++ m.ops)
     (if met.accepted then changed (script_of shared) (history_of (h ++ m.ops)) l note state
-    else state)) where
+    else state))
+    (adds : AddsWords shared.common mid.tree new.tree (words_of_line (script_of shared) l)) where
   abbrev script : Script
   script = script_of shared
 
@@ -167,6 +170,21 @@ module _ (shared : Shared) (old mid new : Thread) (l : lines.Line) (met : Met)
       (m.accepted ∙ ap is_accepted (sym (found note)))
       ∙ sym (own-after script hist l note state own)
 
+  words : UsesWords shared old new l m.ops
+  words =
+      let none : placed_words script l ≡ 0 = ap (λ (p : Bool). if p then 7 else 0) own in
+      let used = looks-used shared.common old.process mid.process m.ops
+      (looks script (history_of (h ++ m.ops)) l note state) (m.sees note) in
+      let same : (view new.process.log).used ≡ (view mid.process.log).used =
+      ap (λ (p : Replica). (view p.log).used) process in
+      let makes_own : own_words script l ≡ words_of_line script l =
+      ap (λ (p : Bool). if p then 0 else words_of_line script l) own in
+      let taken = m.words in
+      record {
+        placed = omega (arith, none, used, same);
+        made = omega (arith, makes_own, taken, adds);
+      }
+
   pub own-runs : Runs shared old new l note done h state
   own-runs = record {
     ops = m.ops;
@@ -184,6 +202,7 @@ module _ (shared : Shared) (old mid new : Thread) (l : lines.Line) (met : Met)
     };
     sees = subst (λ (p : Bool). Sees shared old new done m.ops p
         (looks script hist l note state)) (sym own) sees;
+    words = words;
     kept = line-done shared.common new done (h ++ m.ops) (state_after script hist l note state)
         (subst (λ (s : ThreadState). IsThread shared.common new done (h ++ m.ops) s) after
         (makes note refl m.kept));

@@ -1,10 +1,11 @@
 -- What a line does to a worker, by what its thread has seen of the history meanwhile.
 use Rattle.std.specs.Prelude.{◌≡◌, ℕ, ◌+◌, Bool, true, false, List, [], ◌∷◌, ◌++◌, length}
-use Rattle.std.specs.Prelude.{Option, Some}
+use Rattle.std.specs.Prelude.{Option, Some, if◌then◌else◌}
 use Rattle.cal_notes.specs.Running.{RunsNext, with_line}
 use Rattle.cal_once.specs.Seats.{view}
 use Rattle.cal_process.specs.Operations.{history_of, placed_as}
-use Rattle.cal_process.specs.Takings.{KeepsLooks}
+use Rattle.cal_process.specs.Takings.{KeepsLooks, words_of_ops}
+use Rattle.cal_process.specs.Replicas.{AddsWords}
 use Rattle.cal_replay.specs.Readings.{Asked, AskedFor, off_clock, readings_of}
 use Rattle.cal_replay.specs.Workers.{IsWorker, lines_done, lines_of, script_of, state_of}
 use Rattle.cal_replay.specs.declared.answer.Answer.{Answer}
@@ -17,7 +18,7 @@ use Rattle.cal_script.specs.declared.journal.LineNote.{LineNote}
 use Rattle.cal_script.specs.declared.journal.Placed.{Placed}
 use Rattle.cal_script.specs.declared.script.Line.{Line}
 use Rattle.cal_script.specs.declared.script.Script.{Script}
-use Rattle.cal_thread.specs.Lines.{Looks}
+use Rattle.cal_thread.specs.Lines.{Looks, words_of_line}
 use Rattle.cal_thread.specs.Threads.{IsThread}
 use Rattle.cal_thread.specs.declared.thread.Thread.{Thread}
 use Rattle.cal_words.specs.declared.op.OpRec.{OpRec}
@@ -41,6 +42,14 @@ noted_line t done seen l note state = record {
   state = state;
 }
 
+-- the words that a line takes in the history
+abbrev pub placed_words : Script → Line → ℕ
+placed_words script l = if is_process_line script l then 7 else 0
+
+-- the words of the node that a line which is its thread's own may make
+abbrev pub own_words : Script → Line → ℕ
+own_words script l = if is_process_line script l then 0 else words_of_line script l
+
 -- ---- what a line sees
 
 -- A process line was placed behind all that its thread has seen by then, and sees its own place.
@@ -62,6 +71,14 @@ module _ (shared : Shared) where
 
   -- ---- what a line does
 
+  -- The words that a line uses: in the history those of its own operation, and in the tree at most
+  -- those of the nodes that it makes and that the operations make which it takes in.
+  pub record UsesWords (old new : Thread) (l : Line) (ops : List OpRec) : Type 0 where
+    pub placed : (view new.process.log).used
+        ≡ (view old.process.log).used + placed_words (script_of shared) l
+    pub made : AddsWords shared.common old.tree new.tree
+        (words_of_ops (script_of shared) ops + own_words (script_of shared) l)
+
   -- A thread ran a line with this note, and has seen these operations more: the line keeps the rules
   -- of journals by them, and the thread is as the line leaves it.
   pub record Runs (old new : Thread) (l : Line) (note : LineNote) (done : ℕ) (h : List OpRec)
@@ -71,6 +88,7 @@ module _ (shared : Shared) where
         (history_of ops) (noted_line old done seen l note state)
     pub sees : Sees old new done ops (is_process_line (script_of shared) l)
         (looks (script_of shared) (history_of h ++ history_of ops) l note state)
+    pub words : UsesWords old new l ops
     pub kept : IsThread shared.common new (done + 1) (h ++ ops)
         (state_after (script_of shared) (history_of h ++ history_of ops) l note state)
 
@@ -82,6 +100,7 @@ module _ (shared : Shared) where
         (is_process_line (script_of shared) l)
         (looks (script_of shared) (history_of h ++ history_of ops) l note
         (state_of (script_of shared) h old))
+    pub words : UsesWords old.thread new.thread l ops
     pub kept : IsWorker shared new (h ++ ops)
 
   -- A worker ran its next line, and noted it. A clock was asked for the line's reading, where it has

@@ -1,7 +1,7 @@
 //! A line that is its thread's own.
 ghost use Rattle.std.specs.Prelude.{◌≡◌, ℕ, false, if◌then◌else◌, List, IfOk, OnOk};
 ghost use Rattle.cal_process.specs.Operations.{history_of};
-ghost use Rattle.cal_process.specs.Replicas.{IsCommon};
+ghost use Rattle.cal_process.specs.Replicas.{AddsWords, IsCommon};
 ghost use Rattle.cal_replay.specs.Readings.{Asked, off_clock};
 ghost use Rattle.cal_replay.specs.Steps.{Runs, noted_with};
 ghost use Rattle.cal_replay.specs.Workers.{IsShared, script_of};
@@ -9,6 +9,7 @@ ghost use Rattle.cal_run.specs.Lines.{is_process_line};
 ghost use Rattle.cal_run.specs.Steps.{ThreadState, changed, reading_of};
 ghost use Rattle.cal_script.specs.Valid.{IsPlaced};
 ghost use Rattle.cal_script.specs.declared.journal.LineNote as notes;
+ghost use Rattle.cal_thread.specs.Lines.{words_of_line};
 ghost use Rattle.cal_thread.specs.Threads.{IsSomeThread, IsThread};
 ghost use Rattle.cal_words.specs.declared.op.OpRec as words;
 
@@ -81,6 +82,8 @@ fn change_if(
         → IsThread common.now thread.new done h (if accepted
         then changed common.now.script.now (history_of h) line note state else state)) }
     ensures process { OnOk result (thread.new.process ≡ thread.old.process) }
+    ensures words { OnOk result (AddsWords common.now thread.old.tree thread.new.tree
+        (words_of_line common.now.script.now line)) }
     ensures number { OnOk result (thread.new.number ≡ thread.old.number) }
     ensures timed { OnOk result (thread.new.timed ≡ thread.old.timed) }
 {

@@ -29,4 +29,4 @@ returns-clause-runs g c done h state w =
     (c.read_line-reading.ensures.read (history_of h ++ history_of m.ops))
     c.in_ok-change_if.ensures.process
     (λ note is k. c.in_ok-change_if.ensures.changed done (h ++ m.ops) state note
-    (is ∙ sym c.unwrap_or.ensures) k))
+    (is ∙ sym c.unwrap_or.ensures) k) c.in_ok-change_if.ensures.words)
