@@ -1,13 +1,13 @@
 -- A line that is its thread's own.
-use Rattle.std.proofs.Common.{◌≡◌, ℕ, ◌+◌, ◌<◌, ◌≤◌, List, [], ◌++◌, length, map, Bool, true, false}
+use Rattle.std.proofs.Common.{◌≡◌, ℕ, ◌+◌, ◌<◌, ◌≤◌, List, ◌++◌, length, Bool, true, false}
 use Rattle.std.proofs.Common.{if◌then◌else◌, refl, sym, ap, ◌∙◌, subst, arith, inl, inr, ◌⊎◌}
 use Rattle.std.specs.Prelude.{Option, Some, unwrap_or, ◌&&◌}
 use Rattle.std.specs.List.{list_any}
 use Rattle.std.proofs.lemmas.Bool.{cases_lt}
-use Rattle.std.proofs.lemmas.List.{length-append, length-map, map-append}
+use Rattle.std.proofs.lemmas.List.{length-map, map-append}
 use Rattle.cal_board.specs.Blackboard.{Blackboard}
 use Rattle.cal_notes.specs.Notes.{IsNotedReply, OfOthers, known_journal}
-use Rattle.cal_notes.specs.Running.{Learns, RunsNext}
+use Rattle.cal_notes.specs.Running.{Learns}
 use Rattle.cal_once.specs.Layout.{times}
 use Rattle.cal_once.specs.Seats.{view}
 use Rattle.cal_process.specs.Operations.{history_of, placed_as}

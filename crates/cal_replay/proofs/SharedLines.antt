@@ -19,7 +19,7 @@ use Rattle.cal_replay.specs.Workers.{script_of}
 use Rattle.cal_replay.specs.declared.shared.Shared.{Shared}
 use Rattle.cal_run.specs.Lawful.{IsRead}
 use Rattle.cal_run.specs.Lines.{is_process_line}
-use Rattle.cal_run.specs.Steps.{ThreadState, found_reply, looks, state_after}
+use Rattle.cal_run.specs.Steps.{ThreadState, found_reply, looks}
 use Rattle.cal_script.specs.declared.journal.LineNote.{LineNote}
 use Rattle.cal_script.specs.declared.journal.Placed.{Placed}
 use Rattle.cal_script.specs.declared.journal.Reply as replies

@@ -15,7 +15,6 @@ use Rattle.cal_run.specs.Lawful.{NotedLine}
 use Rattle.cal_run.specs.Lines.{is_process_line, line_at}
 use Rattle.cal_run.specs.Steps.{ThreadState, looks, state_after}
 use Rattle.cal_script.specs.declared.journal.LineNote.{LineNote}
-use Rattle.cal_script.specs.declared.journal.Placed.{Placed}
 use Rattle.cal_script.specs.declared.script.Line.{Line}
 use Rattle.cal_script.specs.declared.script.Script.{Script}
 use Rattle.cal_thread.specs.Lines.{Looks, words_of_line}

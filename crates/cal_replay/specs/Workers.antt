@@ -8,7 +8,6 @@ use Rattle.cal_replay.specs.declared.shared.Shared.{Shared}
 use Rattle.cal_replay.specs.declared.worker.Worker.{Worker}
 use Rattle.cal_run.specs.Steps.{ThreadState, at_start}
 use Rattle.cal_run.specs.Timers.{AreTimers}
-use Rattle.cal_script.specs.declared.journal.ThreadNote.{ThreadNote}
 use Rattle.cal_script.specs.declared.script.Line.{Line}
 use Rattle.cal_script.specs.declared.script.Script.{Script}
 use Rattle.cal_thread.specs.Threads.{IsThread}

@@ -1,4 +1,4 @@
-use Rattle.std.proofs.Common.{◌++◌, ◌∙◌, ◌<◌, List, [], length, ℕ, refl, sym, ap, subst, append-nil}
+use Rattle.std.proofs.Common.{◌∙◌, List, [], length, ℕ, refl, sym, ap, subst, append-nil}
 use Rattle.std.proofs.Common.{arith}
 use Rattle.std.proofs.lemmas.Bool.{ltb-false, ltb-true}
 use Rattle.std.proofs.lemmas.List.{take_all}
