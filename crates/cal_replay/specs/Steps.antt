@@ -78,8 +78,8 @@ module _ (shared : Shared) where
     pub made : AddsWords shared.common old.tree new.tree
         (words_of_ops (script_of shared) ops + own_words (script_of shared) l)
 
-  -- A thread ran a line with this note, and has seen these operations more: the line keeps the rules
-  -- of journals by them, and the thread is as the line leaves it.
+  -- A thread ran a line with this note, and has seen these operations more: the line keeps the
+  -- rules of journals by them, and the thread is as the line leaves it.
   pub record Runs (old new : Thread) (l : Line) (note : LineNote) (done : ℕ) (h : List OpRec)
       (state : ThreadState) : Type 0 where
     pub ops : List OpRec
@@ -102,8 +102,8 @@ module _ (shared : Shared) where
     pub words : UsesWords old.thread new.thread l ops
     pub kept : IsWorker shared new (h ++ ops)
 
-  -- A worker ran its next line, and noted it. A clock was asked for the line's reading, where it has
-  -- one and the run goes by real clocks.
+  -- A worker ran its next line, and noted it. A clock was asked for the line's reading, where it
+  -- has one and the run goes by real clocks.
   pub record StepsOver {K : Type 0} (given : K → Option (List ℕ)) (was is : K) (old new : Worker)
       : Type 0 where
     pub line : Line

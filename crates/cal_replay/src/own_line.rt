@@ -23,8 +23,8 @@ use cal_thread::Thread;
 use cal_value::OutOfMemory;
 use std::alloc::Global;
 
-/// Runs a line that is the thread's own: it is answered, looks where a channel takes a snapshot, and
-/// is done where it is accepted.
+/// Runs a line that is the thread's own: it is answered, looks where a channel takes a snapshot,
+/// and changes the thread where it is accepted.
 pub(crate) fn run_own<K: Clock>(
     alloc: Global,
     shared: &Shared<'_>,
