@@ -3,3 +3,4 @@ pub mod Holding
 pub mod Lasts
 pub mod Singles
 pub mod Standing
+pub mod Places

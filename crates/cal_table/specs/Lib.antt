@@ -4,3 +4,4 @@ pub mod TableLaws
 pub mod Held
 pub mod Shapes
 pub mod Snapshots
+pub mod Numbering

@@ -8,6 +8,7 @@ use Rattle.cal_agg.specs.Rows.{cell_over}
 use Rattle.cal_agg.specs.declared.num.Num.{Num}
 use Rattle.cal_agg.specs.declared.row.AggRow.{AggRow}
 use Rattle.cal_filter.specs.Numbers.{number_in}
+use Rattle.cal_value.specs.declared.variant.Variant.{Variant}
 use Rattle.cal_snap.specs.declared.numbered.NumberedEntry.{NumberedEntry}
 use Rattle.cal_snap.specs.declared.numbered.NumberedSnap.{NumberedSnap}
 use Rattle.cal_table.specs.Rows.{Row}
@@ -20,8 +21,11 @@ abbrev pub is_flagged : List Bool → NumberedEntry → Bool
 is_flagged flags entry = slice_index_or flags entry.attribute false
 
 -- a number of 64 bits, if it is a number at all
+abbrev pub IsWithin64 : Variant → Type 0
+IsWithin64 value = ForSome (number_in value) IsOf64
+
 abbrev pub HasNumberOf64 : NumberedEntry → Type 0
-HasNumberOf64 entry = ForSome (number_in entry.value) IsOf64
+HasNumberOf64 entry = IsWithin64 entry.value
 
 -- the last number among the entries of a value attribute
 abbrev pub last_number : List Bool → List NumberedEntry → Option Num

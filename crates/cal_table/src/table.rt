@@ -1,6 +1,7 @@
 ghost use Rattle.std.specs.Prelude.{◌≡◌, ◌+◌, ◌<◌, ◌≤◌, ◌^◌, [], ◌∷◌, length};
 ghost use Rattle.std.specs.Prelude.{All, IfOk, IfErr, OnOk, OnErr};
 ghost use Rattle.cal_context.specs.Lists.{AreApart};
+ghost use Rattle.cal_table.specs.Numbering.{Added, MayAdd};
 ghost use Rattle.cal_table.specs.Rows.{rows_of};
 ghost use Rattle.cal_table.specs.Snapshots.{HasNumberOf64, table_of};
 ghost use Rattle.cal_table.specs.Tables.{Same, empty_table, merged_tables};
@@ -9,9 +10,9 @@ use crate::draft::Draft;
 use crate::hints::Hints;
 use crate::keys::as_slice;
 use crate::putting::{add, pour};
-use crate::{TableKey, TableShape};
+use crate::{AttributeNumbers, TableKey, TableShape};
 use cal_agg::AggRow;
-use cal_snap::NumberedSnap;
+use cal_snap::{NumberedSnap, Snap};
 use cal_value::{OutOfMemory, TryCopy};
 use indexmap::IndexSet;
 use std::alloc::Global;
@@ -75,7 +76,6 @@ impl Table {
     pub fn snapshots(&self) -> u64
         ensures { result ≡ self.now.snapshots }
     {
-        let _ = &self.rows;
         self.snapshots
     }
 
@@ -108,6 +108,20 @@ impl Table {
         let number = add(alloc, &mut self.keys, &mut self.rows, near, key, row)?;
         self.hints.keep(key, number);
         self.snapshots += 1;
+        Ok(())
+    }
+
+    /// Adds a snapshot whose entries own their attributes, by the numbers of these. An `Err` leaves
+    /// the table. It takes one look-up more for each entry, and memory for the snapshot by numbers.
+    pub fn add(&mut self, snap: &Snap, attrs: &AttributeNumbers) -> Result<(), OutOfMemory>
+        requires few { self.old.snapshots < 2 ^ 26 }
+        requires may { MayAdd attrs.now snap.now }
+        ensures added { OnOk result (Added attrs.now snap.now self.old self.new) }
+        ensures err { OnErr result (self.new ≡ self.old) }
+    {
+        let alloc = *self.rows.allocator();
+        let numbered = attrs.numbered(alloc, snap)?;
+        self.add_numbered(&numbered)?;
         Ok(())
     }
 
