@@ -1,7 +1,7 @@
 -- A line that is its thread's own.
 use Rattle.std.proofs.Common.{◌≡◌, ℕ, ◌+◌, ◌<◌, ◌≤◌, List, ◌++◌, length, Bool, true, false}
 use Rattle.std.proofs.Common.{if◌then◌else◌, refl, sym, ap, ◌∙◌, subst, arith, inl, inr, ◌⊎◌}
-use Rattle.std.specs.Prelude.{Option, Some, unwrap_or, ◌&&◌}
+use Rattle.std.specs.Prelude.{Option, Some, None, unwrap_or, ◌&&◌}
 use Rattle.std.specs.List.{list_any}
 use Rattle.std.proofs.lemmas.Bool.{cases_lt}
 use Rattle.std.proofs.lemmas.List.{length-map, map-append}
@@ -15,7 +15,7 @@ use Rattle.cal_process.specs.Replicas.{AddsWords}
 use Rattle.cal_process.specs.declared.common.Common.{Common}
 use Rattle.cal_process.specs.declared.replica.Replica.{Replica}
 use Rattle.cal_replay.proofs.Takings.{looks-published, looks-used, taken-others}
-use Rattle.cal_replay.specs.Steps.{Runs, Sees, UsesWords, noted_line, noted_with}
+use Rattle.cal_replay.specs.Steps.{IsGiven, Runs, Sees, UsesWords, noted_line, noted_with}
 use Rattle.cal_replay.specs.Steps.{own_words, placed_words}
 use Rattle.cal_replay.specs.Workers.{script_of}
 use Rattle.cal_replay.specs.declared.shared.Shared.{Shared}
@@ -56,43 +56,36 @@ read-by script real g h due due' shown shown' reading e s r = record {
   value = λ not_real is. r.value not_real (e ∙ is) ∙ ap (λ (n : ℕ). Some n) s;
 }
 
--- the reply that a board gives is noted, and that to a flush is merged
-module _ (script : Script) (b : Blackboard Variant) (t : Thread) (done seen sees : ℕ)
-    (reading : Option ℕ) (state : ThreadState) where
-  abbrev replied : lines.Line → Option replies.Reply → LineNote
-  replied l found = record { reply = unwrap_or found reply.Merged; seen = sees; reading = reading }
+-- where no reply is found, merged may be given
+pub merged-given : (thread : ℕ) (found : Option replies.Reply)
+    → IsGiven thread found (unwrap_or found reply.Merged)
+merged-given thread None = tt
+merged-given thread (Some found) = refl
 
-  pub reply-noted : (l : lines.Line) → IsNotedReply (noted_line t done seen l
-      (replied l (reply_to_line script b l)) state) (reply_to_line script b l)
-  reply-noted (line.Begin a v) = refl
-  reply-noted (line.End a) = refl
-  reply-noted (line.Set a v) = refl
-  reply-noted line.Snapshot = refl
-  reply-noted (line.Flush c) = tt
-  reply-noted (line.Tick n) = refl
-
-pub found-noted : (script : Script) (history : List Placed) (t : Thread) (done seen : ℕ)
+-- the reply that was given is noted
+pub given-noted : (script : Script) (history : List Placed) (t : Thread) (done seen : ℕ)
     (l : lines.Line) (sees : ℕ) (reading : Option ℕ) (state : ThreadState)
-    (found : Option replies.Reply)
+    (found : Option replies.Reply) (given : replies.Reply)
     → ((note : LineNote) → note.seen ≡ sees → found_reply script history l note state ≡ found)
+    → IsGiven t.number found given
     → (note : LineNote)
-    → note ≡ record { reply = unwrap_or found reply.Merged; seen = sees; reading = reading }
+    → note ≡ record { reply = given; seen = sees; reading = reading }
     → IsNotedReply (noted_line t done seen l note state)
     (found_reply script history l note state)
-found-noted script history t done seen l sees reading state found is note e =
-    let made : LineNote =
-    record { reply = unwrap_or found reply.Merged; seen = sees; reading = reading } in
-    let same : found_reply script history l made state ≡ found = is made refl in
-    let by : IsNotedReply (noted_line t done seen l made state)
+given-noted script history t done seen l sees reading state found given is gives note e =
+    let made : LineNote = record { reply = given; seen = sees; reading = reading } in
+    let noted : IsNotedReply (noted_line t done seen l made state)
     (found_reply script history l made state) =
-    subst (λ (r : replies.Reply). IsNotedReply (noted_line t done seen l
-    (record { reply = r; seen = sees; reading = reading }) state)
-    (found_reply script history l made state))
-    (ap (λ (o : Option replies.Reply). unwrap_or o reply.Merged) same)
-    (reply-noted script (acted_on script history l made state) t done seen sees reading
-    state l) in
+    subst (IsNotedReply (noted_line t done seen l made state)) (sym (is made refl))
+    (by found gives) in
     subst (λ (n : LineNote). IsNotedReply (noted_line t done seen l n state)
-    (found_reply script history l n state)) (sym e) by
+    (found_reply script history l n state)) (sym e) noted
+  where
+    by : (f : Option replies.Reply) → IsGiven t.number f given
+        → IsNotedReply (noted_line t done seen l
+        (record { reply = given; seen = sees; reading = reading }) state) f
+    by None flushed = flushed
+    by (Some r) same = same
 
 -- ---- the line
 
@@ -112,11 +105,12 @@ own-learns true thread number ops common old new others l = others
 own-learns false thread number ops common old new others l = ap history_of l.0
 
 module _ (shared : Shared) (old mid new : Thread) (l : lines.Line) (met : Met)
-    (reading : Option ℕ) (done : ℕ) (h : List OpRec) (state : ThreadState)
+    (given : replies.Reply) (reading : Option ℕ) (done : ℕ) (h : List OpRec) (state : ThreadState)
     (own : is_process_line (script_of shared) l ≡ false)
     (w : IsThread shared.common old done h state)
     (m : MeetsOwn shared.common old mid l met done h state)
     (number : mid.number ≡ old.number)
+    (gives : IsGiven old.number met.reply given)
     (read : IsRead (script_of shared)
     (known_journal shared.real (history_of h ++ history_of m.ops))
     (is_due (script_of shared) l met.reply) mid.clock reading)
@@ -134,10 +128,7 @@ module _ (shared : Shared) (old mid new : Thread) (l : lines.Line) (met : Met)
   hist = history_of h ++ history_of m.ops
 
   abbrev note : LineNote
-  note = noted_with (record {
-    reply = unwrap_or met.reply reply.Merged;
-    reading = reading;
-  }) new
+  note = noted_with (record { reply = given; reading = reading }) new
 
   hist-is : history_of (h ++ m.ops) ≡ hist
   hist-is = map-append placed_as h m.ops
@@ -197,8 +188,8 @@ module _ (shared : Shared) (old mid new : Thread) (l : lines.Line) (met : Met)
       read = read-by script shared.real hist hist (is_due script l met.reply)
           (is_due script l (found_reply script hist l note state)) mid.clock state.clock reading
           (ap (is_due script l) (sym (found note))) m.kept.has.clock read;
-      answered = found-noted script hist old done seen l new.process.seen reading state met.reply
-          (λ n is. found n) note refl;
+      answered = given-noted script hist old done seen l new.process.seen reading state met.reply
+          given (λ n is. found n) gives note refl;
     };
     sees = subst (λ (p : Bool). Sees shared old new done m.ops p
         (looks script hist l note state)) (sym own) sees;

@@ -11,7 +11,7 @@ use Rattle.cal_once.proofs.Seen.{times-append}
 use Rattle.cal_once.specs.Layout.{times}
 use Rattle.cal_once.specs.Seats.{view}
 use Rattle.cal_process.specs.Operations.{history_of, operation_in, placed_as, words_made}
-use Rattle.cal_replay.proofs.OwnLines.{found-noted, is_due, read-by}
+use Rattle.cal_replay.proofs.OwnLines.{given-noted, is_due, merged-given, read-by}
 use Rattle.cal_replay.proofs.Takings.{taken-others}
 use Rattle.cal_replay.specs.Steps.{Runs, Sees, SeesPlace, UsesWords, noted_with}
 use Rattle.cal_replay.specs.Steps.{own_words, placed_words}
@@ -150,8 +150,8 @@ module _ (shared : Shared) (old mid new : Thread) (l : Line) (op : OpRec)
       read = read-by script shared.real (history_of h) hist (is_due script l answer)
           (is_due script l (found_reply script hist l note state)) mid.clock state.clock reading
           (ap (is_due script l) (sym (found note refl))) m.placed.has.clock read;
-      answered = found-noted script hist old done seen l new.process.seen reading state answer
-          found note refl;
+      answered = given-noted script hist old done seen l new.process.seen reading state answer
+          (unwrap_or answer reply.Merged) found (merged-given old.number answer) note refl;
     };
     sees = subst (λ (p : Bool). Sees shared old new done ops p (looks script hist l note state))
         (sym process) sees;

@@ -1,6 +1,7 @@
 -- What a line does to a worker, by what its thread has seen of the history meanwhile.
 use Rattle.std.specs.Prelude.{◌≡◌, ℕ, ◌+◌, Bool, true, false, List, [], ◌∷◌, ◌++◌, length}
-use Rattle.std.specs.Prelude.{Option, Some, if◌then◌else◌}
+use Rattle.std.specs.Prelude.{Option, Some, None, if◌then◌else◌}
+use Rattle.cal_notes.specs.Notes.{IsFlushNote}
 use Rattle.cal_notes.specs.Running.{RunsNext, with_line}
 use Rattle.cal_once.specs.Seats.{view}
 use Rattle.cal_process.specs.Operations.{history_of, placed_as}
@@ -15,6 +16,7 @@ use Rattle.cal_run.specs.Lawful.{NotedLine}
 use Rattle.cal_run.specs.Lines.{is_process_line, line_at}
 use Rattle.cal_run.specs.Steps.{ThreadState, looks, state_after}
 use Rattle.cal_script.specs.declared.journal.LineNote.{LineNote}
+use Rattle.cal_script.specs.declared.journal.Reply as replies
 use Rattle.cal_script.specs.declared.script.Line.{Line}
 use Rattle.cal_script.specs.declared.script.Script.{Script}
 use Rattle.cal_thread.specs.Lines.{Looks, words_of_line}
@@ -40,6 +42,11 @@ noted_line t done seen l note state = record {
   before = seen;
   state = state;
 }
+
+-- A reply is the one that is found; or, where none is, one that a thread gets to a flush.
+abbrev pub IsGiven : (thread : ℕ) → Option replies.Reply → replies.Reply → Type 0
+IsGiven thread None given = IsFlushNote thread given
+IsGiven thread (Some found) given = given ≡ found
 
 -- the words that a line takes in the history
 abbrev pub placed_words : Script → Line → ℕ

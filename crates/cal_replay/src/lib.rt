@@ -8,6 +8,7 @@
 #![tactic(auto)]
 
 mod answer;
+mod flusher;
 mod own_line;
 mod reading;
 mod running;
@@ -16,5 +17,6 @@ mod shared_line;
 mod step;
 mod worker;
 
+pub use flusher::Flusher;
 pub use shared::Shared;
 pub use worker::Worker;

@@ -13,28 +13,30 @@ ghost use Rattle.cal_thread.specs.Lines.{words_of_line};
 ghost use Rattle.cal_thread.specs.Threads.{IsSomeThread, IsThread};
 ghost use Rattle.cal_words.specs.declared.op.OpRec as words;
 
-use crate::Shared;
-use crate::answer::Answer;
+use crate::answer::{Answer, reply_or_flush};
 use crate::reading::read_line;
+use crate::{Flusher, Shared};
 use cal_base::Clock;
 use cal_process::Common;
-use cal_script::{Line, Reply};
+use cal_script::Line;
 use cal_thread::Thread;
 use cal_value::OutOfMemory;
 use std::alloc::Global;
 
 /// Runs a line that is the thread's own: it is answered, looks where a channel takes a snapshot,
-/// and changes the thread where it is accepted.
-pub(crate) fn run_own<K: Clock>(
+/// flushes if it is a flush, and changes the thread where it is accepted.
+pub(crate) fn run_own<K: Clock, F: Flusher>(
     alloc: Global,
     shared: &Shared<'_>,
     thread: &mut Thread,
     line: Line,
     clock: &mut K,
+    flusher: &mut F,
 ) -> Result<Answer, OutOfMemory>
     requires shared { IsShared shared.now }
     requires thread { IsSomeThread shared.now.common thread.old }
     requires own { is_process_line (script_of shared.now) line ≡ false }
+    requires flusher { F.thread flusher.old ≡ thread.old.number }
     requires placed { IsPlaced (script_of shared.now).attributes (script_of shared.now).channels
         (script_of shared.now).values line }
     ensures runs { IfOk result (λ answer. (done : ℕ) (h : List words.OpRec) (state : ThreadState)
@@ -44,10 +46,12 @@ pub(crate) fn run_own<K: Clock>(
         Asked K.given clock.old clock.new (off_clock shared.now.real answer.reading)) }
     ensures number { OnOk result (thread.new.number ≡ thread.old.number) }
     ensures timed { OnOk result (thread.new.timed ≡ thread.old.timed) }
+    ensures flusher { OnOk result (F.thread flusher.new ≡ F.thread flusher.old) }
 {
     let met = thread.look(alloc, &shared.common, line)?;
     let shown = thread.clock;
     let reading = read_line(shared, line, met.reply, shown, clock);
+    let reply = reply_or_flush(line, met.reply, flusher)?;
     change_if(
         alloc,
         &shared.common,
@@ -56,10 +60,7 @@ pub(crate) fn run_own<K: Clock>(
         met.accepted,
         reading.unwrap_or(0),
     )?;
-    Ok(Answer {
-        reply: met.reply.unwrap_or(Reply::Merged),
-        reading,
-    })
+    Ok(Answer { reply, reading })
 }
 
 /// Makes the change of a line that has this reading, if it is accepted.

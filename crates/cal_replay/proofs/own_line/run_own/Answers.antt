@@ -1,8 +1,7 @@
-use Rattle.std.proofs.Common.{◌++◌, ◌∙◌, sym, subst}
+use Rattle.std.proofs.Common.{ℕ, ◌++◌, ◌∙◌, sym, subst}
 use Rattle.cal_process.specs.Operations.{history_of}
 use Rattle.cal_replay.proofs.OwnLines.{own-runs}
-use Rattle.cal_replay.specs.Steps.{Runs, noted_with}
-use Rattle.cal_script.specs.declared.journal.Reply.{Reply}
+use Rattle.cal_replay.specs.Steps.{IsGiven}
 use Rattle.cal_replay.proofs.own_line.run_own.Goals as goal
 
 pub change_if-requires-clause-thread : goal.change_if-requires-clause-thread
@@ -21,12 +20,11 @@ returns-clause-runs g c done h state w =
     let met = c.in_ok-met.met in
     let reading = c.read_line-reading.result in
     let m = c.in_ok-met.ensures.meets done h state w in
-    subst (λ (r : Reply). Runs shared old new line
-    (noted_with (record { reply = r; reading = reading }) new) done h state)
-    (sym c.unwrap_or-2.ensures)
-    (own-runs shared old mid new line met reading done h state c.requires.own w m
+    let given = c.in_ok-reply.reply in
+    own-runs shared old mid new line met given reading done h state c.requires.own w m
     c.in_ok-met.ensures.number
+    (subst (λ (n : ℕ). IsGiven n met.reply given) c.requires.flusher c.in_ok-reply.ensures.reply)
     (c.read_line-reading.ensures.read (history_of h ++ history_of m.ops))
     c.in_ok-change_if.ensures.process
     (λ note is k. c.in_ok-change_if.ensures.changed done (h ++ m.ops) state note
-    (is ∙ sym c.unwrap_or.ensures) k) c.in_ok-change_if.ensures.words)
+    (is ∙ sym c.unwrap_or.ensures) k) c.in_ok-change_if.ensures.words

@@ -16,6 +16,7 @@ loop-alloc-init g c = record {
         (sym (append-nil h)) w,
   );
   number = refl;
+  flusher = refl;
   read = (
     [],
     sym (append-nil c.args.self.now.note.lines),
@@ -29,6 +30,10 @@ step-requires-clause-worker g c = c.loop-alloc.invariant.some
 pub step-requires-clause-remains : goal.step-requires-clause-remains
 step-requires-clause-remains g c =
     ltb-true _ _ (sym c.has_more.ensures ∙ c.loop-alloc-test.true)
+
+pub step-requires-clause-flusher : goal.step-requires-clause-flusher
+step-requires-clause-flusher g c =
+    c.loop-alloc.invariant.flusher ∙ c.requires.flusher ∙ sym c.loop-alloc.invariant.number
 
 pub loop-alloc-smaller : goal.loop-alloc-smaller
 loop-alloc-smaller g c =
@@ -51,6 +56,7 @@ loop-alloc-preserved g c =
       some = (_, (s.runs i.some.0 i.some.1).kept);
       more = λ h w. more h (i.more h w);
       number = s.number ∙ i.number;
+      flusher = c.in_ok-_more.ensures.flusher ∙ i.flusher;
       read = readings-then _ c.args.shared.now c.args.self.now c.loop-alloc.self c.step.new.self
           c.args.clock.now c.loop-alloc.clock c.step.new.clock s i.read;
     }
@@ -72,3 +78,6 @@ returns-clause-number g c = c.loop-alloc.invariant.number
 
 pub returns-clause-read : goal.returns-clause-read
 returns-clause-read g c = c.loop-alloc.invariant.read
+
+pub returns-clause-flusher : goal.returns-clause-flusher
+returns-clause-flusher g c = c.loop-alloc.invariant.flusher

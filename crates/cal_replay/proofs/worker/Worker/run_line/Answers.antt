@@ -1,4 +1,4 @@
-use Rattle.std.proofs.Common.{◌≡◌, ◌∙◌, ℕ, length, sym, subst}
+use Rattle.std.proofs.Common.{◌≡◌, ◌∙◌, ℕ, length, refl, sym, subst}
 use Rattle.std.specs.Prelude.{Some}
 use Rattle.cal_process.proofs.ScriptLemmas.{some-shared}
 use Rattle.cal_replay.proofs.NotedLines.{steps-over}
@@ -30,6 +30,7 @@ returns-in_ok-note-in-Some g c = record {
       answer.ensures.asked
       (λ h state w. answer.ensures.runs (length old.note.lines) h state w
       (p.2 ∙ c.requires.number));
+  flusher = refl;
 }
 
 pub returns-in_ok-note-in-None : goal.returns-in_ok-note-in-None
@@ -47,4 +48,5 @@ returns-in_ok-note-in-None g c = record {
       noted.noted noted.start noted.thread answer.ensures.number answer.ensures.timed
       answer.ensures.asked
       (λ h state w. answer.ensures.runs (length old.note.lines) h state w);
+  flusher = c.in_ok-answer-in-None.ensures.flusher;
 }

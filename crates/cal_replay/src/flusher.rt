@@ -1,0 +1,18 @@
+//! Whoever answers a thread's flushes.
+use cal_script::Reply;
+use cal_value::OutOfMemory;
+
+/// Whoever flushes what a thread's channels hold of its snapshots, each into its channel's book.
+pub trait Flusher {
+    ghost use Rattle.std.specs.Prelude.{◌≡◌, ℕ, IfOk, OnOk};
+    ghost use Rattle.cal_notes.specs.Notes.{IsFlushNote};
+
+    // the number of the thread
+    ghost thread: { Self → ℕ };
+
+    /// Flushes what a channel holds, by its number in the script, and says whether it was merged,
+    /// or with which other thread the book was busy. An `Err` is want of memory.
+    fn flush(&mut self, channel: u32) -> Result<Reply, OutOfMemory>
+        ensures reply { IfOk result (IsFlushNote (thread self.old)) }
+        ensures thread { OnOk result (thread self.new ≡ thread self.old) };
+}
