@@ -12,6 +12,7 @@ use Rattle.cal_replay.specs.Workers.{IsWorker}
 use Rattle.cal_replay.specs.declared.shared.Shared.{Shared}
 use Rattle.cal_replay.specs.declared.worker.Worker.{Worker}
 use Rattle.cal_script.specs.declared.journal.LineNote.{LineNote}
+use Rattle.cal_script.specs.declared.journal.Reply as replies
 use Rattle.cal_script.specs.declared.journal.ThreadNote.{ThreadNote}
 use Rattle.cal_words.specs.declared.op.OpRec.{OpRec}
 
@@ -59,8 +60,10 @@ readings-more ns n =
 
 -- ---- one step more
 
-module _ {K : Type 0} (given : K → Option (List ℕ)) (shared : Shared) (old mid new : Worker)
-    (was before is : K) (s : StepsOver shared given before is mid new) where
+module _ {K F : Type 0} (given : K → Option (List ℕ))
+    (flushed : F → F → ℕ → replies.Reply → Type 0) (shared : Shared) (old mid new : Worker)
+    (was before is : K) (had has : F)
+    (s : StepsOver shared given flushed before is had has mid new) where
   pub ran-more : (h : List OpRec) → (ops : List OpRec) × IsWorker shared mid (h ++ ops)
       → (ops : List OpRec) × IsWorker shared new (h ++ ops)
   ran-more h m =

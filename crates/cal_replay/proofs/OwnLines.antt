@@ -15,7 +15,8 @@ use Rattle.cal_process.specs.Replicas.{AddsWords}
 use Rattle.cal_process.specs.declared.common.Common.{Common}
 use Rattle.cal_process.specs.declared.replica.Replica.{Replica}
 use Rattle.cal_replay.proofs.Takings.{looks-published, looks-used, taken-others}
-use Rattle.cal_replay.specs.Steps.{IsGiven, Runs, Sees, UsesWords, noted_line, noted_with}
+use Rattle.cal_replay.specs.Steps.{Flushes, HasReply, IsGiven, Runs, Sees, UsesWords, noted_line}
+use Rattle.cal_replay.specs.Steps.{noted_with}
 use Rattle.cal_replay.specs.Steps.{own_words, placed_words}
 use Rattle.cal_replay.specs.Workers.{script_of}
 use Rattle.cal_replay.specs.declared.shared.Shared.{Shared}
@@ -61,6 +62,48 @@ pub merged-given : (thread : ℕ) (found : Option replies.Reply)
     → IsGiven thread found (unwrap_or found reply.Merged)
 merged-given thread None = tt
 merged-given thread (Some found) = refl
+
+-- a board replies to every line but to a flush
+pub replies-there : (script : Script) (b : Blackboard Variant) (l : lines.Line)
+    → HasReply l (reply_to_line script b l)
+replies-there script b (line.Begin a v) = refl
+replies-there script b (line.End a) = refl
+replies-there script b (line.Set a v) = refl
+replies-there script b line.Snapshot = refl
+replies-there script b (line.Flush c) = refl
+replies-there script b (line.Tick n) = refl
+
+-- a process line is no flush
+pub shared-replies : (script : Script) (l : lines.Line) (found : replies.Reply)
+    → is_process_line script l ≡ true → HasReply l (Some found)
+shared-replies script (line.Begin a v) found is = refl
+shared-replies script (line.End a) found is = refl
+shared-replies script (line.Set a v) found is = refl
+shared-replies script line.Snapshot found is = refl
+shared-replies script (line.Flush c) found is = absurd cc
+shared-replies script (line.Tick n) found is = refl
+
+-- where a board replied, the line was no flush; and where none did it was one
+module _ {F : Type 0} (flushed : F → F → ℕ → replies.Reply → Type 0) (old : F) where
+  pub board-flushes : (l : lines.Line) (found : replies.Reply) → HasReply l (Some found)
+      → Flushes flushed old old l found
+  board-flushes (line.Begin a v) found there = refl
+  board-flushes (line.End a) found there = refl
+  board-flushes (line.Set a v) found there = refl
+  board-flushes line.Snapshot found there = refl
+  board-flushes (line.Flush c) found there = absurd cc
+  board-flushes (line.Tick n) found there = refl
+
+  pub flush-flushes : (new : F) (l : lines.Line) → HasReply l None → (channel : ℕ)
+      → ((c : ℕ) → l ≡ line.Flush c → channel ≡ c) → (given : replies.Reply)
+      → flushed old new channel given → Flushes flushed old new l given
+  flush-flushes new (line.Begin a v) there channel is given done = absurd cc
+  flush-flushes new (line.End a) there channel is given done = absurd cc
+  flush-flushes new (line.Set a v) there channel is given done = absurd cc
+  flush-flushes new line.Snapshot there channel is given done = absurd cc
+  flush-flushes new (line.Flush c) there channel is given done =
+      subst (λ (n : ℕ). flushed old new n given) (is c refl) done
+  flush-flushes new (line.Tick n) there channel is given done = absurd cc
 
 -- the reply that was given is noted
 pub given-noted : (script : Script) (history : List Placed) (t : Thread) (done seen : ℕ)

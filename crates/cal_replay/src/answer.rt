@@ -1,6 +1,7 @@
 //! What a line is answered.
-ghost use Rattle.std.specs.Prelude.{◌≡◌, IfOk, OnOk};
-ghost use Rattle.cal_replay.specs.Steps.{IsGiven};
+ghost use Rattle.std.specs.Prelude.{◌≡◌, ℕ, IfOk, OnOk};
+ghost use Rattle.cal_replay.specs.Steps.{Flushes, HasReply, IsGiven};
+ghost use Rattle.cal_script.specs.declared.script.Line.TheVariants as line_is;
 
 use crate::Flusher;
 use cal_script::{Line, Reply};
@@ -19,7 +20,9 @@ pub(crate) fn reply_or_flush<F: Flusher>(
     found: Option<Reply>,
     flusher: &mut F,
 ) -> Result<Reply, OutOfMemory>
+    requires { HasReply line found }
     ensures reply { IfOk result (IsGiven (F.thread flusher.old) found) }
+    ensures flushes { IfOk result (Flushes F.flushed flusher.old flusher.new line) }
     ensures thread { OnOk result (F.thread flusher.new ≡ F.thread flusher.old) }
 {
     match found {
@@ -32,7 +35,9 @@ pub(crate) fn reply_or_flush<F: Flusher>(
 }
 
 /// The channel that a line flushes; of another line any.
-fn flushed(line: Line) -> u32 {
+fn flushed(line: Line) -> u32
+    ensures { (channel : ℕ) → line ≡ line_is.Flush channel → result ≡ channel }
+{
     match line {
         Line::Flush { channel } => channel,
         _ => 0,

@@ -3,7 +3,7 @@ ghost use Rattle.std.specs.Prelude.{◌≡◌, ℕ, false, if◌then◌else◌, 
 ghost use Rattle.cal_process.specs.Operations.{history_of};
 ghost use Rattle.cal_process.specs.Replicas.{AddsWords, IsCommon};
 ghost use Rattle.cal_replay.specs.Readings.{Asked, off_clock};
-ghost use Rattle.cal_replay.specs.Steps.{Runs, noted_with};
+ghost use Rattle.cal_replay.specs.Steps.{Flushes, Runs, noted_with};
 ghost use Rattle.cal_replay.specs.Workers.{IsShared, script_of};
 ghost use Rattle.cal_run.specs.Lines.{is_process_line};
 ghost use Rattle.cal_run.specs.Steps.{ThreadState, changed, reading_of};
@@ -46,6 +46,8 @@ pub(crate) fn run_own<K: Clock, F: Flusher>(
         Asked K.given clock.old clock.new (off_clock shared.now.real answer.reading)) }
     ensures number { OnOk result (thread.new.number ≡ thread.old.number) }
     ensures timed { OnOk result (thread.new.timed ≡ thread.old.timed) }
+    ensures flushes { IfOk result (λ answer.
+        Flushes F.flushed flusher.old flusher.new line answer.reply) }
     ensures flusher { OnOk result (F.thread flusher.new ≡ F.thread flusher.old) }
 {
     let met = thread.look(alloc, &shared.common, line)?;

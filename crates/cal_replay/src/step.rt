@@ -34,7 +34,8 @@ impl Worker {
             < length (lines_of (script_of shared.now) self.old.thread.number) }
         requires flusher { F.thread flusher.old ≡ self.old.thread.number }
         ensures steps { OnOk result
-            (StepsOver shared.now K.given clock.old clock.new self.old self.new) }
+            (StepsOver shared.now K.given F.flushed clock.old clock.new flusher.old flusher.new
+            self.old self.new) }
         ensures more { IfOk result (λ more. more ≡ nat_lt (length self.new.note.lines)
             (length (lines_of (script_of shared.now) self.old.thread.number))) }
         ensures flusher { OnOk result (F.thread flusher.new ≡ F.thread flusher.old) }
@@ -63,7 +64,8 @@ impl Worker {
         requires number { number ≡ length self.old.note.lines + 1 }
         requires flusher { F.thread flusher.old ≡ self.old.thread.number }
         ensures steps { OnOk result
-            (StepsOver shared.now K.given clock.old clock.new self.old self.new) }
+            (StepsOver shared.now K.given F.flushed clock.old clock.new flusher.old flusher.new
+            self.old self.new) }
         ensures flusher { OnOk result (F.thread flusher.new ≡ F.thread flusher.old) }
     {
         let thread = self.thread.number;

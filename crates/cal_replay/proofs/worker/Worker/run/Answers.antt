@@ -41,8 +41,8 @@ loop-alloc-smaller g c =
     let below = ltb-true (length c.loop-alloc.self.note.lines)
     (length (lines_of (script_of c.args.shared.now) c.loop-alloc.self.thread.number))
     (sym c.has_more.ensures ∙ c.loop-alloc-test.true) in
-    let one = one-more _ c.args.shared.now c.args.self.now c.loop-alloc.self c.step.new.self
-    c.args.clock.now c.loop-alloc.clock c.step.new.clock s in
+    let one = one-more _ _ c.args.shared.now c.args.self.now c.loop-alloc.self c.step.new.self
+    c.args.clock.now c.loop-alloc.clock c.step.new.clock _ _ s in
     let same = ap (λ (n : ℕ). length (lines_of (script_of c.args.shared.now) n)) s.number in
     omega (arith, below, one, same)
 
@@ -50,15 +50,15 @@ pub loop-alloc-preserved : goal.loop-alloc-preserved
 loop-alloc-preserved g c =
     let i = c.loop-alloc.invariant in
     let s = c.in_ok-_more.ensures.steps in
-    let more = ran-more _ c.args.shared.now c.args.self.now c.loop-alloc.self c.step.new.self
-    c.args.clock.now c.loop-alloc.clock c.step.new.clock s in
+    let more = ran-more _ _ c.args.shared.now c.args.self.now c.loop-alloc.self c.step.new.self
+    c.args.clock.now c.loop-alloc.clock c.step.new.clock _ _ s in
     record {
       some = (_, (s.runs i.some.0 i.some.1).kept);
       more = λ h w. more h (i.more h w);
       number = s.number ∙ i.number;
       flusher = c.in_ok-_more.ensures.flusher ∙ i.flusher;
-      read = readings-then _ c.args.shared.now c.args.self.now c.loop-alloc.self c.step.new.self
-          c.args.clock.now c.loop-alloc.clock c.step.new.clock s i.read;
+      read = readings-then _ _ c.args.shared.now c.args.self.now c.loop-alloc.self c.step.new.self
+          c.args.clock.now c.loop-alloc.clock c.step.new.clock _ _ s i.read;
     }
 
 pub returns-clause-runs : goal.returns-clause-runs
