@@ -1,7 +1,7 @@
 -- All lines of a worker, one after another.
-use Rattle.std.proofs.Common.{◌≡◌, ℕ, ◌+◌, List, [], ◌∷◌, ◌++◌, Bool, true, false, length, refl, sym}
-use Rattle.std.proofs.Common.{ap, ◌∙◌, subst, append_assoc, append-nil}
-use Rattle.std.specs.Prelude.{Option, Some, None, filter_map, option_to_list}
+use Rattle.std.proofs.Common.{◌≡◌, ℕ, ◌+◌, List, [], ◌∷◌, ◌++◌, Bool, true, false, length, refl}
+use Rattle.std.proofs.Common.{sym, ap, ◌∙◌, subst, append_assoc, append-nil}
+use Rattle.std.specs.Prelude.{Option, Some, None, option_to_list}
 use Rattle.std.specs.List.{cons_option}
 use Rattle.std.proofs.lemmas.List.{length_push}
 use Rattle.std.proofs.lemmas.List.Elements.{filter_map-append}
@@ -12,6 +12,7 @@ use Rattle.cal_replay.specs.Workers.{IsWorker}
 use Rattle.cal_replay.specs.declared.shared.Shared.{Shared}
 use Rattle.cal_replay.specs.declared.worker.Worker.{Worker}
 use Rattle.cal_script.specs.declared.journal.LineNote.{LineNote}
+use Rattle.cal_script.specs.declared.journal.Reply as replies
 use Rattle.cal_script.specs.declared.journal.ThreadNote.{ThreadNote}
 use Rattle.cal_words.specs.declared.op.OpRec.{OpRec}
 
@@ -59,8 +60,10 @@ readings-more ns n =
 
 -- ---- one step more
 
-module _ {K : Type 0} (given : K → Option (List ℕ)) (shared : Shared) (old mid new : Worker)
-    (was before is : K) (s : StepsOver shared given before is mid new) where
+module _ {K F : Type 0} (given : K → Option (List ℕ))
+    (flushed : F → F → ℕ → replies.Reply → Type 0) (shared : Shared) (old mid new : Worker)
+    (was before is : K) (had has : F)
+    (s : StepsOver shared given flushed before is had has mid new) where
   pub ran-more : (h : List OpRec) → (ops : List OpRec) × IsWorker shared mid (h ++ ops)
       → (ops : List OpRec) × IsWorker shared new (h ++ ops)
   ran-more h m =

@@ -1,6 +1,6 @@
 -- A worker whose line is noted.
-use Rattle.std.proofs.Common.{◌≡◌, ℕ, ◌+◌, ◌-◌, ◌<◌, ◌==◌, List, [], ◌∷◌, ◌++◌, length, take, get_or}
-use Rattle.std.proofs.Common.{Bool, true, false, if◌then◌else◌, refl, sym, ap, ◌∙◌, subst, arith}
+use Rattle.std.proofs.Common.{◌≡◌, ℕ, ◌+◌, ◌-◌, List, [], ◌∷◌, ◌++◌, length, take}
+use Rattle.std.proofs.Common.{Bool, if◌then◌else◌, sym, ap, ◌∙◌, subst, arith}
 use Rattle.std.specs.Prelude.{Option, Some, None, slice_get}
 use Rattle.std.proofs.lemmas.Bool.{ne_eqb}
 use Rattle.std.proofs.lemmas.List.{length_push, map-append, take_more}
@@ -10,7 +10,7 @@ use Rattle.cal_notes.specs.Running.{HasNoted, RunsNext, next_line, seen_behind}
 use Rattle.cal_notes.specs.Running.{state_behind, with_line}
 use Rattle.cal_process.specs.Operations.{history_of, placed_as}
 use Rattle.cal_replay.specs.Readings.{Asked, off_clock}
-use Rattle.cal_replay.specs.Steps.{Runs, RunsLine, StepsOver, noted_line, noted_with}
+use Rattle.cal_replay.specs.Steps.{Flushes, Runs, RunsLine, StepsOver, noted_line, noted_with}
 use Rattle.cal_replay.specs.Workers.{IsWorker, lines_done, lines_of, script_of, state_of}
 use Rattle.cal_replay.specs.declared.answer.Answer.{Answer}
 use Rattle.cal_replay.specs.declared.shared.Shared.{Shared}
@@ -19,6 +19,7 @@ use Rattle.cal_run.specs.Lawful.{NotedLine}
 use Rattle.cal_run.specs.Lines.{line_at}
 use Rattle.cal_run.specs.Steps.{ThreadState, state_after}
 use Rattle.cal_script.specs.declared.journal.LineNote.{LineNote}
+use Rattle.cal_script.specs.declared.journal.Reply as replies
 use Rattle.cal_script.specs.declared.journal.Placed.{Placed}
 use Rattle.cal_script.specs.declared.journal.ThreadNote.{ThreadNote}
 use Rattle.cal_script.specs.declared.script.Line.{Line}
@@ -120,6 +121,7 @@ module _ (shared : Shared) (old new : Worker) (l : Line) (note : LineNote) (h : 
   line-runs = record {
     ops = r.ops;
     sees = r.sees;
+    words = r.words;
     kept = record {
       thread = subst (λ (n : ℕ). IsThread shared.common new.thread n (h ++ r.ops)
           (state_of script (h ++ r.ops) new)) (sym count)
@@ -132,7 +134,8 @@ module _ (shared : Shared) (old new : Worker) (l : Line) (note : LineNote) (h : 
 
 -- ---- a step
 
-module _ {K : Type 0} (given : K → Option (List ℕ)) (was is : K) (shared : Shared)
+module _ {K F : Type 0} (given : K → Option (List ℕ))
+    (flushed : F → F → ℕ → replies.Reply → Type 0) (was is : K) (had has : F) (shared : Shared)
     (old : Worker) (mid : Thread) (new : Worker) (l : Line) (answer : Answer)
     (next : line_at (script_of shared) old.thread.number (length old.note.lines + 1) ≡ Some l)
     (lines : new.note.lines ≡ old.note.lines ++ noted_with answer mid ∷ [])
@@ -141,6 +144,7 @@ module _ {K : Type 0} (given : K → Option (List ℕ)) (was is : K) (shared : S
     (number : mid.number ≡ old.thread.number)
     (timed : mid.timed ≡ old.thread.timed)
     (asked : Asked given was is (off_clock shared.real answer.reading))
+    (flushes : Flushes flushed had has l answer.reply)
     (runs : (h : List OpRec) (state : ThreadState)
     → IsThread shared.common old.thread (length old.note.lines) h state
     → Runs shared old.thread mid l (noted_with answer mid) (length old.note.lines) h state) where
@@ -150,14 +154,15 @@ module _ {K : Type 0} (given : K → Option (List ℕ)) (was is : K) (shared : S
   same-number : new.thread.number ≡ old.thread.number
   same-number = ap (λ (t : Thread). t.number) thread ∙ number
 
-  pub steps-over : StepsOver shared given was is old new
+  pub steps-over : StepsOver shared given flushed was is had has old new
   steps-over = record {
-    line = l;
+    ran = l;
     next = next;
     note = noted_with answer mid;
     noted = noted-is;
     number = same-number;
     asked = asked;
+    flushes = flushes;
     runs = λ h w. line-runs shared old new l (noted_with answer mid) h next w
         (subst (λ (t : Thread). Runs shared old.thread t l (noted_with answer mid)
         (length old.note.lines) h (state_of (script_of shared) h old)) (sym thread)

@@ -1,20 +1,23 @@
 -- A line that is its thread's own.
-use Rattle.std.proofs.Common.{◌≡◌, ℕ, ◌+◌, ◌<◌, ◌≤◌, List, [], ◌++◌, length, map, Bool, true, false}
+use Rattle.std.proofs.Common.{◌≡◌, ℕ, ◌+◌, ◌<◌, ◌≤◌, List, ◌++◌, length, Bool, true, false}
 use Rattle.std.proofs.Common.{if◌then◌else◌, refl, sym, ap, ◌∙◌, subst, arith, inl, inr, ◌⊎◌}
-use Rattle.std.specs.Prelude.{Option, Some, unwrap_or, ◌&&◌}
+use Rattle.std.specs.Prelude.{Option, Some, None, unwrap_or, ◌&&◌}
 use Rattle.std.specs.List.{list_any}
 use Rattle.std.proofs.lemmas.Bool.{cases_lt}
-use Rattle.std.proofs.lemmas.List.{length-append, length-map, map-append}
+use Rattle.std.proofs.lemmas.List.{length-map, map-append}
 use Rattle.cal_board.specs.Blackboard.{Blackboard}
 use Rattle.cal_notes.specs.Notes.{IsNotedReply, OfOthers, known_journal}
-use Rattle.cal_notes.specs.Running.{Learns, RunsNext}
+use Rattle.cal_notes.specs.Running.{Learns}
 use Rattle.cal_once.specs.Layout.{times}
 use Rattle.cal_once.specs.Seats.{view}
 use Rattle.cal_process.specs.Operations.{history_of, placed_as}
+use Rattle.cal_process.specs.Replicas.{AddsWords}
 use Rattle.cal_process.specs.declared.common.Common.{Common}
 use Rattle.cal_process.specs.declared.replica.Replica.{Replica}
-use Rattle.cal_replay.proofs.Takings.{looks-published, taken-others}
-use Rattle.cal_replay.specs.Steps.{Runs, Sees, noted_line, noted_with}
+use Rattle.cal_replay.proofs.Takings.{looks-published, looks-used, taken-others}
+use Rattle.cal_replay.specs.Steps.{Flushes, HasReply, IsGiven, Runs, Sees, UsesWords, noted_line}
+use Rattle.cal_replay.specs.Steps.{noted_with}
+use Rattle.cal_replay.specs.Steps.{own_words, placed_words}
 use Rattle.cal_replay.specs.Workers.{script_of}
 use Rattle.cal_replay.specs.declared.shared.Shared.{Shared}
 use Rattle.cal_run.specs.Lawful.{IsRead}
@@ -30,7 +33,7 @@ use Rattle.cal_script.specs.declared.script.Line as lines
 use Rattle.cal_script.specs.declared.script.Line.TheVariants as line
 use Rattle.cal_script.specs.declared.script.Script.{Script}
 use Rattle.cal_thread.proofs.ThreadLemmas.{line-done, own-after}
-use Rattle.cal_thread.specs.Lines.{Looks, MeetsOwn}
+use Rattle.cal_thread.specs.Lines.{Looks, MeetsOwn, words_of_line}
 use Rattle.cal_thread.specs.Threads.{IsThread}
 use Rattle.cal_thread.specs.declared.looking.Met.{Met}
 use Rattle.cal_thread.specs.declared.thread.Thread.{Thread}
@@ -54,43 +57,78 @@ read-by script real g h due due' shown shown' reading e s r = record {
   value = λ not_real is. r.value not_real (e ∙ is) ∙ ap (λ (n : ℕ). Some n) s;
 }
 
--- the reply that a board gives is noted, and that to a flush is merged
-module _ (script : Script) (b : Blackboard Variant) (t : Thread) (done seen sees : ℕ)
-    (reading : Option ℕ) (state : ThreadState) where
-  abbrev replied : lines.Line → Option replies.Reply → LineNote
-  replied l found = record { reply = unwrap_or found reply.Merged; seen = sees; reading = reading }
+-- where no reply is found, merged may be given
+pub merged-given : (thread : ℕ) (found : Option replies.Reply)
+    → IsGiven thread found (unwrap_or found reply.Merged)
+merged-given thread None = tt
+merged-given thread (Some found) = refl
 
-  pub reply-noted : (l : lines.Line) → IsNotedReply (noted_line t done seen l
-      (replied l (reply_to_line script b l)) state) (reply_to_line script b l)
-  reply-noted (line.Begin a v) = refl
-  reply-noted (line.End a) = refl
-  reply-noted (line.Set a v) = refl
-  reply-noted line.Snapshot = refl
-  reply-noted (line.Flush c) = tt
-  reply-noted (line.Tick n) = refl
+-- a board replies to every line but to a flush
+pub replies-there : (script : Script) (b : Blackboard Variant) (l : lines.Line)
+    → HasReply l (reply_to_line script b l)
+replies-there script b (line.Begin a v) = refl
+replies-there script b (line.End a) = refl
+replies-there script b (line.Set a v) = refl
+replies-there script b line.Snapshot = refl
+replies-there script b (line.Flush c) = refl
+replies-there script b (line.Tick n) = refl
 
-pub found-noted : (script : Script) (history : List Placed) (t : Thread) (done seen : ℕ)
+-- a process line is no flush
+pub shared-replies : (script : Script) (l : lines.Line) (found : replies.Reply)
+    → is_process_line script l ≡ true → HasReply l (Some found)
+shared-replies script (line.Begin a v) found is = refl
+shared-replies script (line.End a) found is = refl
+shared-replies script (line.Set a v) found is = refl
+shared-replies script line.Snapshot found is = refl
+shared-replies script (line.Flush c) found is = absurd cc
+shared-replies script (line.Tick n) found is = refl
+
+-- where a board replied, the line was no flush; and where none did it was one
+module _ {F : Type 0} (flushed : F → F → ℕ → replies.Reply → Type 0) (old : F) where
+  pub board-flushes : (l : lines.Line) (found : replies.Reply) → HasReply l (Some found)
+      → Flushes flushed old old l found
+  board-flushes (line.Begin a v) found there = refl
+  board-flushes (line.End a) found there = refl
+  board-flushes (line.Set a v) found there = refl
+  board-flushes line.Snapshot found there = refl
+  board-flushes (line.Flush c) found there = absurd cc
+  board-flushes (line.Tick n) found there = refl
+
+  pub flush-flushes : (new : F) (l : lines.Line) → HasReply l None → (channel : ℕ)
+      → ((c : ℕ) → l ≡ line.Flush c → channel ≡ c) → (given : replies.Reply)
+      → flushed old new channel given → Flushes flushed old new l given
+  flush-flushes new (line.Begin a v) there channel is given done = absurd cc
+  flush-flushes new (line.End a) there channel is given done = absurd cc
+  flush-flushes new (line.Set a v) there channel is given done = absurd cc
+  flush-flushes new line.Snapshot there channel is given done = absurd cc
+  flush-flushes new (line.Flush c) there channel is given done =
+      subst (λ (n : ℕ). flushed old new n given) (is c refl) done
+  flush-flushes new (line.Tick n) there channel is given done = absurd cc
+
+-- the reply that was given is noted
+pub given-noted : (script : Script) (history : List Placed) (t : Thread) (done seen : ℕ)
     (l : lines.Line) (sees : ℕ) (reading : Option ℕ) (state : ThreadState)
-    (found : Option replies.Reply)
+    (found : Option replies.Reply) (given : replies.Reply)
     → ((note : LineNote) → note.seen ≡ sees → found_reply script history l note state ≡ found)
+    → IsGiven t.number found given
     → (note : LineNote)
-    → note ≡ record { reply = unwrap_or found reply.Merged; seen = sees; reading = reading }
+    → note ≡ record { reply = given; seen = sees; reading = reading }
     → IsNotedReply (noted_line t done seen l note state)
     (found_reply script history l note state)
-found-noted script history t done seen l sees reading state found is note e =
-    let made : LineNote =
-    record { reply = unwrap_or found reply.Merged; seen = sees; reading = reading } in
-    let same : found_reply script history l made state ≡ found = is made refl in
-    let by : IsNotedReply (noted_line t done seen l made state)
+given-noted script history t done seen l sees reading state found given is gives note e =
+    let made : LineNote = record { reply = given; seen = sees; reading = reading } in
+    let noted : IsNotedReply (noted_line t done seen l made state)
     (found_reply script history l made state) =
-    subst (λ (r : replies.Reply). IsNotedReply (noted_line t done seen l
-    (record { reply = r; seen = sees; reading = reading }) state)
-    (found_reply script history l made state))
-    (ap (λ (o : Option replies.Reply). unwrap_or o reply.Merged) same)
-    (reply-noted script (acted_on script history l made state) t done seen sees reading
-    state l) in
+    subst (IsNotedReply (noted_line t done seen l made state)) (sym (is made refl))
+    (by found gives) in
     subst (λ (n : LineNote). IsNotedReply (noted_line t done seen l n state)
-    (found_reply script history l n state)) (sym e) by
+    (found_reply script history l n state)) (sym e) noted
+  where
+    by : (f : Option replies.Reply) → IsGiven t.number f given
+        → IsNotedReply (noted_line t done seen l
+        (record { reply = given; seen = sees; reading = reading }) state) f
+    by None flushed = flushed
+    by (Some r) same = same
 
 -- ---- the line
 
@@ -110,11 +148,12 @@ own-learns true thread number ops common old new others l = others
 own-learns false thread number ops common old new others l = ap history_of l.0
 
 module _ (shared : Shared) (old mid new : Thread) (l : lines.Line) (met : Met)
-    (reading : Option ℕ) (done : ℕ) (h : List OpRec) (state : ThreadState)
+    (given : replies.Reply) (reading : Option ℕ) (done : ℕ) (h : List OpRec) (state : ThreadState)
     (own : is_process_line (script_of shared) l ≡ false)
     (w : IsThread shared.common old done h state)
     (m : MeetsOwn shared.common old mid l met done h state)
     (number : mid.number ≡ old.number)
+    (gives : IsGiven old.number met.reply given)
     (read : IsRead (script_of shared)
     (known_journal shared.real (history_of h ++ history_of m.ops))
     (is_due (script_of shared) l met.reply) mid.clock reading)
@@ -123,7 +162,8 @@ module _ (shared : Shared) (old mid new : Thread) (l : lines.Line) (met : Met)
     → IsThread shared.common mid done (h ++ m.ops) state
     → IsThread shared.common new done (h ++ m.ops)
     (if met.accepted then changed (script_of shared) (history_of (h ++ m.ops)) l note state
-    else state)) where
+    else state))
+    (adds : AddsWords shared.common mid.tree new.tree (words_of_line (script_of shared) l)) where
   abbrev script : Script
   script = script_of shared
 
@@ -131,10 +171,7 @@ module _ (shared : Shared) (old mid new : Thread) (l : lines.Line) (met : Met)
   hist = history_of h ++ history_of m.ops
 
   abbrev note : LineNote
-  note = noted_with (record {
-    reply = unwrap_or met.reply reply.Merged;
-    reading = reading;
-  }) new
+  note = noted_with (record { reply = given; reading = reading }) new
 
   hist-is : history_of (h ++ m.ops) ≡ hist
   hist-is = map-append placed_as h m.ops
@@ -167,6 +204,21 @@ module _ (shared : Shared) (old mid new : Thread) (l : lines.Line) (met : Met)
       (m.accepted ∙ ap is_accepted (sym (found note)))
       ∙ sym (own-after script hist l note state own)
 
+  words : UsesWords shared old new l m.ops
+  words =
+      let none : placed_words script l ≡ 0 = ap (λ (p : Bool). if p then 7 else 0) own in
+      let used = looks-used shared.common old.process mid.process m.ops
+      (looks script (history_of (h ++ m.ops)) l note state) (m.sees note) in
+      let same : (view new.process.log).used ≡ (view mid.process.log).used =
+      ap (λ (p : Replica). (view p.log).used) process in
+      let makes_own : own_words script l ≡ words_of_line script l =
+      ap (λ (p : Bool). if p then 0 else words_of_line script l) own in
+      let taken = m.words in
+      record {
+        placed = omega (arith, none, used, same);
+        made = omega (arith, makes_own, taken, adds);
+      }
+
   pub own-runs : Runs shared old new l note done h state
   own-runs = record {
     ops = m.ops;
@@ -179,11 +231,12 @@ module _ (shared : Shared) (old mid new : Thread) (l : lines.Line) (met : Met)
       read = read-by script shared.real hist hist (is_due script l met.reply)
           (is_due script l (found_reply script hist l note state)) mid.clock state.clock reading
           (ap (is_due script l) (sym (found note))) m.kept.has.clock read;
-      answered = found-noted script hist old done seen l new.process.seen reading state met.reply
-          (λ n is. found n) note refl;
+      answered = given-noted script hist old done seen l new.process.seen reading state met.reply
+          given (λ n is. found n) gives note refl;
     };
     sees = subst (λ (p : Bool). Sees shared old new done m.ops p
         (looks script hist l note state)) (sym own) sees;
+    words = words;
     kept = line-done shared.common new done (h ++ m.ops) (state_after script hist l note state)
         (subst (λ (s : ThreadState). IsThread shared.common new done (h ++ m.ops) s) after
         (makes note refl m.kept));

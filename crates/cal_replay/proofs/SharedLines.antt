@@ -1,23 +1,25 @@
 -- A line that is placed in the history.
 use Rattle.std.proofs.Common.{◌≡◌, ℕ, ◌+◌, ◌<◌, ◌≤◌, List, [], ◌∷◌, ◌++◌, length, Bool, true, cond}
 use Rattle.std.proofs.Common.{append_assoc, refl, sym, ap, ◌∙◌, subst, arith, inl, inr, ◌⊎◌}
-use Rattle.std.specs.Prelude.{Option, unwrap_or}
+use Rattle.std.specs.Prelude.{Option, if◌then◌else◌, unwrap_or}
 use Rattle.std.proofs.lemmas.Bool.{cases_lt, ne_eqb}
 use Rattle.std.proofs.lemmas.List.{length-append, length-map, map-append}
+use Rattle.std.proofs.lemmas.List.Sums.{sum_by_push}
 use Rattle.cal_notes.specs.Notes.{OfOthers, known_journal}
 use Rattle.cal_notes.specs.Running.{Learns}
 use Rattle.cal_once.proofs.Seen.{times-append}
 use Rattle.cal_once.specs.Layout.{times}
 use Rattle.cal_once.specs.Seats.{view}
-use Rattle.cal_process.specs.Operations.{history_of, placed_as}
-use Rattle.cal_replay.proofs.OwnLines.{found-noted, is_due, read-by}
+use Rattle.cal_process.specs.Operations.{history_of, operation_in, placed_as, words_made}
+use Rattle.cal_replay.proofs.OwnLines.{given-noted, is_due, merged-given, read-by}
 use Rattle.cal_replay.proofs.Takings.{taken-others}
-use Rattle.cal_replay.specs.Steps.{Runs, Sees, SeesPlace, noted_with}
+use Rattle.cal_replay.specs.Steps.{Runs, Sees, SeesPlace, UsesWords, noted_with}
+use Rattle.cal_replay.specs.Steps.{own_words, placed_words}
 use Rattle.cal_replay.specs.Workers.{script_of}
 use Rattle.cal_replay.specs.declared.shared.Shared.{Shared}
 use Rattle.cal_run.specs.Lawful.{IsRead}
 use Rattle.cal_run.specs.Lines.{is_process_line}
-use Rattle.cal_run.specs.Steps.{ThreadState, found_reply, looks, state_after}
+use Rattle.cal_run.specs.Steps.{ThreadState, found_reply, looks}
 use Rattle.cal_script.specs.declared.journal.LineNote.{LineNote}
 use Rattle.cal_script.specs.declared.journal.Placed.{Placed}
 use Rattle.cal_script.specs.declared.journal.Reply as replies
@@ -25,7 +27,7 @@ use Rattle.cal_script.specs.declared.journal.Reply.TheVariants as reply
 use Rattle.cal_script.specs.declared.script.Line.{Line}
 use Rattle.cal_script.specs.declared.script.Script.{Script}
 use Rattle.cal_thread.proofs.ThreadLemmas.{shared-after}
-use Rattle.cal_thread.specs.Lines.{MeetsShared, TakesOwn}
+use Rattle.cal_thread.specs.Lines.{MeetsShared, TakesOwn, words_of_line}
 use Rattle.cal_thread.specs.Threads.{IsThread}
 use Rattle.cal_thread.specs.declared.thread.Thread.{Thread}
 use Rattle.cal_words.specs.declared.op.OpRec.{OpRec}
@@ -114,6 +116,21 @@ module _ (shared : Shared) (old mid new : Thread) (l : Line) (op : OpRec)
     looks = t.looks ∙ m.looks;
   }
 
+  words : UsesWords shared old new l ops
+  words =
+      let some : placed_words script l ≡ 7 = ap (λ (p : Bool). if p then 7 else 0) process in
+      let none : own_words script l ≡ 0 =
+      ap (λ (p : Bool). if p then 0 else words_of_line script l) process in
+      let sum = sum_by_push (λ (o : OpRec). words_made script (operation_in o)) m.ops op in
+      let before_own = m.words in
+      let by_own = t.words in
+      let placed = m.used in
+      let learned = t.learns.used in
+      record {
+        placed = omega (arith, some, placed, learned);
+        made = omega (arith, none, sum, before_own, by_own);
+      }
+
   learns : Learns true (looks script hist l note state)
       (record { thread = old.number; line = done + 1 }) (history_of ops)
   learns = (
@@ -133,11 +150,12 @@ module _ (shared : Shared) (old mid new : Thread) (l : Line) (op : OpRec)
       read = read-by script shared.real (history_of h) hist (is_due script l answer)
           (is_due script l (found_reply script hist l note state)) mid.clock state.clock reading
           (ap (is_due script l) (sym (found note refl))) m.placed.has.clock read;
-      answered = found-noted script hist old done seen l new.process.seen reading state answer
-          found note refl;
+      answered = given-noted script hist old done seen l new.process.seen reading state answer
+          (unwrap_or answer reply.Merged) found (merged-given old.number answer) note refl;
     };
     sees = subst (λ (p : Bool). Sees shared old new done ops p (looks script hist l note state))
         (sym process) sees;
+    words = words;
     kept = subst (λ (s : ThreadState). IsThread shared.common new (done + 1) (h ++ ops) s)
         (sym (shared-after script hist l note state process))
         (subst (λ (os : List OpRec). IsThread shared.common new (done + 1) os state) assoc

@@ -47,3 +47,8 @@ pub looks-published : (common : Common) (old new : Replica) (ops : List OpRec) (
     → Looks common old new ops look → (view new.log).published ≡ (view old.log).published
 looks-published common old new ops true l = l.1.published
 looks-published common old new ops false l = ap (λ (v : View OpSort). v.published) l.1
+
+pub looks-used : (common : Common) (old new : Replica) (ops : List OpRec) (look : Bool)
+    → Looks common old new ops look → (view new.log).used ≡ (view old.log).used
+looks-used common old new ops true l = l.1.used
+looks-used common old new ops false l = ap (λ (v : View OpSort). v.used) l.1

@@ -1,5 +1,5 @@
--- Where readings come from: off a clock of the thread's own where a run goes by real clocks, and else
--- off the script's.
+-- Where readings come from: off a clock of the thread's own where a run goes by real clocks, and
+-- else off the script's.
 use Rattle.std.specs.Prelude.{◌≡◌, ℕ, Bool, true, false, List, [], ◌∷◌, Option, Some, None}
 use Rattle.std.specs.Prelude.{filter_map}
 use Rattle.cal_base.specs.Told.{Gives}
@@ -15,8 +15,8 @@ abbrev pub off_clock : (real : Bool) → Option ℕ → Option ℕ
 off_clock true reading = reading
 off_clock false reading = None
 
--- A clock was asked for these readings, one after another, where the run goes by real clocks; else it
--- wasn't asked.
+-- A clock was asked for these readings, one after another, where the run goes by real clocks; else
+-- it wasn't asked.
 abbrev pub AskedFor : {K : Type 0} → (given : K → Option (List ℕ)) → (real : Bool) → (old new : K)
     → List ℕ → Type 0
 AskedFor given true old new readings = Gives (given old) (given new) readings

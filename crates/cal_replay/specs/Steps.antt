@@ -1,10 +1,12 @@
 -- What a line does to a worker, by what its thread has seen of the history meanwhile.
 use Rattle.std.specs.Prelude.{◌≡◌, ℕ, ◌+◌, Bool, true, false, List, [], ◌∷◌, ◌++◌, length}
-use Rattle.std.specs.Prelude.{Option, Some}
+use Rattle.std.specs.Prelude.{Option, Some, None, is_some, if◌then◌else◌}
+use Rattle.cal_notes.specs.Notes.{IsFlushNote}
 use Rattle.cal_notes.specs.Running.{RunsNext, with_line}
 use Rattle.cal_once.specs.Seats.{view}
 use Rattle.cal_process.specs.Operations.{history_of, placed_as}
-use Rattle.cal_process.specs.Takings.{KeepsLooks}
+use Rattle.cal_process.specs.Takings.{KeepsLooks, words_of_ops}
+use Rattle.cal_process.specs.Replicas.{AddsWords}
 use Rattle.cal_replay.specs.Readings.{Asked, AskedFor, off_clock, readings_of}
 use Rattle.cal_replay.specs.Workers.{IsWorker, lines_done, lines_of, script_of, state_of}
 use Rattle.cal_replay.specs.declared.answer.Answer.{Answer}
@@ -14,10 +16,11 @@ use Rattle.cal_run.specs.Lawful.{NotedLine}
 use Rattle.cal_run.specs.Lines.{is_process_line, line_at}
 use Rattle.cal_run.specs.Steps.{ThreadState, looks, state_after}
 use Rattle.cal_script.specs.declared.journal.LineNote.{LineNote}
-use Rattle.cal_script.specs.declared.journal.Placed.{Placed}
-use Rattle.cal_script.specs.declared.script.Line.{Line}
+use Rattle.cal_script.specs.declared.journal.Reply as replies
+use Rattle.cal_script.specs.declared.script.Line as lines
+use Rattle.cal_script.specs.declared.script.Line.TheVariants as line
 use Rattle.cal_script.specs.declared.script.Script.{Script}
-use Rattle.cal_thread.specs.Lines.{Looks}
+use Rattle.cal_thread.specs.Lines.{Looks, words_of_line}
 use Rattle.cal_thread.specs.Threads.{IsThread}
 use Rattle.cal_thread.specs.declared.thread.Thread.{Thread}
 use Rattle.cal_words.specs.declared.op.OpRec.{OpRec}
@@ -31,7 +34,7 @@ noted_with answer t = record {
 }
 
 -- a line of a thread that has done so many and has seen so much
-abbrev pub noted_line : Thread → (done seen : ℕ) → Line → LineNote → ThreadState → NotedLine
+abbrev pub noted_line : Thread → (done seen : ℕ) → lines.Line → LineNote → ThreadState → NotedLine
 noted_line t done seen l note state = record {
   thread = t.number;
   number = done + 1;
@@ -40,6 +43,30 @@ noted_line t done seen l note state = record {
   before = seen;
   state = state;
 }
+
+-- A reply is the one that is found; or, where none is, one that a thread gets to a flush.
+abbrev pub IsGiven : (thread : ℕ) → Option replies.Reply → replies.Reply → Type 0
+IsGiven thread None given = IsFlushNote thread given
+IsGiven thread (Some found) given = given ≡ found
+
+-- boards reply to every line but to a flush
+abbrev pub HasReply : lines.Line → Option replies.Reply → Type 0
+HasReply (line.Flush c) found = found ≡ None
+HasReply _ found = is_some found ≡ true
+
+-- A flush line with this reply does that to whoever flushes; another line leaves them.
+abbrev pub Flushes : {F : Type 0} → (F → F → ℕ → replies.Reply → Type 0) → (old new : F)
+    → lines.Line → replies.Reply → Type 0
+Flushes flushed old new (line.Flush c) given = flushed old new c given
+Flushes flushed old new _ given = new ≡ old
+
+-- the words that a line takes in the history
+abbrev pub placed_words : Script → lines.Line → ℕ
+placed_words script l = if is_process_line script l then 7 else 0
+
+-- the words of the node that a line which is its thread's own may make
+abbrev pub own_words : Script → lines.Line → ℕ
+own_words script l = if is_process_line script l then 0 else words_of_line script l
 
 -- ---- what a line sees
 
@@ -62,40 +89,52 @@ module _ (shared : Shared) where
 
   -- ---- what a line does
 
-  -- A thread ran a line with this note, and has seen these operations more: the line keeps the rules
-  -- of journals by them, and the thread is as the line leaves it.
-  pub record Runs (old new : Thread) (l : Line) (note : LineNote) (done : ℕ) (h : List OpRec)
+  -- The words that a line uses: in the history those of its own operation, and in the tree at most
+  -- those of the nodes that it makes and that the operations make which it takes in.
+  pub record UsesWords (old new : Thread) (l : lines.Line) (ops : List OpRec) : Type 0 where
+    pub placed : (view new.process.log).used
+        ≡ (view old.process.log).used + placed_words (script_of shared) l
+    pub made : AddsWords shared.common old.tree new.tree
+        (words_of_ops (script_of shared) ops + own_words (script_of shared) l)
+
+  -- A thread ran a line with this note, and has seen these operations more: the line keeps the
+  -- rules of journals by them, and the thread is as the line leaves it.
+  pub record Runs (old new : Thread) (l : lines.Line) (note : LineNote) (done : ℕ) (h : List OpRec)
       (state : ThreadState) : Type 0 where
     pub ops : List OpRec
     pub next : (seen : ℕ) → RunsNext (script_of shared) shared.real (history_of h)
         (history_of ops) (noted_line old done seen l note state)
     pub sees : Sees old new done ops (is_process_line (script_of shared) l)
         (looks (script_of shared) (history_of h ++ history_of ops) l note state)
+    pub words : UsesWords old new l ops
     pub kept : IsThread shared.common new (done + 1) (h ++ ops)
         (state_after (script_of shared) (history_of h ++ history_of ops) l note state)
 
   -- And a worker, whose notes are longer by it.
-  pub record RunsLine (old new : Worker) (l : Line) (note : LineNote) (h : List OpRec)
+  pub record RunsLine (old new : Worker) (l : lines.Line) (note : LineNote) (h : List OpRec)
       : Type 0 where
     pub ops : List OpRec
     pub sees : Sees old.thread new.thread (length old.note.lines) ops
         (is_process_line (script_of shared) l)
         (looks (script_of shared) (history_of h ++ history_of ops) l note
         (state_of (script_of shared) h old))
+    pub words : UsesWords old.thread new.thread l ops
     pub kept : IsWorker shared new (h ++ ops)
 
-  -- A worker ran its next line, and noted it. A clock was asked for the line's reading, where it has
-  -- one and the run goes by real clocks.
-  pub record StepsOver {K : Type 0} (given : K → Option (List ℕ)) (was is : K) (old new : Worker)
-      : Type 0 where
-    pub line : Line
+  -- A worker ran its next line, and noted it. A clock was asked for the line's reading, where it
+  -- has one and the run goes by real clocks; and a flush was flushed.
+  pub record StepsOver {K F : Type 0} (given : K → Option (List ℕ))
+      (flushed : F → F → ℕ → replies.Reply → Type 0) (was is : K) (had has : F)
+      (old new : Worker) : Type 0 where
+    pub ran : lines.Line
     pub next : line_at (script_of shared) old.thread.number (length old.note.lines + 1)
-        ≡ Some line
+        ≡ Some ran
     pub note : LineNote
     pub noted : new.note ≡ with_line old.note note
     pub number : new.thread.number ≡ old.thread.number
     pub asked : Asked given was is (off_clock shared.real note.reading)
-    pub runs : (h : List OpRec) → IsWorker shared old h → RunsLine old new line note h
+    pub flushes : Flushes flushed had has ran note.reply
+    pub runs : (h : List OpRec) → IsWorker shared old h → RunsLine old new ran note h
 
   -- ---- what all lines do
 

@@ -1,5 +1,5 @@
--- What a worker keeps between two lines: its thread, as the plain meaning of a run has it, and notes
--- that keep the rules of journals.
+-- What a worker keeps between two lines: its thread, as the plain meaning of a run has it, and
+-- notes that keep the rules of journals.
 use Rattle.std.specs.Prelude.{◌≡◌, ℕ, List, [], length, take, slice_index_or}
 use Rattle.cal_notes.specs.Running.{HasNoted, state_behind}
 use Rattle.cal_process.specs.Operations.{history_of}
@@ -8,7 +8,6 @@ use Rattle.cal_replay.specs.declared.shared.Shared.{Shared}
 use Rattle.cal_replay.specs.declared.worker.Worker.{Worker}
 use Rattle.cal_run.specs.Steps.{ThreadState, at_start}
 use Rattle.cal_run.specs.Timers.{AreTimers}
-use Rattle.cal_script.specs.declared.journal.ThreadNote.{ThreadNote}
 use Rattle.cal_script.specs.declared.script.Line.{Line}
 use Rattle.cal_script.specs.declared.script.Script.{Script}
 use Rattle.cal_thread.specs.Threads.{IsThread}
@@ -43,9 +42,9 @@ module _ (shared : Shared) where
     pub timed : w.thread.timed ≡ shared.timers.some
     pub noted : w.note.lines ≡ []
 
-  -- A worker between two lines: its thread has seen exactly these operations, with which the history
-  -- begins, and has the state that the plain meaning of a run gives it by them; and its notes of the
-  -- lines done keep the rules of journals by them.
+  -- A worker between two lines: its thread has seen exactly these operations, with which the
+  -- history begins, and has the state that the plain meaning of a run gives it by them; and its
+  -- notes of the lines done keep the rules of journals by them.
   pub record IsWorker (w : Worker) (h : List OpRec) : Type 0 where
     pub thread : IsThread shared.common w.thread (length w.note.lines) h
         (state_of (script_of shared) h w)

@@ -1,9 +1,45 @@
 //! What a line is answered.
-use cal_script::Reply;
+ghost use Rattle.std.specs.Prelude.{◌≡◌, ℕ, IfOk, OnOk};
+ghost use Rattle.cal_replay.specs.Steps.{Flushes, HasReply, IsGiven};
+ghost use Rattle.cal_script.specs.declared.script.Line.TheVariants as line_is;
+
+use crate::Flusher;
+use cal_script::{Line, Reply};
+use cal_value::OutOfMemory;
 
 /// The reply to a line, and its reading if it took one.
 #[derive(Clone, Copy, Debug)]
 pub(crate) struct Answer {
     pub reply: Reply,
     pub reading: Option<u64>,
+}
+
+/// The reply to a line: the one that a board gives, or that to a flush.
+pub(crate) fn reply_or_flush<F: Flusher>(
+    line: Line,
+    found: Option<Reply>,
+    flusher: &mut F,
+) -> Result<Reply, OutOfMemory>
+    requires { HasReply line found }
+    ensures reply { IfOk result (IsGiven (F.thread flusher.old) found) }
+    ensures flushes { IfOk result (Flushes F.flushed flusher.old flusher.new line) }
+    ensures thread { OnOk result (F.thread flusher.new ≡ F.thread flusher.old) }
+{
+    match found {
+        Some(reply) => Ok(reply),
+        None => {
+            let reply = flusher.flush(flushed(line))?;
+            Ok(reply)
+        }
+    }
+}
+
+/// The channel that a line flushes; of another line any.
+fn flushed(line: Line) -> u32
+    ensures { (channel : ℕ) → line ≡ line_is.Flush channel → result ≡ channel }
+{
+    match line {
+        Line::Flush { channel } => channel,
+        _ => 0,
+    }
 }

@@ -1,39 +1,42 @@
 //! A line that is its thread's own.
 ghost use Rattle.std.specs.Prelude.{◌≡◌, ℕ, false, if◌then◌else◌, List, IfOk, OnOk};
 ghost use Rattle.cal_process.specs.Operations.{history_of};
-ghost use Rattle.cal_process.specs.Replicas.{IsCommon};
+ghost use Rattle.cal_process.specs.Replicas.{AddsWords, IsCommon};
 ghost use Rattle.cal_replay.specs.Readings.{Asked, off_clock};
-ghost use Rattle.cal_replay.specs.Steps.{Runs, noted_with};
+ghost use Rattle.cal_replay.specs.Steps.{Flushes, Runs, noted_with};
 ghost use Rattle.cal_replay.specs.Workers.{IsShared, script_of};
 ghost use Rattle.cal_run.specs.Lines.{is_process_line};
 ghost use Rattle.cal_run.specs.Steps.{ThreadState, changed, reading_of};
 ghost use Rattle.cal_script.specs.Valid.{IsPlaced};
 ghost use Rattle.cal_script.specs.declared.journal.LineNote as notes;
+ghost use Rattle.cal_thread.specs.Lines.{words_of_line};
 ghost use Rattle.cal_thread.specs.Threads.{IsSomeThread, IsThread};
 ghost use Rattle.cal_words.specs.declared.op.OpRec as words;
 
-use crate::Shared;
-use crate::answer::Answer;
+use crate::answer::{Answer, reply_or_flush};
 use crate::reading::read_line;
+use crate::{Flusher, Shared};
 use cal_base::Clock;
 use cal_process::Common;
-use cal_script::{Line, Reply};
+use cal_script::Line;
 use cal_thread::Thread;
 use cal_value::OutOfMemory;
 use std::alloc::Global;
 
-/// Runs a line that is the thread's own: it is answered, looks where a channel takes a snapshot, and
-/// is done where it is accepted.
-pub(crate) fn run_own<K: Clock>(
+/// Runs a line that is the thread's own: it is answered, looks where a channel takes a snapshot,
+/// flushes if it is a flush, and changes the thread where it is accepted.
+pub(crate) fn run_own<K: Clock, F: Flusher>(
     alloc: Global,
     shared: &Shared<'_>,
     thread: &mut Thread,
     line: Line,
     clock: &mut K,
+    flusher: &mut F,
 ) -> Result<Answer, OutOfMemory>
     requires shared { IsShared shared.now }
     requires thread { IsSomeThread shared.now.common thread.old }
     requires own { is_process_line (script_of shared.now) line ≡ false }
+    requires flusher { F.thread flusher.old ≡ thread.old.number }
     requires placed { IsPlaced (script_of shared.now).attributes (script_of shared.now).channels
         (script_of shared.now).values line }
     ensures runs { IfOk result (λ answer. (done : ℕ) (h : List words.OpRec) (state : ThreadState)
@@ -43,10 +46,14 @@ pub(crate) fn run_own<K: Clock>(
         Asked K.given clock.old clock.new (off_clock shared.now.real answer.reading)) }
     ensures number { OnOk result (thread.new.number ≡ thread.old.number) }
     ensures timed { OnOk result (thread.new.timed ≡ thread.old.timed) }
+    ensures flushes { IfOk result (λ answer.
+        Flushes F.flushed flusher.old flusher.new line answer.reply) }
+    ensures flusher { OnOk result (F.thread flusher.new ≡ F.thread flusher.old) }
 {
     let met = thread.look(alloc, &shared.common, line)?;
     let shown = thread.clock;
     let reading = read_line(shared, line, met.reply, shown, clock);
+    let reply = reply_or_flush(line, met.reply, flusher)?;
     change_if(
         alloc,
         &shared.common,
@@ -55,10 +62,7 @@ pub(crate) fn run_own<K: Clock>(
         met.accepted,
         reading.unwrap_or(0),
     )?;
-    Ok(Answer {
-        reply: met.reply.unwrap_or(Reply::Merged),
-        reading,
-    })
+    Ok(Answer { reply, reading })
 }
 
 /// Makes the change of a line that has this reading, if it is accepted.
@@ -81,6 +85,8 @@ fn change_if(
         → IsThread common.now thread.new done h (if accepted
         then changed common.now.script.now (history_of h) line note state else state)) }
     ensures process { OnOk result (thread.new.process ≡ thread.old.process) }
+    ensures words { OnOk result (AddsWords common.now thread.old.tree thread.new.tree
+        (words_of_line common.now.script.now line)) }
     ensures number { OnOk result (thread.new.number ≡ thread.old.number) }
     ensures timed { OnOk result (thread.new.timed ≡ thread.old.timed) }
 {

@@ -50,7 +50,8 @@ pub(crate) fn read_line<K: Clock>(
 /// A reading where one is due: the clock's next one, or what the script's clock shows.
 #[inline(always)]
 fn read_if<K: Clock>(real: bool, due: bool, shown: u64, clock: &mut K) -> Option<u64>
-    ensures read { (script : Script) (h : List Placed) → IsRead script (known_journal real h) due shown result }
+    ensures read { (script : Script) (h : List Placed)
+        → IsRead script (known_journal real h) due shown result }
     ensures asked { Asked K.given clock.old clock.new (off_clock real result) }
 {
     if !due {

@@ -20,7 +20,8 @@ use cal_value::OutOfMemory;
 use cal_words::OpRec;
 use std::alloc::Global;
 
-/// Runs a process line: it is placed, answered by the process's board before its place, and taken in.
+/// Runs a process line: it is placed, answered by the process's board before its place, and taken
+/// in.
 pub(crate) fn run_shared<K: Clock>(
     alloc: Global,
     shared: &Shared<'_>,

@@ -10,7 +10,7 @@ ghost use Rattle.cal_script.specs.declared.script.Line as lines_of_script;
 use crate::answer::Answer;
 use crate::own_line::run_own;
 use crate::shared_line::run_shared;
-use crate::{Shared, Worker};
+use crate::{Flusher, Shared, Worker};
 use cal_base::{Clock, Gate};
 use cal_process::op_of_line;
 use cal_script::{Line, LineNote, Script};
@@ -20,45 +20,53 @@ use std::alloc::Global;
 impl Worker {
     /// Runs the next line and notes it, when the gate has let it pass, and answers whether lines
     /// remain. Behind an `Err` the worker may not be stepped again.
-    pub fn step<K: Clock, G: Gate>(
+    pub fn step<K: Clock, G: Gate, F: Flusher>(
         &mut self,
         alloc: Global,
         shared: &Shared<'_>,
         clock: &mut K,
         gate: &G,
+        flusher: &mut F,
     ) -> Result<bool, OutOfMemory>
         requires shared { IsShared shared.now }
         requires worker { IsSomeWorker shared.now self.old }
         requires remains { length self.old.note.lines
             < length (lines_of (script_of shared.now) self.old.thread.number) }
+        requires flusher { F.thread flusher.old ≡ self.old.thread.number }
         ensures steps { OnOk result
-            (StepsOver shared.now K.given clock.old clock.new self.old self.new) }
+            (StepsOver shared.now K.given F.flushed clock.old clock.new flusher.old flusher.new
+            self.old self.new) }
         ensures more { IfOk result (λ more. more ≡ nat_lt (length self.new.note.lines)
             (length (lines_of (script_of shared.now) self.old.thread.number))) }
+        ensures flusher { OnOk result (F.thread flusher.new ≡ F.thread flusher.old) }
     {
         let thread = self.thread.number;
         let done = self.note.lines.len();
         let next = next_line(shared.common.script, thread, done);
         gate.pass(thread, next.number);
-        self.run_line(alloc, shared, next.line, next.number, clock)?;
+        self.run_line(alloc, shared, next.line, next.number, clock, flusher)?;
         Ok(next.more)
     }
 
     /// Runs a line of this number, which is the next, and notes it.
-    fn run_line<K: Clock>(
+    fn run_line<K: Clock, F: Flusher>(
         &mut self,
         alloc: Global,
         shared: &Shared<'_>,
         line: Line,
         number: u32,
         clock: &mut K,
+        flusher: &mut F,
     ) -> Result<(), OutOfMemory>
         requires shared { IsShared shared.now }
         requires worker { IsSomeWorker shared.now self.old }
         requires next { line_at (script_of shared.now) self.old.thread.number number ≡ Some line }
         requires number { number ≡ length self.old.note.lines + 1 }
+        requires flusher { F.thread flusher.old ≡ self.old.thread.number }
         ensures steps { OnOk result
-            (StepsOver shared.now K.given clock.old clock.new self.old self.new) }
+            (StepsOver shared.now K.given F.flushed clock.old clock.new flusher.old flusher.new
+            self.old self.new) }
+        ensures flusher { OnOk result (F.thread flusher.new ≡ F.thread flusher.old) }
     {
         let thread = self.thread.number;
         match op_of_line(shared.common.script, thread, number, line) {
@@ -68,7 +76,7 @@ impl Worker {
                 Ok(())
             }
             None => {
-                let answer = run_own(alloc, shared, &mut self.thread, line, clock)?;
+                let answer = run_own(alloc, shared, &mut self.thread, line, clock, flusher)?;
                 self.note(answer)?;
                 Ok(())
             }

@@ -38,8 +38,8 @@ impl Worker {
         }
     }
 
-    /// Takes the start reading, where some channel has the timer: with the script's clock 0, and with
-    /// real clocks this one's next reading.
+    /// Takes the start reading, where some channel has the timer: with the script's clock 0, and
+    /// with real clocks this one's next reading. It is called once, before the first `step`.
     pub fn start<K: Clock>(&mut self, shared: &Shared<'_>, clock: &mut K)
         requires shared { IsShared shared.now }
         requires worker { IsHired shared.now self.old }

@@ -1,4 +1,4 @@
-use Rattle.std.proofs.Common.{◌++◌, ◌∙◌, ◌<◌, List, [], length, ℕ, refl, sym, ap, subst, append-nil}
+use Rattle.std.proofs.Common.{◌∙◌, List, [], length, ℕ, refl, sym, ap, subst, append-nil}
 use Rattle.std.proofs.Common.{arith}
 use Rattle.std.proofs.lemmas.Bool.{ltb-false, ltb-true}
 use Rattle.std.proofs.lemmas.List.{take_all}
@@ -16,6 +16,7 @@ loop-alloc-init g c = record {
         (sym (append-nil h)) w,
   );
   number = refl;
+  flusher = refl;
   read = (
     [],
     sym (append-nil c.args.self.now.note.lines),
@@ -30,14 +31,18 @@ pub step-requires-clause-remains : goal.step-requires-clause-remains
 step-requires-clause-remains g c =
     ltb-true _ _ (sym c.has_more.ensures ∙ c.loop-alloc-test.true)
 
+pub step-requires-clause-flusher : goal.step-requires-clause-flusher
+step-requires-clause-flusher g c =
+    c.loop-alloc.invariant.flusher ∙ c.requires.flusher ∙ sym c.loop-alloc.invariant.number
+
 pub loop-alloc-smaller : goal.loop-alloc-smaller
 loop-alloc-smaller g c =
     let s = c.in_ok-_more.ensures.steps in
     let below = ltb-true (length c.loop-alloc.self.note.lines)
     (length (lines_of (script_of c.args.shared.now) c.loop-alloc.self.thread.number))
     (sym c.has_more.ensures ∙ c.loop-alloc-test.true) in
-    let one = one-more _ c.args.shared.now c.args.self.now c.loop-alloc.self c.step.new.self
-    c.args.clock.now c.loop-alloc.clock c.step.new.clock s in
+    let one = one-more _ _ c.args.shared.now c.args.self.now c.loop-alloc.self c.step.new.self
+    c.args.clock.now c.loop-alloc.clock c.step.new.clock _ _ s in
     let same = ap (λ (n : ℕ). length (lines_of (script_of c.args.shared.now) n)) s.number in
     omega (arith, below, one, same)
 
@@ -45,14 +50,15 @@ pub loop-alloc-preserved : goal.loop-alloc-preserved
 loop-alloc-preserved g c =
     let i = c.loop-alloc.invariant in
     let s = c.in_ok-_more.ensures.steps in
-    let more = ran-more _ c.args.shared.now c.args.self.now c.loop-alloc.self c.step.new.self
-    c.args.clock.now c.loop-alloc.clock c.step.new.clock s in
+    let more = ran-more _ _ c.args.shared.now c.args.self.now c.loop-alloc.self c.step.new.self
+    c.args.clock.now c.loop-alloc.clock c.step.new.clock _ _ s in
     record {
       some = (_, (s.runs i.some.0 i.some.1).kept);
       more = λ h w. more h (i.more h w);
       number = s.number ∙ i.number;
-      read = readings-then _ c.args.shared.now c.args.self.now c.loop-alloc.self c.step.new.self
-          c.args.clock.now c.loop-alloc.clock c.step.new.clock s i.read;
+      flusher = c.in_ok-_more.ensures.flusher ∙ i.flusher;
+      read = readings-then _ _ c.args.shared.now c.args.self.now c.loop-alloc.self c.step.new.self
+          c.args.clock.now c.loop-alloc.clock c.step.new.clock _ _ s i.read;
     }
 
 pub returns-clause-runs : goal.returns-clause-runs
@@ -72,3 +78,6 @@ returns-clause-number g c = c.loop-alloc.invariant.number
 
 pub returns-clause-read : goal.returns-clause-read
 returns-clause-read g c = c.loop-alloc.invariant.read
+
+pub returns-clause-flusher : goal.returns-clause-flusher
+returns-clause-flusher g c = c.loop-alloc.invariant.flusher

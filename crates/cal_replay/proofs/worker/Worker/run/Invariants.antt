@@ -13,6 +13,7 @@ invariant-loop-alloc g l =
       more : (h : List OpRec) → IsWorker l.shared l.fn.self h
           → (ops : List OpRec) × IsWorker l.shared l.self (h ++ ops);
       number : l.self.thread.number ≡ l.fn.self.thread.number;
+      flusher : g.F.Flusher.thread l.flusher ≡ g.F.Flusher.thread l.fn.flusher;
       read : HasRead l.shared clock.given l.fn.clock l.clock l.fn.self l.self;
     }
 

@@ -1,0 +1,15 @@
+use Rattle.std.proofs.Common.{sym, subst}
+use Rattle.cal_replay.proofs.OwnLines.{board-flushes, flush-flushes}
+use Rattle.cal_replay.specs.Steps.{HasReply}
+use Rattle.cal_replay.proofs.answer.reply_or_flush.Goals as goal
+
+pub returns-in-Some-clause-flushes : goal.returns-in-Some-clause-flushes
+returns-in-Some-clause-flushes g c =
+    board-flushes g.F.Flusher.flushed c.args.flusher.now c.args.line c.in-Some.reply
+    (subst (HasReply c.args.line) c.in-Some.is c.requires)
+
+pub returns-in_ok-reply-in-None-clause-flushes : goal.returns-in_ok-reply-in-None-clause-flushes
+returns-in_ok-reply-in-None-clause-flushes g c =
+    flush-flushes g.F.Flusher.flushed c.args.flusher.now c.flush.new.self c.args.line
+    (subst (HasReply c.args.line) c.in-None.is c.requires) c.flushed.result c.flushed.ensures
+    c.in_ok-reply-in-None.reply c.in_ok-reply-in-None.ensures.flushed
