@@ -1,0 +1,5 @@
+pub mod Takings
+pub mod OwnLines
+pub mod SharedLines
+pub mod NotedLines
+pub mod Starting

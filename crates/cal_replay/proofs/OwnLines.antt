@@ -1,0 +1,190 @@
+-- A line that is its thread's own.
+use Rattle.std.proofs.Common.{◌≡◌, ℕ, ◌+◌, ◌<◌, ◌≤◌, List, [], ◌++◌, length, map, Bool, true, false}
+use Rattle.std.proofs.Common.{if◌then◌else◌, refl, sym, ap, ◌∙◌, subst, arith, inl, inr, ◌⊎◌}
+use Rattle.std.specs.Prelude.{Option, unwrap_or, ◌&&◌}
+use Rattle.std.specs.List.{list_any}
+use Rattle.std.proofs.lemmas.Bool.{cases_lt}
+use Rattle.std.proofs.lemmas.List.{length-append, length-map, map-append}
+use Rattle.cal_board.specs.Blackboard.{Blackboard}
+use Rattle.cal_notes.specs.Notes.{IsNotedReply, OfOthers, known_journal}
+use Rattle.cal_notes.specs.Running.{Learns, RunsNext}
+use Rattle.cal_once.specs.Layout.{times}
+use Rattle.cal_once.specs.Seats.{view}
+use Rattle.cal_process.specs.Operations.{history_of, placed_as}
+use Rattle.cal_process.specs.declared.common.Common.{Common}
+use Rattle.cal_process.specs.declared.replica.Replica.{Replica}
+use Rattle.cal_replay.proofs.Takings.{looks-published, taken-others}
+use Rattle.cal_replay.specs.Steps.{Runs, Sees, noted_line, noted_with}
+use Rattle.cal_replay.specs.Workers.{script_of}
+use Rattle.cal_replay.specs.declared.shared.Shared.{Shared}
+use Rattle.cal_run.specs.Lawful.{IsRead}
+use Rattle.cal_run.specs.Lines.{is_process_line, takes}
+use Rattle.cal_run.specs.Steps.{ThreadState, acted_on, changed, found_reply, is_accepted, looks}
+use Rattle.cal_run.specs.Steps.{reading_of, reply_to_line, state_after}
+use Rattle.cal_script.specs.declared.journal.LineNote.{LineNote}
+use Rattle.cal_script.specs.declared.journal.Placed.{Placed}
+use Rattle.cal_script.specs.declared.journal.Reply as replies
+use Rattle.cal_script.specs.declared.journal.Reply.TheVariants as reply
+use Rattle.cal_script.specs.declared.script.Channel.{Channel}
+use Rattle.cal_script.specs.declared.script.Line as lines
+use Rattle.cal_script.specs.declared.script.Line.TheVariants as line
+use Rattle.cal_script.specs.declared.script.Script.{Script}
+use Rattle.cal_thread.proofs.ThreadLemmas.{line-done, own-after}
+use Rattle.cal_thread.specs.Lines.{Looks, MeetsOwn}
+use Rattle.cal_thread.specs.Threads.{IsThread}
+use Rattle.cal_thread.specs.declared.looking.Met.{Met}
+use Rattle.cal_thread.specs.declared.thread.Thread.{Thread}
+use Rattle.cal_value.specs.declared.variant.Variant.{Variant}
+use Rattle.cal_words.specs.declared.op.OpRec.{OpRec}
+
+-- ---- notes
+
+-- whether a line takes a reading, by its reply
+abbrev pub is_due : Script → lines.Line → Option replies.Reply → Bool
+is_due script l found = list_any
+    (λ (c : Channel). c.timer && (is_accepted found && takes script c l)) script.channels
+
+-- a reading that is as it should be, by one journal and by another with the same clock
+pub read-by : (script : Script) (real : Bool) (g h : List Placed) (due due' : Bool)
+    (shown shown' : ℕ) (reading : Option ℕ) → due ≡ due' → shown ≡ shown'
+    → IsRead script (known_journal real g) due shown reading
+    → IsRead script (known_journal real h) due' shown' reading
+read-by script real g h due due' shown shown' reading e s r = record {
+  there = r.there ∙ e;
+  value = λ not_real is. r.value not_real (e ∙ is) ∙ ap (λ (n : ℕ). Some n) s;
+}
+
+-- the reply that a board gives is noted, and that to a flush is merged
+module _ (script : Script) (b : Blackboard Variant) (t : Thread) (done seen sees : ℕ)
+    (reading : Option ℕ) (state : ThreadState) where
+  abbrev replied : lines.Line → Option replies.Reply → LineNote
+  replied l found = record { reply = unwrap_or found reply.Merged; seen = sees; reading = reading }
+
+  pub reply-noted : (l : lines.Line) → IsNotedReply (noted_line t done seen l
+      (replied l (reply_to_line script b l)) state) (reply_to_line script b l)
+  reply-noted (line.Begin a v) = refl
+  reply-noted (line.End a) = refl
+  reply-noted (line.Set a v) = refl
+  reply-noted line.Snapshot = refl
+  reply-noted (line.Flush c) = tt
+  reply-noted (line.Tick n) = refl
+
+pub found-noted : (script : Script) (history : List Placed) (t : Thread) (done seen : ℕ)
+    (l : lines.Line) (sees : ℕ) (reading : Option ℕ) (state : ThreadState)
+    (found : Option replies.Reply)
+    → ((note : LineNote) → note.seen ≡ sees → found_reply script history l note state ≡ found)
+    → (note : LineNote)
+    → note ≡ record { reply = unwrap_or found reply.Merged; seen = sees; reading = reading }
+    → IsNotedReply (noted_line t done seen l note state)
+    (found_reply script history l note state)
+found-noted script history t done seen l sees reading state found is note e =
+    let made : LineNote =
+    record { reply = unwrap_or found reply.Merged; seen = sees; reading = reading } in
+    let same : found_reply script history l made state ≡ found = is made refl in
+    let by : IsNotedReply (noted_line t done seen l made state)
+    (found_reply script history l made state) =
+    subst (λ (r : replies.Reply). IsNotedReply (noted_line t done seen l
+    (record { reply = r; seen = sees; reading = reading }) state)
+    (found_reply script history l made state))
+    (ap (λ (o : Option replies.Reply). unwrap_or o reply.Merged) same)
+    (reply-noted script (acted_on script history l made state) t done seen sees reading
+    state l) in
+    subst (λ (n : LineNote). IsNotedReply (noted_line t done seen l n state)
+    (found_reply script history l n state)) (sym e) by
+
+-- ---- the line
+
+none-published : (ps : List ℕ) (seen place : ℕ) → ((q : ℕ) → 0 < times q ps → q < seen)
+    → seen ≤ place → times place ps ≡ 0
+none-published ps seen place below behind = by (cases_lt 0 (times place ps))
+  where
+    by : (0 < times place ps) ⊎ (times place ps ≤ 0) → times place ps ≡ 0
+    by (inl some) = let less = below place some in absurd (omega (arith, less, behind))
+    by (inr none) = omega (arith, none)
+
+-- what such a line learns of the history
+own-learns : (look : Bool) (thread number : ℕ) (ops : List OpRec) (common : Common)
+    (old new : Replica) → OfOthers thread (history_of ops) → Looks common old new ops look
+    → Learns false look (record { thread = thread; line = number }) (history_of ops)
+own-learns true thread number ops common old new others l = others
+own-learns false thread number ops common old new others l = ap history_of l.0
+
+module _ (shared : Shared) (old mid new : Thread) (l : lines.Line) (met : Met)
+    (reading : Option ℕ) (done : ℕ) (h : List OpRec) (state : ThreadState)
+    (own : is_process_line (script_of shared) l ≡ false)
+    (w : IsThread shared.common old done h state)
+    (m : MeetsOwn shared.common old mid l met done h state)
+    (number : mid.number ≡ old.number)
+    (read : IsRead (script_of shared)
+    (known_journal shared.real (history_of h ++ history_of m.ops))
+    (is_due (script_of shared) l met.reply) mid.clock reading)
+    (process : new.process ≡ mid.process)
+    (makes : (note : LineNote) → reading_of note ≡ unwrap_or reading 0
+    → IsThread shared.common mid done (h ++ m.ops) state
+    → IsThread shared.common new done (h ++ m.ops)
+    (if met.accepted then changed (script_of shared) (history_of (h ++ m.ops)) l note state
+    else state)) where
+  abbrev script : Script
+  script = script_of shared
+
+  abbrev hist : List Placed
+  hist = history_of h ++ history_of m.ops
+
+  abbrev note : LineNote
+  note = noted_with (record {
+    reply = unwrap_or met.reply reply.Merged;
+    reading = reading;
+  }) new
+
+  hist-is : history_of (h ++ m.ops) ≡ hist
+  hist-is = map-append placed_as h m.ops
+
+  found : (n : LineNote) → found_reply script hist l n state ≡ met.reply
+  found n = ap (λ (ps : List Placed). found_reply script ps l n state) (sym hist-is) ∙ m.found n
+
+  long : length hist ≡ new.process.seen
+  long = ap length (sym hist-is) ∙ length-map (h ++ m.ops) placed_as ∙ m.kept.has.taken.long
+      ∙ sym (ap (λ (p : Replica). p.seen) process)
+
+  sees : Looks shared.common old.process new.process m.ops (looks script hist l note state)
+  sees = subst (λ (ps : List Placed). Looks shared.common old.process new.process m.ops
+      (looks script ps l note state)) hist-is
+      (subst (λ (p : Replica). Looks shared.common old.process p m.ops
+      (looks script (history_of (h ++ m.ops)) l note state)) (sym process) (m.sees note))
+
+  others : OfOthers old.number (history_of m.ops)
+  others = subst (λ (n : ℕ). OfOthers n (history_of m.ops)) number
+      (taken-others shared.common mid h m.ops state m.kept.has (λ place behind within.
+      let same = looks-published shared.common old.process mid.process m.ops
+      (looks script (history_of (h ++ m.ops)) l note state) (m.sees note) in
+      let was = w.has.taken.long in
+      ap (times place) same ∙ none-published (view old.process.log).published old.process.seen
+      place w.below (omega (arith, behind, was))))
+
+  after : (if met.accepted then changed script (history_of (h ++ m.ops)) l note state else state)
+      ≡ state_after script hist l note state
+  after = ap (λ (b : Bool). if b then changed script hist l note state else state)
+      (m.accepted ∙ ap is_accepted (sym (found note)))
+      ∙ sym (own-after script hist l note state own)
+
+  pub own-runs : Runs shared old new l note done h state
+  own-runs = record {
+    ops = m.ops;
+    next = λ seen. record {
+      seen = sym long;
+      learns = subst (λ (p : Bool). Learns p (looks script hist l note state)
+          (record { thread = old.number; line = done + 1 }) (history_of m.ops)) (sym own)
+          (own-learns (looks script hist l note state) old.number (done + 1) m.ops shared.common
+          old.process new.process others sees);
+      read = read-by script shared.real hist hist (is_due script l met.reply)
+          (is_due script l (found_reply script hist l note state)) mid.clock state.clock reading
+          (ap (is_due script l) (sym (found note))) m.kept.has.clock read;
+      answered = found-noted script hist old done seen l new.process.seen reading state met.reply
+          (λ n is. found n) note refl;
+    };
+    sees = subst (λ (p : Bool). Sees shared old new done m.ops p
+        (looks script hist l note state)) (sym own) sees;
+    kept = line-done shared.common new done (h ++ m.ops) (state_after script hist l note state)
+        (subst (λ (s : ThreadState). IsThread shared.common new done (h ++ m.ops) s) after
+        (makes note refl m.kept));
+  }

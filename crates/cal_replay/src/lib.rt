@@ -1,0 +1,19 @@
+//! The running threads of a replay: a worker is a running thread with the notes of its lines so far.
+//!
+//! `step` runs a worker's next line, over the tree and the history that all workers share. The layer
+//! above uses that each line with its note keeps the rules of journals by what its thread has seen of
+//! the history, whatever other threads append meanwhile, and that a clock was asked for just the
+//! readings that are noted. Nothing is promised of a worker that ran out of memory, nor of when
+//! another thread's operation is seen.
+#![tactic(auto)]
+
+mod answer;
+mod own_line;
+mod reading;
+mod shared;
+mod shared_line;
+mod step;
+mod worker;
+
+pub use shared::Shared;
+pub use worker::Worker;

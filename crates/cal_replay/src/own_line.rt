@@ -1,0 +1,91 @@
+//! A line that is its thread's own.
+ghost use Rattle.std.specs.Prelude.{◌≡◌, ℕ, false, if◌then◌else◌, List, IfOk, OnOk};
+ghost use Rattle.cal_process.specs.Operations.{history_of};
+ghost use Rattle.cal_process.specs.Replicas.{IsCommon};
+ghost use Rattle.cal_replay.specs.Readings.{Asked, off_clock};
+ghost use Rattle.cal_replay.specs.Steps.{Runs, noted_with};
+ghost use Rattle.cal_replay.specs.Workers.{IsShared, script_of};
+ghost use Rattle.cal_run.specs.Lines.{is_process_line};
+ghost use Rattle.cal_run.specs.Steps.{ThreadState, changed, reading_of};
+ghost use Rattle.cal_script.specs.Valid.{IsPlaced};
+ghost use Rattle.cal_script.specs.declared.journal.LineNote as notes;
+ghost use Rattle.cal_thread.specs.Threads.{IsSomeThread, IsThread};
+ghost use Rattle.cal_words.specs.declared.op.OpRec as words;
+
+use crate::Shared;
+use crate::answer::Answer;
+use crate::reading::read_line;
+use cal_base::Clock;
+use cal_process::Common;
+use cal_script::{Line, Reply};
+use cal_thread::Thread;
+use cal_value::OutOfMemory;
+use std::alloc::Global;
+
+/// Runs a line that is the thread's own: it is answered, looks where a channel takes a snapshot, and
+/// is done where it is accepted.
+pub(crate) fn run_own<K: Clock>(
+    alloc: Global,
+    shared: &Shared<'_>,
+    thread: &mut Thread,
+    line: Line,
+    clock: &mut K,
+) -> Result<Answer, OutOfMemory>
+    requires shared { IsShared shared.now }
+    requires thread { IsSomeThread shared.now.common thread.old }
+    requires own { is_process_line (script_of shared.now) line ≡ false }
+    requires placed { IsPlaced (script_of shared.now).attributes (script_of shared.now).channels
+        (script_of shared.now).values line }
+    ensures runs { IfOk result (λ answer. (done : ℕ) (h : List words.OpRec) (state : ThreadState)
+        → IsThread shared.now.common thread.old done h state
+        → Runs shared.now thread.old thread.new line (noted_with answer thread.new) done h state) }
+    ensures asked { IfOk result (λ answer.
+        Asked K.given clock.old clock.new (off_clock shared.now.real answer.reading)) }
+    ensures number { OnOk result (thread.new.number ≡ thread.old.number) }
+    ensures timed { OnOk result (thread.new.timed ≡ thread.old.timed) }
+{
+    let met = thread.look(alloc, &shared.common, line)?;
+    let shown = thread.clock;
+    let reading = read_line(shared, line, met.reply, shown, clock);
+    change_if(
+        alloc,
+        &shared.common,
+        thread,
+        line,
+        met.accepted,
+        reading.unwrap_or(0),
+    )?;
+    Ok(Answer {
+        reply: met.reply.unwrap_or(Reply::Merged),
+        reading,
+    })
+}
+
+/// Makes the change of a line that has this reading, if it is accepted.
+#[inline(always)]
+fn change_if(
+    alloc: Global,
+    common: &Common<'_>,
+    thread: &mut Thread,
+    line: Line,
+    accepted: bool,
+    reading: u64,
+) -> Result<(), OutOfMemory>
+    requires common { IsCommon common.now }
+    requires thread { IsSomeThread common.now thread.old }
+    requires placed { IsPlaced common.now.script.now.attributes common.now.script.now.channels
+        common.now.script.now.values line }
+    ensures changed { OnOk result ((done : ℕ) (h : List words.OpRec) (state : ThreadState)
+        (note : notes.LineNote) → reading_of note ≡ reading
+        → IsThread common.now thread.old done h state
+        → IsThread common.now thread.new done h (if accepted
+        then changed common.now.script.now (history_of h) line note state else state)) }
+    ensures process { OnOk result (thread.new.process ≡ thread.old.process) }
+    ensures number { OnOk result (thread.new.number ≡ thread.old.number) }
+    ensures timed { OnOk result (thread.new.timed ≡ thread.old.timed) }
+{
+    if accepted {
+        thread.change(alloc, common, line, reading)?;
+    }
+    Ok(())
+}

@@ -1,0 +1,116 @@
+//! A worker's next line.
+ghost use Rattle.std.specs.Prelude.{◌≡◌, ◌+◌, ◌<◌, nat_lt, length, Some, IfOk, OnOk, ◌++◌, ◌∷◌, []};
+ghost use Rattle.cal_replay.specs.Steps.{StepsOver, noted_with};
+ghost use Rattle.cal_replay.specs.Workers.{IsShared, IsSomeWorker, lines_of, script_of};
+ghost use Rattle.cal_run.specs.Lines.{line_at};
+ghost use Rattle.cal_script.specs.Valid.{IsRunnable};
+
+use crate::answer::Answer;
+use crate::own_line::run_own;
+use crate::shared_line::run_shared;
+use crate::{Shared, Worker};
+use cal_base::{Clock, Gate};
+use cal_process::op_of_line;
+use cal_script::{Line, LineNote, Script};
+use cal_value::OutOfMemory;
+use std::alloc::Global;
+
+impl Worker {
+    /// Runs the next line and notes it, when the gate has let it pass, and answers whether lines
+    /// remain. Behind an `Err` the worker may not be stepped again.
+    pub fn step<K: Clock, G: Gate>(
+        &mut self,
+        alloc: Global,
+        shared: &Shared<'_>,
+        clock: &mut K,
+        gate: &G,
+    ) -> Result<bool, OutOfMemory>
+        requires shared { IsShared shared.now }
+        requires worker { IsSomeWorker shared.now self.old }
+        requires remains { length self.old.note.lines
+            < length (lines_of (script_of shared.now) self.old.thread.number) }
+        ensures steps { OnOk result
+            (StepsOver shared.now K.given clock.old clock.new self.old self.new) }
+        ensures more { IfOk result (λ more. more ≡ nat_lt (length self.new.note.lines)
+            (length (lines_of (script_of shared.now) self.old.thread.number))) }
+    {
+        let thread = self.thread.number;
+        let done = self.note.lines.len();
+        let next = next_line(shared.common.script, thread, done);
+        gate.pass(thread, next.number);
+        self.run_line(alloc, shared, next.line, next.number, clock)?;
+        Ok(next.more)
+    }
+
+    /// Runs a line of this number, which is the next, and notes it.
+    fn run_line<K: Clock>(
+        &mut self,
+        alloc: Global,
+        shared: &Shared<'_>,
+        line: Line,
+        number: u32,
+        clock: &mut K,
+    ) -> Result<(), OutOfMemory>
+        requires shared { IsShared shared.now }
+        requires worker { IsSomeWorker shared.now self.old }
+        requires next { line_at (script_of shared.now) self.old.thread.number number ≡ Some line }
+        requires number { number ≡ length self.old.note.lines + 1 }
+        ensures steps { OnOk result
+            (StepsOver shared.now K.given clock.old clock.new self.old self.new) }
+    {
+        let thread = self.thread.number;
+        match op_of_line(shared.common.script, thread, number, line) {
+            Some(op) => {
+                let answer = run_shared(alloc, shared, &mut self.thread, line, op, clock)?;
+                self.note(answer)?;
+                Ok(())
+            }
+            None => {
+                let answer = run_own(alloc, shared, &mut self.thread, line, clock)?;
+                self.note(answer)?;
+                Ok(())
+            }
+        }
+    }
+
+    /// Notes what a line was answered, and what was seen by its end.
+    fn note(&mut self, answer: Answer) -> Result<(), OutOfMemory>
+        ensures noted { OnOk result
+            (self.new.note.lines ≡ self.old.note.lines ++ noted_with answer self.old.thread ∷ []) }
+        ensures start { OnOk result (self.new.note.start ≡ self.old.note.start) }
+        ensures thread { OnOk result (self.new.thread ≡ self.old.thread) }
+    {
+        let note = LineNote {
+            reply: answer.reply,
+            seen: self.thread.process.seen,
+            reading: answer.reading,
+        };
+        self.note.lines.push(note)?;
+        Ok(())
+    }
+}
+
+/// The next line of a thread: its number from 1, the line, and whether there are more behind it.
+#[derive(Clone, Copy)]
+struct Next {
+    line: Line,
+    number: u32,
+    more: bool,
+}
+
+/// That of a thread that has done so many.
+#[inline(always)]
+fn next_line(script: &Script, thread: u32, done: usize) -> Next
+    requires runnable { IsRunnable script.now }
+    requires remains { done < length (lines_of script.now thread) }
+    ensures line { line_at script.now thread (done + 1) ≡ Some result.line }
+    ensures number { result.number ≡ done + 1 }
+    ensures more { result.more ≡ nat_lt (done + 1) (length (lines_of script.now thread)) }
+{
+    let lines = script.threads.as_slice()[thread as usize].as_slice();
+    Next {
+        line: lines[done],
+        number: done as u32 + 1,
+        more: done + 1 < lines.len(),
+    }
+}

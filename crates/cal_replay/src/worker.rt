@@ -1,0 +1,54 @@
+//! A running thread with its notes, between two lines.
+ghost use Rattle.std.specs.Prelude.{◌≡◌, []};
+ghost use Rattle.cal_replay.specs.Readings.{Asked, off_clock};
+ghost use Rattle.cal_replay.specs.Workers.{IsHired, IsShared, IsWorker};
+ghost use Rattle.cal_run.specs.Steps.{at_start};
+ghost use Rattle.cal_thread.specs.Threads.{IsThread};
+ghost use Rattle.cal_replay.specs.declared.shared.Shared as shares;
+
+use crate::Shared;
+use crate::reading::read_start;
+use cal_base::Clock;
+use cal_script::ThreadNote;
+use cal_thread::Thread;
+use cal_value::Seq;
+use std::alloc::Global;
+
+/// A thread of a run between two lines, and what was noted of it: its start reading, and each line
+/// so far.
+#[derive(Drop)]
+pub struct Worker {
+    pub thread: Thread,
+    pub note: ThreadNote,
+}
+
+impl Worker {
+    /// The worker of a thread before its first line, which isn't started. It takes no memory.
+    pub fn new(alloc: Global, thread: Thread) -> Worker
+        ensures hired { (shared : shares.Shared) → IsThread shared.common thread 0 [] at_start
+            → thread.timed ≡ shared.timers.some → IsHired shared result }
+        ensures thread { result.thread ≡ thread }
+    {
+        Worker {
+            thread,
+            note: ThreadNote {
+                start: None,
+                lines: Seq::new(alloc),
+            },
+        }
+    }
+
+    /// Takes the start reading, where some channel has the timer: with the script's clock 0, and with
+    /// real clocks this one's next reading.
+    pub fn start<K: Clock>(&mut self, shared: &Shared<'_>, clock: &mut K)
+        requires shared { IsShared shared.now }
+        requires worker { IsHired shared.now self.old }
+        ensures worker { IsWorker shared.now self.new [] }
+        ensures noted { self.new.note.lines ≡ [] }
+        ensures number { self.new.thread.number ≡ self.old.thread.number }
+        ensures asked { Asked K.given clock.old clock.new
+            (off_clock shared.now.real self.new.note.start) }
+    {
+        self.note.start = read_start(shared, clock);
+    }
+}
