@@ -3,3 +3,4 @@ pub mod OwnLines
 pub mod SharedLines
 pub mod NotedLines
 pub mod Starting
+mod ShowingLemmas

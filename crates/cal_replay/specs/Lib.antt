@@ -1,3 +1,5 @@
 pub mod Readings
 pub mod Workers
 pub mod Steps
+pub mod Flushing
+pub mod Showing

@@ -8,12 +8,16 @@
 #![tactic(auto)]
 
 mod answer;
+mod flushing;
 mod own_line;
 mod reading;
 mod shared;
 mod shared_line;
+mod showing;
 mod step;
 mod worker;
 
+pub use flushing::flush;
 pub use shared::Shared;
+pub use showing::{ShownLine, show};
 pub use worker::Worker;
