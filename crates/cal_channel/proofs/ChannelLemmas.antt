@@ -1,15 +1,19 @@
 -- What is added to a channel's trace and table means a record more.
-use Rattle.std.proofs.Common.{◌≡◌, List, [], ◌∷◌, ◌++◌, map, ap, subst, sym, refl, ◌∙◌}
-use Rattle.std.specs.Prelude.{Option, None, Some, IfSome, All}
+use Rattle.std.proofs.Common.{◌≡◌, Bool, true, List, [], ◌∷◌, ◌++◌, map, ap, subst, sym, refl, ◌∙◌}
+use Rattle.std.specs.Prelude.{Option, None, Some, IfSome, All, is_some}
 use Rattle.std.specs.List.{AllZip}
 use Rattle.std.specs.Option.{option_map}
 use Rattle.cal_board.proofs.StandingLemmas.{AllZip-append}
+use Rattle.cal_board.specs.declared.opened.Opened.{Opened}
 use Rattle.cal_channel.specs.Channels.{Counts, HasTaken, IsCounted, IsPathShown, IsTraced, Means}
 use Rattle.cal_channel.specs.Channels.{TakesMore}
 use Rattle.cal_channel.specs.Shown.{numbered_entry}
 use Rattle.cal_channel.specs.Traces.{ShownSnap}
-use Rattle.cal_channel.specs.Values.{ChannelValue, Counted}
+use Rattle.cal_channel.specs.Values.{ChannelValue, Counted, KeepsServices}
 use Rattle.cal_once.specs.declared.seat.RowSeat.{RowSeat}
+use Rattle.cal_run.specs.Held.{Shows}
+use Rattle.cal_run.specs.Snapshots.{Sight}
+use Rattle.cal_run.specs.declared.moment.Moment.{Moment}
 use Rattle.cal_script.specs.declared.script.Script.{Script}
 use Rattle.cal_snap.specs.Numbered.{IsKnown, entry_of}
 use Rattle.cal_snap.specs.declared.numbered.NumberedEntry.{NumberedEntry}
@@ -21,6 +25,7 @@ use Rattle.cal_table.specs.Tables.{TableValue}
 use Rattle.cal_tree.specs.declared.tree.Tree.{Tree}
 use Rattle.cal_value.specs.declared.attribute.Attribute.{Attribute}
 use Rattle.cal_value.specs.declared.record.Rec.{Rec}
+use Rattle.cal_value.specs.declared.variant.Variant.{Variant}
 use Rattle.cal_words.specs.declared.node.NodeId.{NodeId}
 use Rattle.cal_words.specs.declared.sort.NodeSort.{NodeSort}
 
@@ -79,3 +84,46 @@ module _ (attributes : List Attribute) (script : Script) (tree : Tree) (seat : R
     table = table-more old.table new.table snap.nodes
         (map (numbered_entry script.values) snap.entries) unflushed counted means had.table;
   }
+
+-- ---- services
+
+is_some-mapped : {A B : Type 0} (f : A → B) (o : Option A) → is_some (option_map f o) ≡ is_some o
+is_some-mapped f None = refl
+is_some-mapped f (Some x) = refl
+
+shape-kept : (old new : Option TableValue) (nodes : List NodeId) (entries : List NumberedEntry)
+    → Counted nodes entries old new → option_map (λ (t : TableValue). t.shape) new
+    ≡ option_map (λ (t : TableValue). t.shape) old
+shape-kept None new nodes entries counted = ap (option_map (λ (t : TableValue). t.shape)) counted
+shape-kept (Some old) new nodes entries counted =
+    ap (option_map (λ (t : TableValue). t.shape)) counted.1 ∙ ap Some counted.2.added.shape
+
+pub services-kept : (old new : ChannelValue) (snap : ShownSnap) (entries : List NumberedEntry)
+    → new.trace ≡ option_map (λ (snaps : List ShownSnap). snaps ++ snap ∷ []) old.trace
+    → Counted snap.nodes entries old.table new.table → KeepsServices old new
+services-kept old new snap entries traced counted = record {
+  trace = ap is_some traced
+      ∙ is_some-mapped (λ (snaps : List ShownSnap). snaps ++ snap ∷ []) old.trace;
+  shape = shape-kept old.table new.table snap.nodes entries counted;
+}
+
+-- ---- what a moment shows
+
+-- a channel without the timer needs no readings
+pub shows-timed : {N : Type 0} (is_node : N → List (Opened Variant) → Type 0) (script : Script)
+    (m : Moment N) (s : Sight) (timed : Bool) → (timed ≡ true → m.timed ≡ true)
+    → Shows is_node script m s → Shows is_node script (record {
+      board = m.board;
+      readings = m.readings;
+      process = m.process;
+      reading = m.reading;
+      previous = m.previous;
+      timed = timed;
+    }) s
+shows-timed is_node script m s timed both h = record {
+  mine = h.mine;
+  process = h.process;
+  readings = λ is. h.readings (both is);
+  reading = h.reading;
+  previous = h.previous;
+}

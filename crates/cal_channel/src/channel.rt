@@ -53,17 +53,10 @@ impl ThreadChannel {
         channel: &Channel,
         shape: Option<&TableShape>,
     ) -> Result<ThreadChannel, OutOfMemory>
-        ensures { IfOk result (λ c. c ≡ new_channel channel.now.trace (option_copied shape)) }
+        ensures { IfOk result (λ c. c ≡ new_channel channel.now.trace (option_copied shape.entry)) }
     {
-        let trace = if channel.trace {
-            Some(Trace::new(alloc))
-        } else {
-            None
-        };
-        let table = match shape {
-            Some(shape) => Some(Table::new(alloc, shape)?),
-            None => None,
-        };
+        let trace = new_trace(alloc, channel.trace);
+        let table = new_table(alloc, shape)?;
         Ok(ThreadChannel {
             previous: 0,
             trace,
@@ -150,9 +143,7 @@ impl ThreadChannel {
             .fill(alloc, script, numbers, channel, op, &shown, nodes, prober)?;
         add_to_trace(alloc, &mut self.trace, &self.draft)?;
         add_to_table(alloc, script, &mut self.table, &mut self.snap, &self.draft)?;
-        if channel.timer {
-            self.previous = moment.reading;
-        }
+        self.previous = previous_after(channel.timer, moment.reading, self.previous);
         Ok(())
     }
 
@@ -192,12 +183,13 @@ impl ThreadChannel {
             ≡ (if channel.now.timer && (accepted && takes script.now channel.now line)
             then moment.now.reading else self.old.previous)) }
     {
-        if !(accepted && takes(script, channel, line)) {
-            return Ok(false);
+        if is_taking(script, channel, line, accepted) {
+            let op = operation_of(line);
+            self.take(alloc, script, numbers, channel, op, moment, nodes, prober)?;
+            Ok(true)
+        } else {
+            Ok(false)
         }
-        let op = operation_of(line);
-        self.take(alloc, script, numbers, channel, op, moment, nodes, prober)?;
-        Ok(true)
     }
 
     /// Takes the table out, for a flush: what was taken since the part before it. An `Err` leaves
@@ -210,10 +202,8 @@ impl ThreadChannel {
         ensures err { OnErr result (self.new ≡ self.old) }
     {
         let _ = &self.trace;
-        match &mut self.table {
-            Some(table) => table.take(),
-            None => unreachable!(),
-        }
+        let part = take_part(&mut self.table)?;
+        Ok(part)
     }
 
     /// Puts a part back that a flush didn't merge, where nothing was taken since.
@@ -238,7 +228,10 @@ fn add_to_trace(
     } ∷ []) trace.old) }
 {
     match trace {
-        Some(trace) => trace.push(alloc, draft),
+        Some(trace) => {
+            trace.push(alloc, draft)?;
+            Ok(())
+        }
         None => Ok(()),
     }
 }
@@ -261,7 +254,64 @@ fn add_to_table(
         None => Ok(()),
         Some(table) => {
             draft.number(alloc, script, snap)?;
-            table.add_numbered(snap)
+            table.add_numbered(snap)?;
+            Ok(())
         }
+    }
+}
+
+/// The reading before, behind a snapshot at a reading: that one, where the channel has the timer.
+fn previous_after(timer: bool, reading: u64, previous: u64) -> u64
+    ensures { result ≡ (if timer then reading else previous) }
+{
+    if timer { reading } else { previous }
+}
+
+/// Whether a channel takes a snapshot on a line, of which it is known whether it is accepted.
+fn is_taking(script: &Script, channel: &Channel, line: Line, accepted: bool) -> bool
+    ensures { result ≡ (accepted && takes script.now channel.now line) }
+{
+    if accepted {
+        takes(script, channel, line)
+    } else {
+        false
+    }
+}
+
+/// Takes the table out and leaves an empty one. An `Err` leaves it.
+fn take_part(table: &mut Option<Table>) -> Result<Table, OutOfMemory>
+    requires { is_some table.old ≡ true }
+    ensures part { IfOk result (λ part. table.old ≡ Some part) }
+    ensures left { IfOk result (λ part. table.new ≡ Some (empty_table part.shape)) }
+    ensures err { OnErr result (table.new ≡ table.old) }
+{
+    match table {
+        Some(table) => {
+            let part = table.take()?;
+            Ok(part)
+        }
+        None => unreachable!(),
+    }
+}
+
+fn new_trace(alloc: Global, has_trace: bool) -> Option<Trace>
+    ensures { result ≡ (if has_trace then Some [] else None) }
+{
+    if has_trace {
+        Some(Trace::new(alloc))
+    } else {
+        None
+    }
+}
+
+fn new_table(alloc: Global, shape: Option<&TableShape>) -> Result<Option<Table>, OutOfMemory>
+    ensures { IfOk result (λ table. table ≡ option_map empty_table (option_copied shape.entry)) }
+{
+    match shape {
+        Some(shape) => {
+            let table = Table::new(alloc, shape)?;
+            Ok(Some(table))
+        }
+        None => Ok(None),
     }
 }

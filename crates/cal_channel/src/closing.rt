@@ -1,4 +1,4 @@
-ghost use Rattle.std.specs.Prelude.{◌≡◌, false, List, IfOk, Some};
+ghost use Rattle.std.specs.Prelude.{◌≡◌, false, if◌then◌else◌, List, IfOk, Some};
 ghost use Rattle.cal_board.specs.Blackboard.{slot_number};
 ghost use Rattle.cal_board.specs.Slots.{last_value, opened_in};
 ghost use Rattle.cal_board.specs.Standing.{StandsForSome};
@@ -8,6 +8,7 @@ ghost use Rattle.cal_hand.specs.Nodes.{NodeAt};
 ghost use Rattle.cal_once.specs.Seats.{view};
 ghost use Rattle.cal_once.specs.Views.{Learns};
 ghost use Rattle.cal_run.specs.Adding.{AsksFor};
+ghost use Rattle.cal_run.specs.Lines.{is_shared};
 ghost use Rattle.cal_tree.specs.Seats.{IsTreeSeat};
 ghost use Rattle.cal_value.specs.declared.variant.Variant as variants;
 ghost use Rattle.cal_words.specs.declared.node.NodeId as nodes_of;
@@ -78,12 +79,26 @@ pub fn closed(
     match op {
         None => Ok(None),
         Some(op) => {
-            if is_shared(script, op) {
-                closed_on(alloc, script, tree, seat, op, process, words)
-            } else {
-                closed_on(alloc, script, tree, seat, op, board, words)
-            }
+            let acted = acted_on(script, op, board, process);
+            let found = closed_on(alloc, script, tree, seat, op, acted, words)?;
+            Ok(found)
         }
+    }
+}
+
+/// The board that an operation acts on.
+fn acted_on<'a>(
+    script: &Script,
+    op: Operation,
+    board: &'a Board<NodeId>,
+    process: &'a Board<NodeId>,
+) -> &'a Board<NodeId>
+    ensures { result.now ≡ (if is_shared script.now op then process.now else board.now) }
+{
+    if is_shared(script, op) {
+        process
+    } else {
+        board
     }
 }
 
@@ -105,7 +120,9 @@ fn closed_on(
         AsksFor (IsRead tree.now seat.new closed) script.now board.now op) }
 {
     if op.code == OpCode::End {
-        closed_in(alloc, tree, seat, attr_ref(script, op.attr), board, words)
+        let attr = attr_ref(script, op.attr);
+        let found = closed_in(alloc, tree, seat, attr, board, words)?;
+        Ok(found)
     } else {
         Ok(None)
     }
