@@ -168,7 +168,7 @@ fn show_to<P: Prober>(
         seat: &thread.tree,
         closed,
     };
-    kept.take_if(
+    let taken = kept.take_if(
         alloc,
         common.script,
         numbers,
@@ -178,6 +178,12 @@ fn show_to<P: Prober>(
         &moment,
         &nodes,
         prober,
-    )?;
+    );
+    let ClosedNodes {
+        tree: _,
+        seat: _,
+        closed: _,
+    } = nodes;
+    taken?;
     Ok(())
 }
