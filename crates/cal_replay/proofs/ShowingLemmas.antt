@@ -3,7 +3,7 @@ use Rattle.std.proofs.Common.{◌≡◌, ◌≢◌, ◌⊎◌, ℕ, suc, zero, �
 use Rattle.std.proofs.Common.{Bool, true, false, if◌then◌else◌, refl, sym, ap, ◌∙◌, subst, arith}
 use Rattle.std.proofs.Common.{inl, inr, slice_set}
 use Rattle.std.specs.Prelude.{Option, Some, ◌&&◌, ◌||◌, unwrap_or}
-use Rattle.std.specs.List.{list_any, slice_get}
+use Rattle.std.specs.List.{All, list_any, slice_get}
 use Rattle.std.proofs.lemmas.Bool.{cases_lt}
 use Rattle.std.proofs.lemmas.List.{append-nil, length-set}
 use Rattle.std.proofs.lemmas.Option.{slice_get_within}
@@ -14,6 +14,7 @@ use Rattle.cal_once.specs.Layout.{times}
 use Rattle.cal_once.specs.Seats.{view}
 use Rattle.cal_plog.specs.History.{OwnBefore}
 use Rattle.cal_plog.specs.Seats.{slots_of}
+use Rattle.cal_process.proofs.OperationLemmas.{Held-later}
 use Rattle.cal_process.specs.declared.common.Common.{Common}
 use Rattle.cal_replay.specs.Showing.{AreShown, IsShown, OnlyReads, is_taken_by, sight_by, taken_of}
 use Rattle.cal_replay.specs.declared.showing.ShownLine.{ShownLine}
@@ -21,8 +22,10 @@ use Rattle.cal_run.specs.Lines.{takes}
 use Rattle.cal_run.specs.Steps.{ThreadState}
 use Rattle.cal_run.specs.declared.numbers.Numbers.{Numbers}
 use Rattle.cal_script.specs.declared.script.Channel.{Channel}
+use Rattle.cal_thread.proofs.ThreadLemmas.{taken-later}
 use Rattle.cal_thread.specs.Threads.{HasState, IsThread}
 use Rattle.cal_thread.specs.declared.thread.Thread.{Thread}
+use Rattle.cal_tree.specs.Seats.{IsTreeSeat}
 use Rattle.cal_value.specs.declared.record.Rec.{Rec}
 use Rattle.cal_words.specs.declared.op.OpRec.{OpRec}
 
@@ -165,6 +168,30 @@ module _ (common : Common) (numbers : Numbers) (thread : Thread) (shown : ShownL
       within i channel at = slice_get_within common.script.now.channels i channel at
 
 -- ---- a thread that only reads
+
+pub reads-nothing : (t : Thread) → OnlyReads t t
+reads-nothing t = record { same = refl; learns = record { same = refl; more = λ i x s. s } }
+
+-- a thread that has learned of the tree has its state
+pub state-reads : (common : Common) (old new : Thread) (h : List OpRec) (state : ThreadState)
+    → OnlyReads old new → IsTreeSeat common.tree new.tree → HasState common old h state
+    → HasState common new h state
+state-reads common old new h state reads at has =
+    subst (λ (t : Thread). HasState common t h state) (sym reads.same) (record {
+      taken = taken-later common old.tree new.tree old.process h at reads.learns.more has.taken;
+      number = has.number;
+      mine = Held-later common old.tree new.tree reads.learns.more old.board state.board has.mine;
+      readings = has.readings;
+      clock = has.clock;
+    })
+
+-- and has readings where it had them
+pub timed-reads : (old new : Thread) (channels : List Channel) → OnlyReads old new
+    → All (λ (channel : Channel). channel.timer ≡ true → old.timed ≡ true) channels
+    → All (λ (channel : Channel). channel.timer ≡ true → new.timed ≡ true) channels
+timed-reads old new channels reads timed =
+    subst (λ (t : Thread). All (λ (channel : Channel). channel.timer ≡ true → t.timed ≡ true)
+    channels) (sym reads.same) timed
 
 -- a thread that has learned of the tree is behind as many lines as before
 pub thread-reads : (common : Common) (old new : Thread) (done : ℕ) (h : List OpRec)

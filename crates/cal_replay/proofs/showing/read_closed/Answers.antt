@@ -1,0 +1,18 @@
+use Rattle.std.proofs.Common.{refl}
+use Rattle.cal_process.specs.Operations.{history_of}
+use Rattle.cal_replay.proofs.ShowingLemmas.{state-reads}
+use Rattle.cal_run.specs.History.{process_board}
+use Rattle.cal_replay.proofs.showing.read_closed.Goals as goal
+
+pub closed-requires-clause-seat : goal.closed-requires-clause-seat
+closed-requires-clause-seat c = c.requires.has.taken.at_tree
+
+pub closed-requires-clause-board : goal.closed-requires-clause-board
+closed-requires-clause-board c =
+    let t = c.requires in (t.state.board, t.has.mine.stands)
+
+pub closed-requires-clause-process : goal.closed-requires-clause-process
+closed-requires-clause-process c =
+    let t = c.requires in
+    (process_board c.args.common.now.script.now (history_of t.h) c.args.thread.now.process.seen,
+    t.has.taken.held.stands)
