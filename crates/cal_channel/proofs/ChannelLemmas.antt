@@ -5,7 +5,7 @@ use Rattle.std.specs.List.{AllZip}
 use Rattle.std.specs.Option.{option_map}
 use Rattle.cal_board.proofs.StandingLemmas.{AllZip-append}
 use Rattle.cal_board.specs.declared.opened.Opened.{Opened}
-use Rattle.cal_channel.specs.Channels.{Counts, HasTaken, IsCounted, IsPathShown, IsTraced, Means}
+use Rattle.cal_channel.specs.Channels.{Counts, IsCounted, IsPathShown, IsTraced, Means}
 use Rattle.cal_channel.specs.Channels.{TakesMore}
 use Rattle.cal_channel.specs.Shown.{numbered_entry}
 use Rattle.cal_channel.specs.Traces.{ShownSnap}
@@ -17,7 +17,6 @@ use Rattle.cal_run.specs.declared.moment.Moment.{Moment}
 use Rattle.cal_script.specs.declared.script.Script.{Script}
 use Rattle.cal_snap.specs.Numbered.{IsKnown, entry_of}
 use Rattle.cal_snap.specs.declared.numbered.NumberedEntry.{NumberedEntry}
-use Rattle.cal_snap.specs.declared.numbered.NumberedSnap.{NumberedSnap}
 use Rattle.cal_table.proofs.Standing.{StandsFor-merged}
 use Rattle.cal_table.specs.TableLaws.{Same-refl}
 use Rattle.cal_table.specs.Snapshots.{table_of}

@@ -1,13 +1,13 @@
 -- What is read of a node is the last of the open values for which it stands.
-use Rattle.std.proofs.Common.{◌≡◌, ℕ, ◌+◌, ◌-◌, ◌<◌, List, [], ◌∷◌, ◌++◌, length, map, ap, sym, subst}
-use Rattle.std.proofs.Common.{◌∙◌, arith, length-append}
-use Rattle.std.specs.Prelude.{Some, slice_get}
+use Rattle.std.proofs.Common.{◌≡◌, ℕ, ◌-◌, List, [], ◌∷◌, ◌++◌, length, map, ap, subst, ◌∙◌}
+use Rattle.std.proofs.Common.{arith, length-append}
+use Rattle.std.specs.Prelude.{Some}
 use Rattle.std.proofs.lemmas.List.{get_or_push, map-append}
 use Rattle.std.proofs.lemmas.Option.{slice_get-get_or}
 use Rattle.cal_board.specs.PathBoards.{last_opened}
 use Rattle.cal_board.specs.declared.opened.Opened.{Opened}
-use Rattle.cal_channel.specs.Closing.{EndsWith, IsOwnValue}
-use Rattle.cal_hand.specs.Nodes.{NodeAt, node_entry}
+use Rattle.cal_channel.specs.Closing.{IsOwnValue}
+use Rattle.cal_hand.specs.Nodes.{node_entry}
 use Rattle.cal_once.specs.declared.seat.RowSeat.{RowSeat}
 use Rattle.cal_tree.proofs.Ways.{last_split}
 use Rattle.cal_tree.specs.Paths.{NodeEntry}

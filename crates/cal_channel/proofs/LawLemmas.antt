@@ -1,5 +1,6 @@
 -- What a channel has taken stays so, and what its parts stand for.
-use Rattle.std.proofs.Common.{◌≡◌, ℕ, ◌<◌, ◌^◌, Bool, true, false, List, [], length, map, refl, subst, sym, arith}
+use Rattle.std.proofs.Common.{◌≡◌, ℕ, ◌<◌, ◌^◌, Bool, true, false, List, [], length, map, subst}
+use Rattle.std.proofs.Common.{arith}
 use Rattle.std.specs.Prelude.{Option, None, Some, IfSome, if◌then◌else◌}
 use Rattle.std.specs.List.{AllZip}
 use Rattle.std.specs.Option.{option_map}
@@ -15,7 +16,6 @@ use Rattle.cal_once.specs.Views.{KnowsMore}
 use Rattle.cal_once.specs.declared.seat.RowSeat.{RowSeat}
 use Rattle.cal_script.specs.declared.script.Script.{Script}
 use Rattle.cal_snap.specs.declared.numbered.NumberedEntry.{NumberedEntry}
-use Rattle.cal_snap.specs.declared.numbered.NumberedSnap.{NumberedSnap}
 use Rattle.cal_table.specs.TableLaws.{Same-refl}
 use Rattle.cal_table.specs.Tables.{TableValue, empty_table}
 use Rattle.cal_table.specs.declared.shape.TableShape.{TableShape}
@@ -94,7 +94,8 @@ module _ (attributes : List Attribute) (script : Script) (tree : Tree)
 
 -- ---- parts
 
-module _ (attributes : List Attribute) (script : Script) (tree : Tree) (seat : RowSeat NodeSort) where
+module _ (attributes : List Attribute) (script : Script) (tree : Tree)
+    (seat : RowSeat NodeSort) where
   nothing-counted : (shape : TableShape)
       → Counts attributes script tree seat (empty_table shape) []
   nothing-counted shape = record {

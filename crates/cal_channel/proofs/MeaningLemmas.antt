@@ -1,7 +1,7 @@
 -- What a draft holds means the snapshot that boards and services show.
-use Rattle.std.proofs.Common.{◌≡◌, ℕ, suc, ◌+◌, ◌-◌, ◌<◌, List, [], ◌∷◌, ◌++◌, length, get_or, map}
+use Rattle.std.proofs.Common.{◌≡◌, suc, ◌-◌, ◌<◌, List, [], ◌∷◌, ◌++◌, length, get_or, map}
 use Rattle.std.proofs.Common.{ap, subst, sym, refl, ◌∙◌, arith}
-use Rattle.std.specs.Prelude.{Option, None, Some, flat_map}
+use Rattle.std.specs.Prelude.{Option, Some, flat_map}
 use Rattle.std.specs.List.{All, AllZip}
 use Rattle.std.specs.Option.{option_map, option_to_list}
 use Rattle.std.proofs.lemmas.List.{map-append}
@@ -35,7 +35,8 @@ use Rattle.cal_words.specs.declared.sort.NodeSort.{NodeSort}
 
 -- ---- paths
 
-module _ (attributes : List Attribute) (script : Script) (tree : Tree) (seat : RowSeat NodeSort) where
+module _ (attributes : List Attribute) (script : Script) (tree : Tree)
+    (seat : RowSeat NodeSort) where
   P : NodeId → List (Opened Variant) → Type 0
   P = NodeAt tree seat
 

@@ -1,8 +1,8 @@
 -- The numbers that a snapshot shows of boards that a script's lines make are of 64 bits.
-use Rattle.std.proofs.Common.{◌≡◌, ℕ, suc, ◌+◌, ◌-◌, ◌<◌, ◌≤◌, ◌^◌, Bool, true, false, ◌&&◌}
-use Rattle.std.proofs.Common.{if◌then◌else◌, List, [], ◌∷◌, ◌++◌, length, map, refl, ap, subst, sym}
-use Rattle.std.proofs.Common.{get_or, sum, arith, ℤ, pos, negsuc}
-use Rattle.std.specs.Prelude.{Option, Some, None, flat_map, not, unwrap_or, unsigned_abs}
+use Rattle.std.proofs.Common.{◌≡◌, ℕ, suc, ◌-◌, ◌<◌, ◌≤◌, ◌^◌, Bool, true, false, ◌&&◌}
+use Rattle.std.proofs.Common.{if◌then◌else◌, List, [], ◌∷◌, ◌++◌, length, refl, ap, subst}
+use Rattle.std.proofs.Common.{get_or, arith, ℤ, pos, negsuc}
+use Rattle.std.specs.Prelude.{Option, Some, None, not, unwrap_or, unsigned_abs}
 use Rattle.std.specs.List.{All}
 use Rattle.std.specs.Option.{ForSome, option_map, option_to_list}
 use Rattle.std.proofs.lemmas.Bool.{leb-true}
@@ -19,8 +19,8 @@ use Rattle.cal_board.specs.declared.opened.Slot.{Slot}
 use Rattle.cal_channel.specs.Channels.{HasSmallNumber}
 use Rattle.cal_context.specs.Tree.{no_value}
 use Rattle.cal_filter.specs.Numbers.{number_in}
-use Rattle.cal_run.proofs.FitLemmas.{FitsBoard, IsFitted, IsFittedSlot, IsGood, MayBeGood, SaysValue}
-use Rattle.cal_run.proofs.FitLemmas.{opened-fitted}
+use Rattle.cal_run.proofs.FitLemmas.{FitsBoard, IsFitted, IsFittedSlot, IsGood, MayBeGood}
+use Rattle.cal_run.proofs.FitLemmas.{SaysValue, opened-fitted}
 use Rattle.cal_run.proofs.HeldLemmas.{slice_get-All}
 use Rattle.cal_run.proofs.ServiceLemmas.{depths-asked}
 use Rattle.cal_run.specs.Lines.{attr_ref, attribute_of, is_shared, value_of}
@@ -37,7 +37,6 @@ use Rattle.cal_script.specs.declared.script.ProbeKind.TheVariants as probe
 use Rattle.cal_script.specs.declared.script.Script.{Script}
 use Rattle.cal_value.specs.Reading.{IsInRange}
 use Rattle.cal_value.specs.declared.attribute.Attribute.{Attribute}
-use Rattle.cal_value.specs.declared.attribute.Entry.{Entry}
 use Rattle.cal_value.specs.declared.variant.Variant as variants
 use Rattle.cal_value.specs.declared.variant.Variant.TheVariants as variant
 use Rattle.cal_words.specs.declared.op.OpCode as codes

@@ -31,7 +31,8 @@ use Rattle.cal_words.specs.declared.node.NodeId.{NodeId}
 use Rattle.cal_words.specs.declared.sort.NodeSort.{NodeSort}
 
 -- By the attributes of a run's numbers, by its script, and by what a seat knows of the tree:
-module _ (attributes : List Attribute) (script : Script) (tree : Tree) (seat : RowSeat NodeSort) where
+module _ (attributes : List Attribute) (script : Script) (tree : Tree)
+    (seat : RowSeat NodeSort) where
   -- a node stands for open values, and these are their entries
   pub record IsPathShown (node : NodeId) (path : List Entry) : Type 0 where
     pub opened : List (Opened Variant)

@@ -4,8 +4,8 @@ ghost use Rattle.std.specs.Prelude.{is_some, option_copied, option_map};
 ghost use Rattle.cal_channel.specs.Channels.{CanTake, TakesMore};
 ghost use Rattle.cal_channel.specs.Closing.{IsRead};
 ghost use Rattle.cal_channel.specs.Shown.{numbered_entry};
-ghost use Rattle.cal_channel.specs.Values.{Counted, HasRoom, KeepsServices, new_channel, started_at};
-ghost use Rattle.cal_channel.specs.Values.{with_table};
+ghost use Rattle.cal_channel.specs.Values.{Counted, HasRoom, KeepsServices, new_channel};
+ghost use Rattle.cal_channel.specs.Values.{started_at, with_table};
 ghost use Rattle.cal_hand.specs.Nodes.{NodeAt};
 ghost use Rattle.cal_run.specs.Adding.{MayAskFor, MayHavePlaces};
 ghost use Rattle.cal_run.specs.Held.{Shows};
@@ -236,7 +236,8 @@ fn add_to_trace(
     }
 }
 
-/// Adds a snapshot to a table, if there is one, as `snap` which it fills. An `Err` leaves the table.
+/// Adds a snapshot to a table, if there is one, as `snap`, which it fills. An `Err` leaves the
+/// table.
 fn add_to_table(
     alloc: Global,
     script: &Script,

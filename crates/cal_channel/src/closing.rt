@@ -55,9 +55,9 @@ impl<'c> NodeValues<NodeId> for ClosedNodes<'c> {
     }
 }
 
-/// Reads the value that an operation closes, where it is that of a node: for an `end` of a reference
-/// attribute whose slot holds a value. For all others it takes no time and no memory. The node's
-/// words are read into `words`, whose memory serves again; a text takes memory of its own.
+/// Reads the value that an operation closes, where it is that of a node: for an `end` of a
+/// reference attribute whose slot holds a value. For all others it takes no time and no memory. The
+/// node's words are read into `words`, whose memory serves again; a text takes memory of its own.
 pub fn closed(
     alloc: Global,
     script: &Script,

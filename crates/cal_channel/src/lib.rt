@@ -3,8 +3,8 @@
 //! A channel has the reading of its snapshot before, its trace and its table. The layer above uses
 //! that a line's snapshot is added to both, and means what the plain meaning of a run takes there
 //! (`take`); and that a part of the table stands for exactly what was taken since the part before
-//! (`part`). A snapshot is kept by numbers: no name and no text of the script is copied for a trace.
-//! Nothing is promised of a channel that ran out of memory.
+//! (`part`). A snapshot is kept by numbers: no name and no text of the script is copied for a
+//! trace. Nothing is promised of a channel that ran out of memory.
 #![tactic(auto)]
 
 mod channel;

@@ -96,8 +96,8 @@ impl Trace {
     }
 }
 
-/// Adds the snapshot of a draft to the lists. An `Err` leaves the ends, and what stood before in the
-/// others.
+/// Adds the snapshot of a draft to the lists. An `Err` leaves the ends, and what stood before in
+/// the others.
 fn add(
     alloc: Global,
     draft: &SnapDraft,

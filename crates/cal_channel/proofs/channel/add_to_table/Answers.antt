@@ -1,4 +1,4 @@
-use Rattle.std.proofs.Common.{refl, sym, subst, ap, ◌∙◌}
+use Rattle.std.proofs.Common.{refl, sym, subst}
 use Rattle.std.specs.Prelude.{Option, Some, map}
 use Rattle.cal_channel.specs.Shown.{numbered_entry}
 use Rattle.cal_channel.specs.Values.{Counted}

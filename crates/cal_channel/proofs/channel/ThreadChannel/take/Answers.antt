@@ -1,4 +1,4 @@
-use Rattle.std.proofs.Common.{List, [], ◌∷◌, map, ap, subst, ◌∙◌, if◌then◌else◌}
+use Rattle.std.proofs.Common.{[], ◌∷◌, map, ap, subst, ◌∙◌, if◌then◌else◌}
 use Rattle.cal_channel.proofs.ChannelLemmas.{services-kept, shows-timed, takes-one}
 use Rattle.cal_channel.proofs.MeaningLemmas.{small-alike}
 use Rattle.cal_channel.specs.Channels.{TakesMore}

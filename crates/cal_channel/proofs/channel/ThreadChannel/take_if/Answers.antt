@@ -1,4 +1,5 @@
-use Rattle.std.proofs.Common.{◌≡◌, Bool, true, ◌&&◌, if◌then◌else◌, List, [], ◌∷◌, ap, subst, sym, ◌∙◌}
+use Rattle.std.proofs.Common.{◌≡◌, Bool, true, ◌&&◌, if◌then◌else◌, List, [], ◌∷◌, ap, subst}
+use Rattle.std.proofs.Common.{sym, ◌∙◌}
 use Rattle.cal_channel.specs.Channels.{TakesMore}
 use Rattle.cal_run.specs.Lines.{operation_of, takes}
 use Rattle.cal_run.specs.Snapshots.{snapshot_of}

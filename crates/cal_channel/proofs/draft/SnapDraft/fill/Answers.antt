@@ -1,4 +1,4 @@
-use Rattle.std.proofs.Common.{◌<◌, List, [], ◌∷◌, ◌++◌, length, map, ap, subst, sym, ◌∙◌}
+use Rattle.std.proofs.Common.{◌<◌, List, [], ◌++◌, length, map, ap, subst, sym, ◌∙◌}
 use Rattle.std.specs.List.{AllZip}
 use Rattle.std.proofs.lemmas.List.Elements.{All-nil}
 use Rattle.cal_board.specs.PathBoards.{entries_of}
@@ -34,13 +34,15 @@ returns g c attributes s named shows =
           (entries_of script.attributes s.mine.references
           ++ entries_of script.attributes s.process.references))
           (sym (c.in_ok-refs-2.ensures.ok ∙ ap (λ ns. ns ++ last_nodes m.process.now)
-          (c.in_ok-refs.ensures.ok ∙ ap (λ ns. ns ++ last_nodes m.board.now) c.clear-2.ensures.items)))
+          (c.in_ok-refs.ensures.ok ∙ ap (λ ns. ns ++ last_nodes m.board.now)
+          c.clear-2.ensures.items)))
           (boards-shown attributes script tree seat m.board.now m.process.now s.mine s.process
           shows.mine shows.process c.has_few_slots.ensures.references
           c.has_few_slots-2.ensures.references);
       within = within-alike attributes values entries
           (adds.within (subst (λ (es : List ShownEntry).
-          AreWithin attributes (map (immediate_shown values) es)) (sym c.clear.ensures.items) none));
+          AreWithin attributes (map (immediate_shown values) es))
+          (sym c.clear.ensures.items) none));
       imms = entries-alike attributes values entries ∙ adds.means
           ∙ ap (λ (es : List ShownEntry).
           map (entry_by attributes) (map (immediate_shown values) es) ++ parts)

@@ -15,7 +15,8 @@ invariant_of-self c =
       nodes = length (e.nodes i);
       entries = length (e.entries i);
     } ∷ []) in
-    subst (λ (us : List TraceEnd). CoverFrom c.add.new.nodes.items c.add.new.entries.items no_end us)
+    subst (λ (us : List TraceEnd).
+    CoverFrom c.add.new.nodes.items c.add.new.entries.items no_end us)
     (sym ends) (subst (λ (ns : List NodeId). CoverFrom ns c.add.new.entries.items no_end
     (t.ends.items ++ record {
       nodes = length (t.nodes.items ++ d.nodes.items);

@@ -1,6 +1,6 @@
-use Rattle.std.proofs.Common.{◌≡◌, ◌<◌, ◌≤◌, List, ◌∷◌, length, get_or, ap, subst, sym, ◌∙◌, arith}
+use Rattle.std.proofs.Common.{◌<◌, List, ◌∷◌, length, get_or, ap, sym, ◌∙◌, arith}
 use Rattle.std.specs.Prelude.{slice_range}
-use Rattle.cal_channel.specs.Traces.{no_end, snaps_from}
+use Rattle.cal_channel.specs.Traces.{no_end}
 use Rattle.cal_channel.specs.declared.ends.TraceEnd.{TraceEnd}
 use Rattle.cal_channel.proofs.TraceLemmas.{ends-within, snap-at, snaps-long}
 use Rattle.cal_channel.proofs.trace.Trace.snap.Goals as goal
