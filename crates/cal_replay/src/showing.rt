@@ -61,7 +61,8 @@ pub fn show<P: Prober>(
     let closed = read_closed(alloc, common, thread, shown.line)?;
     show_all(
         alloc, common, numbers, thread, shown, &closed, channels, prober,
-    )
+    )?;
+    Ok(())
 }
 
 /// Reads the node that a line closes, if it closes one.
@@ -80,7 +81,7 @@ fn read_closed(
         → HasState common.now thread.old h state → HasState common.now thread.new h state) }
 {
     let mut words = Vec::new(alloc);
-    cal_channel::closed(
+    let closed = cal_channel::closed(
         alloc,
         common.script,
         &common.tree,
@@ -89,7 +90,8 @@ fn read_closed(
         &thread.board,
         &thread.process.board,
         &mut words,
-    )
+    )?;
+    Ok(closed)
 }
 
 /// Shows a line to each channel in turn.

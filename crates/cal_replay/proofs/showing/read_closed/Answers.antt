@@ -5,14 +5,25 @@ use Rattle.cal_run.specs.History.{process_board}
 use Rattle.cal_replay.proofs.showing.read_closed.Goals as goal
 
 pub closed-requires-clause-seat : goal.closed-requires-clause-seat
-closed-requires-clause-seat c = c.requires.has.taken.at_tree
+closed-requires-clause-seat c = c.requires.thread.has.taken.at_tree
 
 pub closed-requires-clause-board : goal.closed-requires-clause-board
 closed-requires-clause-board c =
-    let t = c.requires in (t.state.board, t.has.mine.stands)
+    let t = c.requires.thread in (t.state.board, t.has.mine.stands)
 
 pub closed-requires-clause-process : goal.closed-requires-clause-process
 closed-requires-clause-process c =
-    let t = c.requires in
+    let t = c.requires.thread in
     (process_board c.args.common.now.script.now (history_of t.h) c.args.thread.now.process.seen,
     t.has.taken.held.stands)
+
+pub returns-clause-read : goal.returns-clause-read
+returns-clause-read c = c.in_ok-closed.ensures.read
+
+pub returns-clause-reads : goal.returns-clause-reads
+returns-clause-reads c = record { same = refl; learns = c.in_ok-closed.ensures.learns }
+
+pub returns-clause-state : goal.returns-clause-state
+returns-clause-state c h state has = state-reads c.args.common.now c.args.thread.now _ h state
+    (record { same = refl; learns = c.in_ok-closed.ensures.learns })
+    c.in_ok-closed.ensures.seat has
