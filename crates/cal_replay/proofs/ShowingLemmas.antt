@@ -9,7 +9,7 @@ use Rattle.std.proofs.lemmas.List.{append-nil, length-set}
 use Rattle.std.proofs.lemmas.Option.{slice_get_within}
 use Rattle.cal_book.proofs.Lists.{at_set}
 use Rattle.cal_channel.specs.Channels.{HasTaken}
-use Rattle.cal_channel.specs.Values.{ChannelValue}
+use Rattle.cal_channel.specs.Values.{ChannelValue, HasRoom}
 use Rattle.cal_once.specs.Layout.{times}
 use Rattle.cal_once.specs.Seats.{view}
 use Rattle.cal_plog.specs.History.{OwnBefore}
@@ -18,7 +18,9 @@ use Rattle.cal_process.proofs.OperationLemmas.{Held-later}
 use Rattle.cal_process.specs.declared.common.Common.{Common}
 use Rattle.cal_replay.specs.Showing.{AreShown, IsShown, OnlyReads, is_taken_by, sight_by, taken_of}
 use Rattle.cal_replay.specs.declared.showing.ShownLine.{ShownLine}
-use Rattle.cal_run.specs.Lines.{takes}
+use Rattle.cal_run.proofs.HeldLemmas.{slice_get-All}
+use Rattle.cal_run.specs.Lines.{operation_of, takes}
+use Rattle.cal_run.specs.Snapshots.{snapshot_of}
 use Rattle.cal_run.specs.Steps.{ThreadState}
 use Rattle.cal_run.specs.declared.numbers.Numbers.{Numbers}
 use Rattle.cal_script.specs.declared.script.Channel.{Channel}
@@ -55,6 +57,13 @@ and-not : (b : Bool) → (b && false) ≡ false
 and-not true = refl
 and-not false = refl
 
+nearer : (i place : ℕ) → i < place + 1 → i ≢ place → i < place
+nearer i place less ne = near (cases_lt i place)
+  where
+    near : (i < place) ⊎ (place ≤ i) → i < place
+    near (inl l) = l
+    near (inr m) = absurd (ne (omega (arith, less, m)))
+
 -- ---- channels
 
 module _ (common : Common) (numbers : Numbers) (thread : Thread) (shown : ShownLine) where
@@ -66,7 +75,10 @@ module _ (common : Common) (numbers : Numbers) (thread : Thread) (shown : ShownL
     takes = λ attributes h state named has taken unflushed was.
         let more : List Rec = taken_of common numbers thread shown channel
         (sight_by common numbers thread shown h state c.previous) in
-        let empty : more ≡ [] = ap (λ (b : Bool). if b then more else []) not in
+        let one : List Rec = snapshot_of common.script.now
+        (sight_by common numbers thread shown h state c.previous) channel
+        (operation_of shown.line) ∷ [] in
+        let empty : more ≡ [] = ap (λ (b : Bool). if b then one else []) not in
         let P : List Rec → List Rec → Type 0 =
         λ ts us. HasTaken attributes common.script.now common.tree thread.tree c ts us in
         subst (λ (m : List Rec). P (taken ++ m) (unflushed ++ m)) (sym empty)
@@ -108,6 +120,12 @@ module _ (common : Common) (numbers : Numbers) (thread : Thread) (shown : ShownL
     rest = λ i is from has. has;
   }
 
+  -- those have room that had it
+  pub room-at : (old now : List ChannelValue) (place : ℕ) (was : ChannelValue) → All HasRoom old
+      → ShownUpTo old place now → slice_get now place ≡ Some was → HasRoom was
+  room-at old now place was room h here =
+      slice_get-All HasRoom old place was room (h.rest place was (omega arith) here)
+
   -- one channel more
   pub shown-next : (old now : List ChannelValue) (place : ℕ) (channel : Channel)
       (was is : ChannelValue) → ShownUpTo old place now
@@ -145,13 +163,6 @@ module _ (common : Common) (numbers : Numbers) (thread : Thread) (shown : ShownL
           → slice_get old i ≡ Some is'
       by-rest i is' from (inl same) = let e : i ≡ place = same.0 in absurd (omega (arith, e, from))
       by-rest i is' from (inr other) = h.rest i is' (omega (arith, from)) other.1
-
-      nearer : (i place : ℕ) → i < place + 1 → i ≢ place → i < place
-      nearer i place less ne = near (cases_lt i place)
-        where
-          near : (i < place) ⊎ (place ≤ i) → i < place
-          near (inl l) = l
-          near (inr m) = absurd (ne (omega (arith, less, m)))
 
   -- and then all were
   pub shown-all : (old now : List ChannelValue) (place : ℕ) → ShownUpTo old place now

@@ -1,7 +1,10 @@
-use Rattle.std.proofs.Common.{refl}
+use Rattle.std.proofs.Common.{refl, subst}
+use Rattle.std.specs.Prelude.{Option}
+use Rattle.cal_channel.specs.Closing.{HasRead}
 use Rattle.cal_process.specs.Operations.{history_of}
 use Rattle.cal_replay.proofs.ShowingLemmas.{state-reads}
 use Rattle.cal_run.specs.History.{process_board}
+use Rattle.cal_run.specs.declared.operation.Operation.{Operation}
 use Rattle.cal_replay.proofs.showing.read_closed.Goals as goal
 
 pub closed-requires-clause-seat : goal.closed-requires-clause-seat
@@ -18,7 +21,9 @@ closed-requires-clause-process c =
     t.has.taken.held.stands)
 
 pub returns-clause-read : goal.returns-clause-read
-returns-clause-read c = c.in_ok-closed.ensures.read
+returns-clause-read c = subst (λ (op : Option Operation). HasRead c.args.common.now.tree
+    c.closed.new.seat c.args.common.now.script.now c.in_ok-closed.closed c.args.thread.now.board
+    c.args.thread.now.process.board op) c.operation_of.ensures c.in_ok-closed.ensures.read
 
 pub returns-clause-reads : goal.returns-clause-reads
 returns-clause-reads c = record { same = refl; learns = c.in_ok-closed.ensures.learns }
