@@ -16,9 +16,10 @@ closed-requires-clause-board c =
 
 pub closed-requires-clause-process : goal.closed-requires-clause-process
 closed-requires-clause-process c =
-    let t = c.requires.thread in
-    (process_board c.args.common.now.script.now (history_of t.h) c.args.thread.now.process.seen,
-    t.has.taken.held.stands)
+    let t = c.requires.thread in (
+      process_board c.args.common.now.script.now (history_of t.h) c.args.thread.now.process.seen,
+      t.has.taken.held.stands,
+    )
 
 pub returns-clause-read : goal.returns-clause-read
 returns-clause-read c = subst (λ (op : Option Operation). HasRead c.args.common.now.tree

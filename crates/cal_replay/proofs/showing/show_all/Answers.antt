@@ -1,6 +1,6 @@
-use Rattle.std.proofs.Common.{◌≡◌, ◌<◌, ◌∙◌, length, refl, sym, ap, arith}
+use Rattle.std.proofs.Common.{◌≡◌, ◌<◌, ◌∙◌, get_or, length, refl, sym, ap, arith}
 use Rattle.std.specs.Prelude.{List, Some, slice_get}
-use Rattle.std.proofs.lemmas.Option.{slice_get_read}
+use Rattle.std.proofs.lemmas.Option.{slice_get-get_or, slice_get_read}
 use Rattle.cal_script.specs.declared.script.Channel.{Channel}
 use Rattle.cal_replay.proofs.ShowingLemmas.{room-at, shown-all, shown-next, shown-none}
 use Rattle.cal_replay.proofs.showing.show_all.Goals as goal
@@ -15,9 +15,9 @@ show_to-requires-clause-room g c =
     let place = c.loop-place.place in
     let within : place < length now = omega arith in
     room-at c.args.common.now c.args.numbers.now c.args.thread.now c.args.shown
-    c.args.channels.now now place c.index-channels-place.result c.requires.may.room
-    c.loop-place.invariant (slice_get_read now (length now) place c.index-channels-place.result
-    refl within c.index-channels-place.is)
+    c.args.channels.now now place (get_or now place c.index-channels-place.result)
+    c.requires.may.room c.loop-place.invariant
+    (slice_get-get_or now place c.index-channels-place.result within)
 
 pub loop-place-preserved : goal.loop-place-preserved
 loop-place-preserved g c =
@@ -33,12 +33,10 @@ loop-place-preserved g c =
     ap (λ (cs : List Channel). slice_get cs place) (sym c.as_slice.ensures)
     ∙ slice_get_read channels (length channels) place c.index-as_slice-place.result refl there
     c.index-as_slice-place.is in
-    let here : slice_get now place ≡ Some c.index-channels-place.result =
-    slice_get_read now (length now) place c.index-channels-place.result refl within
-    c.index-channels-place.is in
+    let here = slice_get-get_or now place c.index-channels-place.result within in
     shown-next c.args.common.now c.args.numbers.now c.args.thread.now c.args.shown
-    c.args.channels.now now place c.index-as_slice-place.result c.index-channels-place.result
-    c.show_to.new.kept c.loop-place.invariant at here c.in_ok-show_to.ensures
+    c.args.channels.now now place c.index-as_slice-place.result
+    (get_or now place c.index-channels-place.result) c.show_to.new.kept c.loop-place.invariant at here c.in_ok-show_to.ensures
 
 pub returns : goal.returns
 returns g c =
