@@ -4,3 +4,4 @@ pub mod SharedLines
 pub mod NotedLines
 pub mod Starting
 mod ShowingLemmas
+mod ShownLines

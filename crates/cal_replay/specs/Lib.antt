@@ -3,3 +3,4 @@ pub mod Workers
 pub mod Steps
 pub mod Flushing
 pub mod Showing
+pub mod Channels

@@ -14,10 +14,12 @@ mod reading;
 mod shared;
 mod shared_line;
 mod showing;
+mod shown_laws;
 mod step;
 mod worker;
 
 pub use flushing::flush;
 pub use shared::Shared;
 pub use showing::{ShownLine, show};
+pub use shown_laws::shown_lines_law;
 pub use worker::Worker;

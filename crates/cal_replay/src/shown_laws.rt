@@ -1,0 +1,53 @@
+//! The law of what channels have taken. Nothing here is ever run.
+ghost use Rattle.std.specs.Prelude.{◌≡◌, ℕ, Bool, List, [], ◌∷◌, ◌++◌, Some};
+ghost use Rattle.cal_channel.specs.Values.{ChannelValue, with_table};
+ghost use Rattle.cal_notes.specs.Notes.{KeepsRules};
+ghost use Rattle.cal_notes.specs.Running.{state_behind, with_line};
+ghost use Rattle.cal_once.specs.Seats.{view};
+ghost use Rattle.cal_once.specs.Views.{KnowsMore};
+ghost use Rattle.cal_once.specs.declared.seat.RowSeat.{RowSeat};
+ghost use Rattle.cal_process.specs.Operations.{history_of};
+ghost use Rattle.cal_process.specs.declared.common.Common.{Common};
+ghost use Rattle.cal_replay.specs.Channels.{HasShown, HasShownLines, IsShownAs};
+ghost use Rattle.cal_replay.specs.Showing.{IsShown};
+ghost use Rattle.cal_replay.specs.declared.showing.ShownLine.{ShownLine};
+ghost use Rattle.cal_run.specs.Numbers.{AreNamed};
+ghost use Rattle.cal_run.specs.declared.numbers.Numbers.{Numbers};
+ghost use Rattle.cal_script.specs.declared.journal.LineNote.{LineNote};
+ghost use Rattle.cal_script.specs.declared.journal.ThreadNote.{ThreadNote};
+ghost use Rattle.cal_script.specs.declared.script.Channel.{Channel};
+ghost use Rattle.cal_script.specs.declared.script.Line.{Line};
+ghost use Rattle.cal_table.specs.Tables.{TableValue, empty_table};
+ghost use Rattle.cal_thread.specs.declared.thread.Thread.{Thread};
+ghost use Rattle.cal_value.specs.declared.attribute.Attribute.{Attribute};
+ghost use Rattle.cal_value.specs.declared.record.Rec.{Rec};
+ghost use Rattle.cal_words.specs.declared.op.OpRec.{OpRec};
+ghost use Rattle.cal_words.specs.declared.sort.NodeSort.{NodeSort};
+
+/// The law of shown lines: a channel that was shown a line more has taken what the plain meaning of
+/// a run takes of the lines with that one, by all that the thread has seen then; a part that is
+/// merged goes from its table to what was given; and it has taken the same for good, however much
+/// the thread's seat learns.
+pub fn shown_lines_law()
+    ensures line { (common : Common) (attributes : List Attribute) (numbers : Numbers)
+        (real : Bool) (thread : Thread) (number : ℕ) (h ops : List OpRec) (ls : List Line)
+        (note : ThreadNote) (n : LineNote) (shown : ShownLine) (channel : Channel)
+        (was is : ChannelValue) (given : List TableValue)
+        → KeepsRules common.script.now real (history_of h) number ls note
+        → AreNamed attributes common.script.now numbers
+        → IsShownAs common thread shown (h ++ ops) n
+        (state_behind common.script.now (history_of h) ls note)
+        → IsShown common numbers thread shown channel was is
+        → HasShownLines common attributes thread.tree h ls note channel was given
+        → HasShownLines common attributes thread.tree (h ++ ops) (ls ++ shown.line ∷ [])
+        (with_line note n) channel is given }
+    ensures merged { (common : Common) (attributes : List Attribute) (seat : RowSeat NodeSort)
+        (c : ChannelValue) (part : TableValue) (given : List TableValue) (all : List Rec)
+        (last : ℕ) → c.table ≡ Some part → HasShown common attributes seat c given all last
+        → HasShown common attributes seat (with_table c (empty_table part.shape))
+        (given ++ part ∷ []) all last }
+    ensures learns { (common : Common) (attributes : List Attribute) (was is : RowSeat NodeSort)
+        (c : ChannelValue) (given : List TableValue) (all : List Rec) (last : ℕ)
+        → KnowsMore (view was) (view is) → HasShown common attributes was c given all last
+        → HasShown common attributes is c given all last }
+{}
