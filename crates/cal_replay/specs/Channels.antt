@@ -40,8 +40,8 @@ module _ (common : Common) (attributes : List Attribute) (seat : RowSeat NodeSor
     pub taken : HasTaken attributes common.script.now common.tree seat kept all unflushed
     pub previous : kept.previous ≡ last
 
-  -- These are what the plain meaning of a run takes in the channel on a thread's lines, by its notes
-  -- of them and the operations that it has seen.
+  -- These are what the plain meaning of a run takes in the channel on a thread's lines, by its
+  -- notes of them and the operations that it has seen.
   abbrev pub HasShownLines : List OpRec → List Line → ThreadNote → Channel → ChannelValue
       → List TableValue → Type 0
   HasShownLines h ls note channel kept given = HasShown kept given

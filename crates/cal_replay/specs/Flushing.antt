@@ -1,5 +1,5 @@
--- What a flush of a channel of a thread comes to: for its book, for the thread's seat there, and for
--- the channel.
+-- What a flush of a channel of a thread comes to: for the thread's seat at its book, and for the
+-- channel.
 use Rattle.std.specs.Prelude.{◌≡◌, ◌≢◌, ◌⊎◌, ◌+◌, ◌≤◌, ◌^◌, Some, IsSome, sum_by}
 use Rattle.cal_book.specs.Seats.{IsSeatOf, shape_of, view}
 use Rattle.cal_book.specs.Views.{giving, giving_up, meeting}
@@ -22,8 +22,8 @@ SeatOf = FlushSeat TableValue TableShape
 abbrev pub BookView : Type 0
 BookView = View TableValue TableShape
 
--- A flush may be tried: the seat is that of a thread at the book, and the channel has a table of the
--- book's shape, which with all that the thread has given stands for at most 2^20 snapshots.
+-- A flush may be tried: the seat is that of a thread at the book, and the channel has a table of
+-- the book's shape, which with all that the thread has given stands for at most 2^20 snapshots.
 pub record MayFlush (book : BookOf) (seat : SeatOf) (channel : ChannelValue) : Type 0 where
   pub seat_is : IsSeatOf book seat
   pub own : IsSome (view seat).thread
@@ -42,7 +42,7 @@ module _ (v w : BookView) (old new : ChannelValue) where
       (v.thread ≢ Some holder) × (w ≡ meeting holder v) × (new ≡ old)
   Flushed part _ = ⊥
 
-  -- What is left where memory ran out: the channel is as before, and so is the seat, or it has given
-  -- its turn up.
+  -- What is left where memory ran out: the channel is as before, and so is the seat, or it has
+  -- given its turn up.
   abbrev pub LeftByFlush : Type 0
   LeftByFlush = (new ≡ old) × ((w ≡ v) ⊎ (w ≡ giving_up v))

@@ -27,8 +27,8 @@ pub record OnlyReads (old new : Thread) : Type 0 where
   pub same : new ≡ record old { tree = new.tree }
   pub learns : Learns (view old.tree) (view new.tree)
 
--- A line may be shown to channels: there is one for each of the script's, and room for a snapshot in
--- each; and where one has the timer, readings are kept.
+-- A line may be shown to channels: there is one for each of the script's, and room for a snapshot
+-- in each; and where one has the timer, readings are kept.
 pub record MayShow (script : Script) (thread : Thread) (channels : List ChannelValue) : Type 0 where
   pub many : length channels ≡ length script.channels
   pub room : All HasRoom channels
@@ -60,8 +60,8 @@ module _ (common : Common) (numbers : Numbers) (thread : Thread) (shown : ShownL
   sight_by h state previous =
       sight_of script h thread.process.seen state shown.reading previous
 
-  -- A channel was shown the line: it has taken more by exactly the snapshot that the plain meaning of
-  -- a run takes of what the thread sees, if it takes one; and the line's reading is its reading
+  -- A channel was shown the line: it has taken more by exactly the snapshot that the plain meaning
+  -- of a run takes of what the thread sees, if it takes one; and the line's reading is its reading
   -- before, where it has the timer and took one.
   pub record IsShown (channel : Channel) (old new : ChannelValue) : Type 0 where
     pub takes : (attributes : List Attribute) (h : List OpRec) (state : ThreadState)

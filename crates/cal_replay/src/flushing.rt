@@ -11,8 +11,9 @@ use cal_table::{Book, BookSeat};
 use cal_value::OutOfMemory;
 
 /// Flushes what a channel has taken since its last flush: its table is merged into the book, where
-/// nobody holds the turn there. Nobody waits. An `Err` leaves the channel, and the seat too or with a
-/// turn given up. It costs a merge at most, and takes the memory of an empty table and of the merge.
+/// nobody holds the turn there. Nobody waits. An `Err` leaves the channel, and the seat too or with
+/// a turn given up. It costs a merge at most, and takes the memory of an empty table and of the
+/// merge.
 pub fn flush(
     book: &Book,
     seat: &mut BookSeat,

@@ -19,8 +19,7 @@ use cal_thread::Thread;
 use cal_value::OutOfMemory;
 use std::alloc::Global;
 
-/// A line as channels are shown it: whether it is accepted, and its reading, which is 0 where it has
-/// none.
+/// A line as channels are shown it: whether it is accepted, and its reading, 0 where it has none.
 #[derive(Clone, Copy)]
 pub struct ShownLine {
     pub line: Line,
@@ -29,8 +28,8 @@ pub struct ShownLine {
 }
 
 /// Shows a line to each channel of its thread, behind the line's look and before its change: those
-/// that take a snapshot on it take one. It takes memory for snapshots. The channels may not be shown
-/// another line behind an `Err`.
+/// that take a snapshot on it take one. It takes memory for snapshots. The channels may not be
+/// shown another line behind an `Err`.
 pub fn show<P: Prober>(
     alloc: Global,
     common: &Common<'_>,

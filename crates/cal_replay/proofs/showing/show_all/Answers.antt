@@ -36,7 +36,8 @@ loop-place-preserved g c =
     let here = slice_get-get_or now place c.index-channels-place.result within in
     shown-next c.args.common.now c.args.numbers.now c.args.thread.now c.args.shown
     c.args.channels.now now place c.index-as_slice-place.result
-    (get_or now place c.index-channels-place.result) c.show_to.new.kept c.loop-place.invariant at here c.in_ok-show_to.ensures
+    (get_or now place c.index-channels-place.result) c.show_to.new.kept c.loop-place.invariant
+    at here c.in_ok-show_to.ensures
 
 pub returns : goal.returns
 returns g c =
