@@ -1,11 +1,11 @@
 -- What a channel has taken, with a line more, a part less, and a seat that has learned.
-use Rattle.std.proofs.Common.{◌≡◌, ℕ, Bool, List, [], ◌∷◌, ◌++◌, refl, sym, ap, ◌∙◌, subst}
-use Rattle.std.proofs.Common.{append_assoc, if◌then◌else◌}
+use Rattle.std.proofs.Common.{◌≡◌, ℕ, Bool, List, [], ◌∷◌, ◌++◌, sym, ap, ◌∙◌, subst}
+use Rattle.std.proofs.Common.{append_assoc, arith, if◌then◌else◌}
 use Rattle.std.specs.Prelude.{Some, ◌&&◌}
-use Rattle.std.specs.List.{AllZip}
-use Rattle.std.proofs.lemmas.List.{append-nil, map-append}
+use Rattle.std.proofs.lemmas.List.{append-nil, length-map, map-append}
 use Rattle.std.proofs.lemmas.Slice.Zip.{all_zipped_more}
 use Rattle.cal_board.proofs.StandingLemmas.{AllZip-weaken}
+use Rattle.cal_board.specs.Blackboard.{Blackboard}
 use Rattle.cal_channel.proofs.LawLemmas.{counts-later, part-counts, part-left, taken-later}
 use Rattle.cal_channel.specs.Channels.{Counts, HasTaken}
 use Rattle.cal_channel.specs.Values.{ChannelValue, with_table}
@@ -20,6 +20,7 @@ use Rattle.cal_process.specs.declared.common.Common.{Common}
 use Rattle.cal_replay.specs.Channels.{HasShown, HasShownLines, IsShownAs, joined}
 use Rattle.cal_replay.specs.Showing.{IsShown, sight_by, taken_of}
 use Rattle.cal_replay.specs.declared.showing.ShownLine.{ShownLine}
+use Rattle.cal_run.proofs.FrontLemmas.{process_board-front}
 use Rattle.cal_run.specs.History.{process_board}
 use Rattle.cal_run.specs.Lines.{operation_of, takes}
 use Rattle.cal_run.specs.Numbers.{AreNamed}
@@ -37,6 +38,7 @@ use Rattle.cal_table.specs.Tables.{TableValue, empty_table}
 use Rattle.cal_thread.specs.declared.thread.Thread.{Thread}
 use Rattle.cal_value.specs.declared.attribute.Attribute.{Attribute}
 use Rattle.cal_value.specs.declared.record.Rec.{Rec}
+use Rattle.cal_value.specs.declared.variant.Variant.{Variant}
 use Rattle.cal_words.specs.declared.op.OpRec.{OpRec}
 use Rattle.cal_words.specs.declared.sort.NodeSort.{NodeSort}
 
@@ -87,12 +89,13 @@ module _ (common : Common) (attributes : List Attribute) where
   }
 
   -- a line more
-  module _ (numbers : Numbers) (real : Bool) (thread : Thread) (number : ℕ) (h ops : List OpRec)
+  module _ (numbers : Numbers) (real : Bool) (thread : Thread) (number : ℕ)
+      (h ops rest : List OpRec)
       (ls : List Line) (note : ThreadNote) (n : LineNote) (shown : ShownLine) (channel : Channel)
       (was is : ChannelValue) (given : List TableValue)
       (keeps : KeepsRules common.script.now real (history_of h) number ls note)
       (named : AreNamed attributes common.script.now numbers)
-      (as_noted : IsShownAs common thread shown (h ++ ops) n
+      (as_noted : IsShownAs common thread shown (h ++ ops) rest n
       (state_behind common.script.now (history_of h) ls note))
       (s : IsShown common numbers thread shown channel was is)
       (before : HasShownLines common attributes thread.tree h ls note channel was given) where
@@ -100,7 +103,7 @@ module _ (common : Common) (attributes : List Attribute) where
     script = common.script.now
 
     abbrev hist : List Placed
-    hist = history_of (h ++ ops)
+    hist = history_of (h ++ ops ++ rest)
 
     abbrev state : ThreadState
     state = state_behind script (history_of h) ls note
@@ -115,11 +118,31 @@ module _ (common : Common) (attributes : List Attribute) where
     more = taken_of common numbers thread shown channel
         (sight_by common numbers thread shown (h ++ ops) state was.previous)
 
-    hist-is : hist ≡ history_of h ++ history_of ops
-    hist-is = map-append placed_as h ops
+    hist-is : hist ≡ history_of h ++ history_of (ops ++ rest)
+    hist-is = ap history_of (append_assoc h ops rest) ∙ map-append placed_as h (ops ++ rest)
+
+    -- what the process has behind what was seen, whatever stands behind that
+    board-is : process_board script (history_of (h ++ ops)) thread.process.seen
+        ≡ process_board script hist thread.process.seen
+    board-is =
+        let mapped = length-map (h ++ ops) placed_as in
+        let long = as_noted.has.taken.long in
+        sym (process_board-front script (history_of (h ++ ops)) (history_of rest)
+        thread.process.seen (omega (arith, mapped, long)))
+        ∙ ap (λ (ps : List Placed). process_board script ps thread.process.seen)
+        (sym (map-append placed_as (h ++ ops) rest))
 
     more-is : more ≡ taken_in script hist shown.line n state channel last
-    more-is = λ i. if as_noted.accepted i && takes script channel shown.line
+    more-is = ap (λ (b : Blackboard Variant). if shown.accepted && takes script channel shown.line
+        then snapshot_of script (record {
+          mine = state.board;
+          process = b;
+          readings = state.readings;
+          reading = shown.reading;
+          previous = was.previous;
+        }) channel (operation_of shown.line) ∷ []
+        else []) board-is
+        ∙ (λ i. if as_noted.accepted i && takes script channel shown.line
         then snapshot_of script (record {
           mine = state.board;
           process = process_board script hist (as_noted.seen i);
@@ -127,14 +150,14 @@ module _ (common : Common) (attributes : List Attribute) where
           reading = as_noted.reading i;
           previous = before.previous i;
         }) channel (operation_of shown.line) ∷ []
-        else []
+        else [])
 
     all-is : all ++ more
         ≡ taken_by_thread script hist channel (ls ++ shown.line ∷ [], with_line note n)
     all-is = ap (λ (ms : List Rec). all ++ ms) more-is
         ∙ ap (λ (ps : List Placed). all ++ taken_in script ps shown.line n state channel last)
         hist-is
-        ∙ sym (taken-next script real (history_of h) (history_of ops) number ls note channel keeps
+        ∙ sym (taken-next script real (history_of h) (history_of (ops ++ rest)) number ls note channel keeps
         shown.line n)
         ∙ ap (λ (ps : List Placed). taken_by_thread script ps channel
         (ls ++ shown.line ∷ [], with_line note n)) (sym hist-is)
@@ -146,12 +169,12 @@ module _ (common : Common) (attributes : List Attribute) where
         then as_noted.reading i else before.previous i)
         ∙ ap (λ (ps : List Placed). previous_after script ps shown.line n state channel last)
         hist-is
-        ∙ sym (previous-next script real (history_of h) (history_of ops) number ls note channel
+        ∙ sym (previous-next script real (history_of h) (history_of (ops ++ rest)) number ls note channel
         keeps shown.line n)
         ∙ ap (λ (ps : List Placed). previous_behind script ps channel (ls ++ shown.line ∷ [])
         (with_line note n)) (sym hist-is)
 
-    pub shown-next-line : HasShownLines common attributes thread.tree (h ++ ops)
+    pub shown-next-line : HasShownLines common attributes thread.tree (h ++ ops ++ rest)
         (ls ++ shown.line ∷ []) (with_line note n) channel is given
     shown-next-line = record {
       flushed = before.flushed;

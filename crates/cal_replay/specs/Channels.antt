@@ -48,13 +48,13 @@ module _ (common : Common) (attributes : List Attribute) (seat : RowSeat NodeSor
       (taken_by_thread common.script.now (history_of h) channel (ls, note))
       (previous_behind common.script.now (history_of h) channel ls note)
 
--- A thread was shown a line as its note will have it: with what it has seen before its change, its
--- state, whether the line is accepted, and its reading.
-pub record IsShownAs (common : Common) (thread : Thread) (shown : ShownLine) (h : List OpRec)
-    (n : LineNote) (state : ThreadState) : Type 0 where
+-- A thread that had seen these operations, and sees the rest by the line's end, was shown a line as
+-- its note has it: whether it is accepted, how much it had seen, and its reading.
+pub record IsShownAs (common : Common) (thread : Thread) (shown : ShownLine)
+    (h rest : List OpRec) (n : LineNote) (state : ThreadState) : Type 0 where
   pub has : HasState common thread h state
   pub accepted : shown.accepted
-      ≡ is_accepted (found_reply common.script.now (history_of h) shown.line n state)
+      ≡ is_accepted (found_reply common.script.now (history_of (h ++ rest)) shown.line n state)
   pub seen : thread.process.seen
-      ≡ seen_before common.script.now (history_of h) shown.line n
+      ≡ seen_before common.script.now (history_of (h ++ rest)) shown.line n
   pub reading : shown.reading ≡ reading_of n

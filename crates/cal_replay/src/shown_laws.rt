@@ -30,16 +30,16 @@ ghost use Rattle.cal_words.specs.declared.sort.NodeSort.{NodeSort};
 /// the thread's seat learns.
 pub fn shown_lines_law()
     ensures line { (common : Common) (attributes : List Attribute) (numbers : Numbers)
-        (real : Bool) (thread : Thread) (number : ℕ) (h ops : List OpRec) (ls : List Line)
+        (real : Bool) (thread : Thread) (number : ℕ) (h ops rest : List OpRec) (ls : List Line)
         (note : ThreadNote) (n : LineNote) (shown : ShownLine) (channel : Channel)
         (was is : ChannelValue) (given : List TableValue)
         → KeepsRules common.script.now real (history_of h) number ls note
         → AreNamed attributes common.script.now numbers
-        → IsShownAs common thread shown (h ++ ops) n
+        → IsShownAs common thread shown (h ++ ops) rest n
         (state_behind common.script.now (history_of h) ls note)
         → IsShown common numbers thread shown channel was is
         → HasShownLines common attributes thread.tree h ls note channel was given
-        → HasShownLines common attributes thread.tree (h ++ ops) (ls ++ shown.line ∷ [])
+        → HasShownLines common attributes thread.tree (h ++ ops ++ rest) (ls ++ shown.line ∷ [])
         (with_line note n) channel is given }
     ensures merged { (common : Common) (attributes : List Attribute) (seat : RowSeat NodeSort)
         (c : ChannelValue) (part : TableValue) (given : List TableValue) (all : List Rec)
