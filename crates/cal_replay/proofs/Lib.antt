@@ -5,3 +5,4 @@ pub mod NotedLines
 pub mod Starting
 mod ShowingLemmas
 mod ShownLines
+mod ShownAsNoted

@@ -21,5 +21,5 @@ mod worker;
 pub use flushing::flush;
 pub use shared::Shared;
 pub use showing::{ShownLine, show};
-pub use shown_laws::shown_lines_law;
+pub use shown_laws::{shown_as_noted_law, shown_lines_law};
 pub use worker::Worker;

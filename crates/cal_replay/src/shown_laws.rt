@@ -1,5 +1,6 @@
 //! The law of what channels have taken. Nothing here is ever run.
-ghost use Rattle.std.specs.Prelude.{◌≡◌, ℕ, Bool, List, [], ◌∷◌, ◌++◌, Some};
+ghost use Rattle.std.specs.Prelude.{◌≡◌, ℕ, ◌+◌, Bool, true, false, List, [], ◌∷◌, ◌++◌};
+ghost use Rattle.std.specs.Prelude.{Option, Some};
 ghost use Rattle.cal_channel.specs.Values.{ChannelValue, with_table};
 ghost use Rattle.cal_notes.specs.Notes.{KeepsRules};
 ghost use Rattle.cal_notes.specs.Running.{state_behind, with_line};
@@ -9,15 +10,21 @@ ghost use Rattle.cal_once.specs.declared.seat.RowSeat.{RowSeat};
 ghost use Rattle.cal_process.specs.Operations.{history_of};
 ghost use Rattle.cal_process.specs.declared.common.Common.{Common};
 ghost use Rattle.cal_replay.specs.Channels.{HasShown, HasShownLines, IsShownAs};
-ghost use Rattle.cal_replay.specs.Showing.{IsShown};
+ghost use Rattle.cal_replay.specs.Showing.{IsShown, OnlyReads};
 ghost use Rattle.cal_replay.specs.declared.showing.ShownLine.{ShownLine};
+ghost use Rattle.cal_run.specs.Lines.{is_process_line};
 ghost use Rattle.cal_run.specs.Numbers.{AreNamed};
+ghost use Rattle.cal_run.specs.Steps.{ThreadState, is_accepted, reading_of};
 ghost use Rattle.cal_run.specs.declared.numbers.Numbers.{Numbers};
 ghost use Rattle.cal_script.specs.declared.journal.LineNote.{LineNote};
 ghost use Rattle.cal_script.specs.declared.journal.ThreadNote.{ThreadNote};
+ghost use Rattle.cal_script.specs.declared.journal.Reply.{Reply};
 ghost use Rattle.cal_script.specs.declared.script.Channel.{Channel};
 ghost use Rattle.cal_script.specs.declared.script.Line.{Line};
 ghost use Rattle.cal_table.specs.Tables.{TableValue, empty_table};
+ghost use Rattle.cal_thread.specs.Lines.{MeetsOwn, MeetsShared};
+ghost use Rattle.cal_thread.specs.Threads.{HasState};
+ghost use Rattle.cal_thread.specs.declared.looking.Met.{Met};
 ghost use Rattle.cal_thread.specs.declared.thread.Thread.{Thread};
 ghost use Rattle.cal_value.specs.declared.attribute.Attribute.{Attribute};
 ghost use Rattle.cal_value.specs.declared.record.Rec.{Rec};
@@ -50,4 +57,25 @@ pub fn shown_lines_law()
         (c : ChannelValue) (given : List TableValue) (all : List Rec) (last : ℕ)
         → KnowsMore (view was) (view is) → HasShown common attributes was c given all last
         → HasShown common attributes is c given all last }
+{}
+
+/// The law of lines that are shown as noted: a thread that met a line and has only read the tree
+/// since is shown it as its note has it, where the note says how much was seen by the line's end:
+/// for a process line one operation more, its own.
+pub fn shown_as_noted_law()
+    ensures own { (common : Common) (old mid new : Thread) (shown : ShownLine) (met : Met)
+        (done : ℕ) (h : List OpRec) (state : ThreadState) (n : LineNote)
+        (m : MeetsOwn common old mid shown.line met done h state) → OnlyReads mid new
+        → HasState common new (h ++ m.ops) state
+        → is_process_line common.script.now shown.line ≡ false → shown.accepted ≡ met.accepted
+        → n.seen ≡ mid.process.seen → shown.reading ≡ reading_of n
+        → IsShownAs common new shown (h ++ m.ops) [] n state }
+    ensures shared { (common : Common) (old mid new : Thread) (shown : ShownLine) (op : OpRec)
+        (reply : Option Reply) (h : List OpRec) (state : ThreadState) (n : LineNote)
+        (m : MeetsShared common old mid shown.line op reply h state) → OnlyReads mid new
+        → HasState common new (h ++ m.ops) state
+        → is_process_line common.script.now shown.line ≡ true
+        → shown.accepted ≡ is_accepted reply → n.seen ≡ mid.process.seen + 1
+        → shown.reading ≡ reading_of n
+        → IsShownAs common new shown (h ++ m.ops) (op ∷ []) n state }
 {}
