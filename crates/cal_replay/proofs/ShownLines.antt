@@ -157,8 +157,8 @@ module _ (common : Common) (attributes : List Attribute) where
     all-is = ap (λ (ms : List Rec). all ++ ms) more-is
         ∙ ap (λ (ps : List Placed). all ++ taken_in script ps shown.line n state channel last)
         hist-is
-        ∙ sym (taken-next script real (history_of h) (history_of (ops ++ rest)) number ls note channel keeps
-        shown.line n)
+        ∙ sym (taken-next script real (history_of h) (history_of (ops ++ rest)) number ls note
+        channel keeps shown.line n)
         ∙ ap (λ (ps : List Placed). taken_by_thread script ps channel
         (ls ++ shown.line ∷ [], with_line note n)) (sym hist-is)
 
@@ -169,8 +169,8 @@ module _ (common : Common) (attributes : List Attribute) where
         then as_noted.reading i else before.previous i)
         ∙ ap (λ (ps : List Placed). previous_after script ps shown.line n state channel last)
         hist-is
-        ∙ sym (previous-next script real (history_of h) (history_of (ops ++ rest)) number ls note channel
-        keeps shown.line n)
+        ∙ sym (previous-next script real (history_of h) (history_of (ops ++ rest)) number ls note
+        channel keeps shown.line n)
         ∙ ap (λ (ps : List Placed). previous_behind script ps channel (ls ++ shown.line ∷ [])
         (with_line note n)) (sym hist-is)
 

@@ -1,4 +1,4 @@
-use Rattle.std.proofs.Common.{refl, arith, ℕ, ◌<◌, ◌^◌}
+use Rattle.std.proofs.Common.{refl, arith, ◌<◌, ◌^◌}
 use Rattle.cal_channel.proofs.SaidLemmas.{can-take}
 use Rattle.cal_process.specs.Operations.{history_of}
 use Rattle.cal_run.proofs.LineLemmas.{line-places}

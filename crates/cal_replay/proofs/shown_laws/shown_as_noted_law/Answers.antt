@@ -8,5 +8,5 @@ returns-clause-own c = λ common old mid new shown met done h state n m reads ha
 
 pub returns-clause-shared : goal.returns-clause-shared
 returns-clause-shared c = λ common old mid new shown op reply h state n m reads has shared accepted
-    seen reading. shared-shown common old mid new shown h state n reads reading op reply m has shared
-    accepted seen
+    seen reading. shared-shown common old mid new shown h state n reads reading op reply m has
+    shared accepted seen
