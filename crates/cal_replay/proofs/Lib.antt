@@ -4,3 +4,6 @@ pub mod SharedLines
 pub mod NotedLines
 pub mod Starting
 pub mod ManyLines
+mod ShowingLemmas
+mod ShownLines
+mod ShownAsNoted
