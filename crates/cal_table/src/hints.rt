@@ -4,25 +4,34 @@ use crate::TableKey;
 use std::alloc::Global;
 
 /// For each node that stands first in keys, the number of the row that was last found there: where
-/// the next snapshot there has the same key, it needs no look-up. What isn't known is any number.
+/// snapshots there have one key, the next one needs no look-up. What isn't known is any number.
 #[derive(Drop)]
 pub(crate) struct Hints {
-    numbers: Vec<u32>,
+    last: Vec<Hint>,
+}
+
+// The number of the row that was last found at a node, and whether it was found there twice in a
+// row.
+#[derive(Clone, Copy)]
+struct Hint {
+    number: u32,
+    twice: bool,
 }
 
 impl Hints {
     /// No hint. It takes no memory.
     pub(crate) fn new(alloc: Global) -> Hints {
         Hints {
-            numbers: Vec::new(alloc),
+            last: Vec::new(alloc),
         }
     }
 
-    /// The number of the row that was last found at the first node of a key.
-    pub(crate) fn at(&self, key: &TableKey) -> usize {
-        match self.numbers.get(first(key)) {
-            Some(number) => *number as usize,
-            None => 0,
+    /// The number of the row that was found at the first node of a key twice in a row, if there is
+    /// one.
+    pub(crate) fn at(&self, key: &TableKey) -> Option<usize> {
+        match self.last.get(first(key)) {
+            Some(hint) if hint.twice => Some(hint.number as usize),
+            _ => None,
         }
     }
 
@@ -32,11 +41,16 @@ impl Hints {
             return;
         };
         let place = first(key);
-        if place >= self.numbers.len() && self.numbers.resize(place + 1, 0).is_err() {
+        let none = Hint {
+            number,
+            twice: false,
+        };
+        if place >= self.last.len() && self.last.resize(place + 1, none).is_err() {
             return;
         }
-        if place < self.numbers.len() {
-            self.numbers[place] = number;
+        if place < self.last.len() {
+            let twice = self.last[place].number == number;
+            self.last[place] = Hint { number, twice };
         }
     }
 }

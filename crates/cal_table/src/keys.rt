@@ -27,13 +27,15 @@ pub(crate) fn insert_key<K: Exact + Hash + Drop>(
 /// The number of a key, if it is there. It may be `near`, which saves a look-up then.
 pub(crate) fn find_key<K: Exact + Hash>(
     keys: &IndexSet<K, RandomState>,
-    near: usize,
+    near: Option<usize>,
     key: &K,
 ) -> Option<usize>
     ensures { IfSome result (λ number. slice_get keys.now.keys number ≡ Some key.now) }
 {
-    if has_at(keys.as_slice(), near, key) {
-        return Some(near);
+    if let Some(near) = near {
+        if has_at(keys.as_slice(), near, key) {
+            return Some(near);
+        }
     }
     keys.get_index_of(key)
 }

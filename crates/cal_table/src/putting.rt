@@ -71,7 +71,7 @@ pub(crate) fn add(
     alloc: Global,
     keys: &mut IndexSet<TableKey, RandomState>,
     rows: &mut Vec<AggRow>,
-    near: usize,
+    near: Option<usize>,
     key: &TableKey,
     row: &AggRow,
 ) -> Result<usize, OutOfMemory>

@@ -92,8 +92,8 @@ impl Table {
     }
 
     /// Adds a snapshot. An `Err` leaves the table. Where there is a row of the snapshot's key it
-    /// takes one look-up, or none where that row was the last one at the snapshot's first node; and
-    /// no memory but for texts in the key.
+    /// takes one look-up, or none where that row was found at the snapshot's first node twice in a
+    /// row; and no memory but for texts in the key.
     pub fn add_numbered(&mut self, snap: &NumberedSnap) -> Result<(), OutOfMemory>
         requires few { self.old.snapshots < 2 ^ 26 }
         requires numbers { All HasNumberOf64 snap.now.imms.items }
