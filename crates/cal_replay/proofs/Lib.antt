@@ -5,5 +5,6 @@ pub mod NotedLines
 pub mod Starting
 pub mod ManyLines
 mod ShowingLemmas
+mod ReadingOn
 mod ShownLines
 mod ShownAsNoted

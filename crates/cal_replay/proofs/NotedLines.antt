@@ -9,11 +9,13 @@ use Rattle.cal_notes.proofs.NextLines.{noted-next, state-next}
 use Rattle.cal_notes.specs.Running.{HasNoted, RunsNext, next_line, seen_behind}
 use Rattle.cal_notes.specs.Running.{state_behind, with_line}
 use Rattle.cal_process.specs.Operations.{history_of, placed_as}
+use Rattle.cal_process.specs.declared.common.Common.{Common}
 use Rattle.cal_replay.specs.Readings.{Asked, off_clock}
-use Rattle.cal_replay.specs.Steps.{Flushes, Runs, RunsLine, StepsOver, noted_line, noted_with}
+use Rattle.cal_replay.specs.Steps.{Runs, RunsLine, StepsOver, Tells, noted_line, noted_with}
 use Rattle.cal_replay.specs.Workers.{IsWorker, lines_done, lines_of, script_of, state_of}
 use Rattle.cal_replay.specs.declared.answer.Answer.{Answer}
 use Rattle.cal_replay.specs.declared.shared.Shared.{Shared}
+use Rattle.cal_replay.specs.declared.showing.ShownLine.{ShownLine}
 use Rattle.cal_replay.specs.declared.worker.Worker.{Worker}
 use Rattle.cal_run.specs.Lawful.{NotedLine}
 use Rattle.cal_run.specs.Lines.{line_at}
@@ -135,6 +137,7 @@ module _ (shared : Shared) (old new : Worker) (l : Line) (note : LineNote) (h : 
 -- ---- a step
 
 module _ {K F : Type 0} (given : K → Option (List ℕ))
+    (showing : Common → F → F → Thread → ShownLine → Type 0)
     (flushed : F → F → ℕ → replies.Reply → Type 0) (was is : K) (had has : F) (shared : Shared)
     (old : Worker) (mid : Thread) (new : Worker) (l : Line) (answer : Answer)
     (next : line_at (script_of shared) old.thread.number (length old.note.lines + 1) ≡ Some l)
@@ -144,7 +147,7 @@ module _ {K F : Type 0} (given : K → Option (List ℕ))
     (number : mid.number ≡ old.thread.number)
     (timed : mid.timed ≡ old.thread.timed)
     (asked : Asked given was is (off_clock shared.real answer.reading))
-    (flushes : Flushes flushed had has l answer.reply)
+    (tells : Tells showing flushed shared.common had has l answer.reply)
     (runs : (h : List OpRec) (state : ThreadState)
     → IsThread shared.common old.thread (length old.note.lines) h state
     → Runs shared old.thread mid l (noted_with answer mid) (length old.note.lines) h state) where
@@ -154,7 +157,7 @@ module _ {K F : Type 0} (given : K → Option (List ℕ))
   same-number : new.thread.number ≡ old.thread.number
   same-number = ap (λ (t : Thread). t.number) thread ∙ number
 
-  pub steps-over : StepsOver shared given flushed was is had has old new
+  pub steps-over : StepsOver shared given showing flushed was is had has old new
   steps-over = record {
     ran = l;
     next = next;
@@ -162,7 +165,7 @@ module _ {K F : Type 0} (given : K → Option (List ℕ))
     noted = noted-is;
     number = same-number;
     asked = asked;
-    flushes = flushes;
+    tells = tells;
     runs = λ h w. line-runs shared old new l (noted_with answer mid) h next w
         (subst (λ (t : Thread). Runs shared old.thread t l (noted_with answer mid)
         (length old.note.lines) h (state_of (script_of shared) h old)) (sym thread)

@@ -22,7 +22,7 @@ use Rattle.cal_replay.specs.Workers.{script_of}
 use Rattle.cal_replay.specs.declared.shared.Shared.{Shared}
 use Rattle.cal_run.specs.Lawful.{IsRead}
 use Rattle.cal_run.specs.Lines.{is_process_line, takes}
-use Rattle.cal_run.specs.Steps.{ThreadState, acted_on, changed, found_reply, is_accepted, looks}
+use Rattle.cal_run.specs.Steps.{ThreadState, changed, found_reply, is_accepted, looks}
 use Rattle.cal_run.specs.Steps.{reading_of, reply_to_line, state_after}
 use Rattle.cal_script.specs.declared.journal.LineNote.{LineNote}
 use Rattle.cal_script.specs.declared.journal.Placed.{Placed}

@@ -7,10 +7,12 @@ use Rattle.cal_once.specs.Seats.{view}
 use Rattle.cal_process.specs.Operations.{history_of, placed_as}
 use Rattle.cal_process.specs.Takings.{KeepsLooks, words_of_ops}
 use Rattle.cal_process.specs.Replicas.{AddsWords}
+use Rattle.cal_process.specs.declared.common.Common.{Common}
 use Rattle.cal_replay.specs.Readings.{Asked, AskedFor, off_clock, readings_of}
 use Rattle.cal_replay.specs.Workers.{IsWorker, lines_done, lines_of, script_of, state_of}
 use Rattle.cal_replay.specs.declared.answer.Answer.{Answer}
 use Rattle.cal_replay.specs.declared.shared.Shared.{Shared}
+use Rattle.cal_replay.specs.declared.showing.ShownLine.{ShownLine}
 use Rattle.cal_replay.specs.declared.worker.Worker.{Worker}
 use Rattle.cal_run.specs.Lawful.{NotedLine}
 use Rattle.cal_run.specs.Lines.{is_process_line, line_at}
@@ -59,6 +61,18 @@ abbrev pub Flushes : {F : Type 0} → (F → F → ℕ → replies.Reply → Typ
     → lines.Line → replies.Reply → Type 0
 Flushes flushed old new (line.Flush c) given = flushed old new c given
 Flushes flushed old new _ given = new ≡ old
+
+-- A line was shown to whoever keeps the channels, with its thread as it was then; and a flush was
+-- flushed behind that.
+pub record Tells {F : Type 0} (showing : Common → F → F → Thread → ShownLine → Type 0)
+    (flushed : F → F → ℕ → replies.Reply → Type 0) (common : Common) (had has : F)
+    (l : lines.Line) (given : replies.Reply) : Type 0 where
+  pub at : Thread
+  pub told : ShownLine
+  pub line_is : told.line ≡ l
+  pub between : F
+  pub shown : showing common had between at told
+  pub flushes : Flushes flushed between has l given
 
 -- the words that a line takes in the history
 abbrev pub placed_words : Script → lines.Line → ℕ
@@ -122,8 +136,9 @@ module _ (shared : Shared) where
     pub kept : IsWorker shared new (h ++ ops)
 
   -- A worker ran its next line, and noted it. A clock was asked for the line's reading, where it
-  -- has one and the run goes by real clocks; and a flush was flushed.
+  -- has one and the run goes by real clocks; it was shown to the channels, and a flush was flushed.
   pub record StepsOver {K F : Type 0} (given : K → Option (List ℕ))
+      (showing : Common → F → F → Thread → ShownLine → Type 0)
       (flushed : F → F → ℕ → replies.Reply → Type 0) (was is : K) (had has : F)
       (old new : Worker) : Type 0 where
     pub ran : lines.Line
@@ -133,7 +148,7 @@ module _ (shared : Shared) where
     pub noted : new.note ≡ with_line old.note note
     pub number : new.thread.number ≡ old.thread.number
     pub asked : Asked given was is (off_clock shared.real note.reading)
-    pub flushes : Flushes flushed had has ran note.reply
+    pub tells : Tells showing flushed shared.common had has ran note.reply
     pub runs : (h : List OpRec) → IsWorker shared old h → RunsLine old new ran note h
 
   -- ---- what all lines do
