@@ -38,10 +38,11 @@ line-is script thread place =
     (ne_eqb (place + 1) 0 (λ e. omega (arith, e)))
     ∙ ap (slice_get (lines_of script thread)) (let e : place + 1 - 1 ≡ place = omega arith in e)
 
-module _ (shared : Shared) (old new : Worker) (l : Line) (note : LineNote) (h : List OpRec)
+module _ (shared : Shared) (at : Thread) (told : ShownLine) (old new : Worker) (l : Line)
+    (note : LineNote) (h : List OpRec)
     (next : line_at (script_of shared) old.thread.number (length old.note.lines + 1) ≡ Some l)
     (w : IsWorker shared old h)
-    (r : Runs shared old.thread new.thread l note (length old.note.lines) h
+    (r : Runs shared old.thread at new.thread told l note (length old.note.lines) h
     (state_of (script_of shared) h old))
     (noted : new.note ≡ with_line old.note note)
     (number : new.thread.number ≡ old.thread.number)
@@ -119,11 +120,12 @@ module _ (shared : Shared) (old new : Worker) (l : Line) (note : LineNote) (h : 
       (with_line old.note note)) (sym lines-are)
       ∙ ap (state_behind script (history_of (h ++ r.ops)) (lines_done script new)) (sym noted)
 
-  pub line-runs : RunsLine shared old new l note h
+  pub line-runs : RunsLine shared at told old new l note h
   line-runs = record {
     ops = r.ops;
     sees = r.sees;
     words = r.words;
+    told_as = r.told_as;
     kept = record {
       thread = subst (λ (n : ℕ). IsThread shared.common new.thread n (h ++ r.ops)
           (state_of script (h ++ r.ops) new)) (sym count)
@@ -150,7 +152,8 @@ module _ {K F : Type 0} (given : K → Option (List ℕ))
     (tells : Tells showing flushed shared.common had has l answer.reply)
     (runs : (h : List OpRec) (state : ThreadState)
     → IsThread shared.common old.thread (length old.note.lines) h state
-    → Runs shared old.thread mid l (noted_with answer mid) (length old.note.lines) h state) where
+    → Runs shared old.thread tells.at mid tells.told l (noted_with answer mid)
+    (length old.note.lines) h state) where
   noted-is : new.note ≡ with_line old.note (noted_with answer mid)
   noted-is = λ j. record { start = start j; lines = lines j }
 
@@ -166,8 +169,9 @@ module _ {K F : Type 0} (given : K → Option (List ℕ))
     number = same-number;
     asked = asked;
     tells = tells;
-    runs = λ h w. line-runs shared old new l (noted_with answer mid) h next w
-        (subst (λ (t : Thread). Runs shared old.thread t l (noted_with answer mid)
+    runs = λ h w. line-runs shared tells.at tells.told old new l (noted_with answer mid) h next w
+        (subst (λ (t : Thread). Runs shared old.thread tells.at t tells.told l
+        (noted_with answer mid)
         (length old.note.lines) h (state_of (script_of shared) h old)) (sym thread)
         (runs h (state_of (script_of shared) h old) w.thread)) noted-is same-number
         (ap (λ (t : Thread). t.timed) thread ∙ timed);

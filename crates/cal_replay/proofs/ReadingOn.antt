@@ -22,6 +22,10 @@ use Rattle.cal_thread.specs.declared.thread.Thread.{Thread}
 use Rattle.cal_words.specs.declared.op.OpRec.{OpRec}
 use Rattle.cal_words.specs.declared.sort.NodeSort.{NodeSort}
 
+-- it has the number that it had
+pub number-reads : (old new : Thread) → OnlyReads old new → new.number ≡ old.number
+number-reads old new reads = ap (λ (t : Thread). t.number) reads.same
+
 -- within a process line it has placed what it had
 pub placed-reads : (common : Common) (old new : Thread) (op : OpRec) (h : List OpRec)
     (state : ThreadState) → OnlyReads old new → HasState common new h state

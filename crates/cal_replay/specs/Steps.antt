@@ -8,6 +8,7 @@ use Rattle.cal_process.specs.Operations.{history_of, placed_as}
 use Rattle.cal_process.specs.Takings.{KeepsLooks, words_of_ops}
 use Rattle.cal_process.specs.Replicas.{AddsWords}
 use Rattle.cal_process.specs.declared.common.Common.{Common}
+use Rattle.cal_replay.specs.Channels.{IsToldAs}
 use Rattle.cal_replay.specs.Readings.{Asked, AskedFor, off_clock, readings_of}
 use Rattle.cal_replay.specs.Workers.{IsWorker, lines_done, lines_of, script_of, state_of}
 use Rattle.cal_replay.specs.declared.answer.Answer.{Answer}
@@ -112,31 +113,35 @@ module _ (shared : Shared) where
         (words_of_ops (script_of shared) ops + own_words (script_of shared) l)
 
   -- A thread ran a line with this note, and has seen these operations more: the line keeps the
-  -- rules of journals by them, and the thread is as the line leaves it.
-  pub record Runs (old new : Thread) (l : lines.Line) (note : LineNote) (done : ℕ) (h : List OpRec)
-      (state : ThreadState) : Type 0 where
+  -- rules of journals by them, it was told as its note has it, and the thread is as the line leaves
+  -- it.
+  pub record Runs (old at new : Thread) (told : ShownLine) (l : lines.Line) (note : LineNote)
+      (done : ℕ) (h : List OpRec) (state : ThreadState) : Type 0 where
     pub ops : List OpRec
     pub next : (seen : ℕ) → RunsNext (script_of shared) shared.real (history_of h)
         (history_of ops) (noted_line old done seen l note state)
     pub sees : Sees old new done ops (is_process_line (script_of shared) l)
         (looks (script_of shared) (history_of h ++ history_of ops) l note state)
     pub words : UsesWords old new l ops
+    pub told_as : IsToldAs shared.common at told h ops note state
     pub kept : IsThread shared.common new (done + 1) (h ++ ops)
         (state_after (script_of shared) (history_of h ++ history_of ops) l note state)
 
   -- And a worker, whose notes are longer by it.
-  pub record RunsLine (old new : Worker) (l : lines.Line) (note : LineNote) (h : List OpRec)
-      : Type 0 where
+  pub record RunsLine (at : Thread) (told : ShownLine) (old new : Worker) (l : lines.Line)
+      (note : LineNote) (h : List OpRec) : Type 0 where
     pub ops : List OpRec
     pub sees : Sees old.thread new.thread (length old.note.lines) ops
         (is_process_line (script_of shared) l)
         (looks (script_of shared) (history_of h ++ history_of ops) l note
         (state_of (script_of shared) h old))
     pub words : UsesWords old.thread new.thread l ops
+    pub told_as : IsToldAs shared.common at told h ops note (state_of (script_of shared) h old)
     pub kept : IsWorker shared new (h ++ ops)
 
   -- A worker ran its next line, and noted it. A clock was asked for the line's reading, where it
-  -- has one and the run goes by real clocks; it was shown to the channels, and a flush was flushed.
+  -- has one and the run goes by real clocks; the channels were told it as it was noted, and a flush
+  -- was flushed.
   pub record StepsOver {K F : Type 0} (given : K → Option (List ℕ))
       (showing : Common → F → F → Thread → ShownLine → Type 0)
       (flushed : F → F → ℕ → replies.Reply → Type 0) (was is : K) (had has : F)
@@ -149,7 +154,8 @@ module _ (shared : Shared) where
     pub number : new.thread.number ≡ old.thread.number
     pub asked : Asked given was is (off_clock shared.real note.reading)
     pub tells : Tells showing flushed shared.common had has ran note.reply
-    pub runs : (h : List OpRec) → IsWorker shared old h → RunsLine old new ran note h
+    pub runs : (h : List OpRec) → IsWorker shared old h
+        → RunsLine tells.at tells.told old new ran note h
 
   -- ---- what all lines do
 

@@ -23,8 +23,8 @@ use cal_value::OutOfMemory;
 use cal_words::OpRec;
 use std::alloc::Global;
 
-/// Runs a process line: it is placed, answered by the process's board before its place, shown to the
-/// channels, and taken in.
+/// Runs a process line: it is placed, answered by the process's board before its place, shown to
+/// the channels, and taken in.
 pub(crate) fn run_shared<K: Clock, F: Flusher>(
     alloc: Global,
     shared: &Shared<'_>,
@@ -45,15 +45,16 @@ pub(crate) fn run_shared<K: Clock, F: Flusher>(
         × F.ready (script_of shared.now) flusher.old thread.old.timed (left + 1) }
     requires placed { IsPlaced (script_of shared.now).attributes (script_of shared.now).channels
         (script_of shared.now).values line }
-    ensures runs { IfOk result (λ answer. (done : ℕ) (h : List words.OpRec) (state : ThreadState)
+    ensures runs { IfOk result (λ answer. (tells : Tells F.shown F.flushed shared.now.common
+        flusher.old flusher.new line answer.reply)
+        × ((done : ℕ) (h : List words.OpRec) (state : ThreadState)
         → IsThread shared.now.common thread.old done h state → op.line ≡ done + 1
-        → Runs shared.now thread.old thread.new line (noted_with answer thread.new) done h state) }
+        → Runs shared.now thread.old tells.at thread.new tells.told line
+        (noted_with answer thread.new) done h state)) }
     ensures asked { IfOk result (λ answer.
         Asked K.given clock.old clock.new (off_clock shared.now.real answer.reading)) }
     ensures number { OnOk result (thread.new.number ≡ thread.old.number) }
     ensures timed { OnOk result (thread.new.timed ≡ thread.old.timed) }
-    ensures tells { IfOk result (λ answer. Tells F.shown F.flushed shared.now.common
-        flusher.old flusher.new line answer.reply) }
     ensures ready { OnOk result ((left : ℕ)
         → F.ready (script_of shared.now) flusher.old thread.old.timed (left + 1)
         → F.ready (script_of shared.now) flusher.new thread.old.timed left) }

@@ -1,7 +1,7 @@
-use Rattle.std.proofs.Common.{ℕ, ◌+◌, ◌++◌, ◌∙◌, Bool, ap, refl, sym, subst}
+use Rattle.std.proofs.Common.{ℕ, ◌+◌, ◌++◌, ◌∙◌, Bool, refl, sym, subst}
 use Rattle.cal_process.specs.Operations.{history_of}
 use Rattle.cal_replay.proofs.OwnLines.{is_due, own-runs, replies-there}
-use Rattle.cal_replay.proofs.ReadingOn.{own-read}
+use Rattle.cal_replay.proofs.ReadingOn.{number-reads, own-read}
 use Rattle.cal_replay.proofs.ShowingLemmas.{thread-reads}
 use Rattle.cal_replay.specs.Steps.{HasReply, IsGiven}
 use Rattle.cal_replay.specs.Workers.{script_of}
@@ -11,7 +11,7 @@ use Rattle.cal_run.specs.Steps.{acted_on}
 use Rattle.cal_script.specs.declared.journal.LineNote.{LineNote}
 use Rattle.cal_script.specs.declared.journal.Reply.TheVariants as reply
 use Rattle.cal_thread.specs.declared.thread.Thread.{Thread}
-use Rattle.std.specs.Prelude.{None}
+use Rattle.std.specs.Prelude.{None, unwrap_or}
 use Rattle.cal_replay.proofs.own_line.run_own.Goals as goal
 
 pub change_if-requires-clause-thread : goal.change_if-requires-clause-thread
@@ -51,41 +51,46 @@ reply_or_flush-requires g c =
     (replies-there script (acted_on script (history_of (t.1 ++ m.ops)) line note t.2) line)
 
 pub returns-clause-runs : goal.returns-clause-runs
-returns-clause-runs g c done h state w =
-    let shared = c.args.shared.now in
-    let old = c.args.thread.now in
-    let looked = c.look.new.self in
-    let mid = c.show.new.runner in
-    let reads = c.in_ok-show.ensures.reads in
-    let new = c.change_if.new.thread in
-    let line = c.args.line in
-    let met = c.in_ok-met.met in
-    let reading = c.read_line-reading.result in
-    let m = own-read shared.common old looked mid line h state reads c.in_ok-show.ensures.state met
-    done (c.in_ok-met.ensures.meets done h state w) in
-    let given = c.in_ok-reply.reply in
-    own-runs shared old mid new line met given reading done h state c.requires.own w m
-    (ap (λ (t : Thread). t.number) reads.same ∙ c.in_ok-met.ensures.number)
-    (subst (λ (n : ℕ). IsGiven n met.reply given) (c.in_ok-show.ensures.thread ∙ c.requires.flusher)
-    c.in_ok-reply.ensures.reply)
-    (subst (λ (t : Thread). IsRead (script_of shared)
-    (known_journal shared.real (history_of h ++ history_of m.ops))
-    (is_due (script_of shared) line met.reply) t.clock reading) (sym reads.same)
-    (c.read_line-reading.ensures.read (history_of h ++ history_of m.ops)))
-    c.in_ok-change_if.ensures.process
-    (λ note is k. c.in_ok-change_if.ensures.changed done (h ++ m.ops) state note
-    (is ∙ sym c.unwrap_or.ensures) k) c.in_ok-change_if.ensures.words
-
-pub returns-clause-tells : goal.returns-clause-tells
-returns-clause-tells g c = record {
-  at = c.show.new.runner;
-  told = record {
-    line = c.args.line;
-    accepted = c.in_ok-met.met.accepted;
-    reading = c.unwrap_or.result;
-  };
-  line_is = refl;
-  between = c.show.new.self;
-  shown = c.in_ok-show.ensures.shown;
-  flushes = c.in_ok-reply.ensures.flushes;
-}
+returns-clause-runs g c = (
+  record {
+    at = c.show.new.runner;
+    told = record {
+      line = c.args.line;
+      accepted = c.in_ok-met.met.accepted;
+      reading = unwrap_or c.read_line-reading.result 0;
+    };
+    line_is = refl;
+    between = c.show.new.self;
+    shown = subst (λ (reading : ℕ). g.F.Flusher.shown c.args.shared.now.common c.args.flusher.now
+        c.show.new.self c.show.new.runner (record {
+          line = c.args.line;
+          accepted = c.in_ok-met.met.accepted;
+          reading = reading;
+        })) c.unwrap_or.ensures c.in_ok-show.ensures.shown;
+    flushes = c.in_ok-reply.ensures.flushes;
+  },
+  (λ done h state w.
+      let shared = c.args.shared.now in
+      let old = c.args.thread.now in
+      let looked = c.look.new.self in
+      let mid = c.show.new.runner in
+      let reads = c.in_ok-show.ensures.reads in
+      let new = c.change_if.new.thread in
+      let line = c.args.line in
+      let met = c.in_ok-met.met in
+      let reading = c.read_line-reading.result in
+      let m = own-read shared.common old looked mid line h state reads
+      c.in_ok-show.ensures.state met done (c.in_ok-met.ensures.meets done h state w) in
+      let given = c.in_ok-reply.reply in
+      own-runs shared old mid new line met given reading done h state c.requires.own w m
+      (number-reads looked mid reads ∙ c.in_ok-met.ensures.number)
+      (subst (λ (n : ℕ). IsGiven n met.reply given)
+      (c.in_ok-show.ensures.thread ∙ c.requires.flusher) c.in_ok-reply.ensures.reply)
+      (subst (λ (t : Thread). IsRead (script_of shared)
+      (known_journal shared.real (history_of h ++ history_of m.ops))
+      (is_due (script_of shared) line met.reply) t.clock reading) (sym reads.same)
+      (c.read_line-reading.ensures.read (history_of h ++ history_of m.ops)))
+      c.in_ok-change_if.ensures.process
+      (λ note is k. c.in_ok-change_if.ensures.changed done (h ++ m.ops) state note
+      (is ∙ sym c.unwrap_or.ensures) k) c.in_ok-change_if.ensures.words),
+)

@@ -82,8 +82,8 @@ returns-in_ok-note-in-Some g c = record {
       (subst (λ (n : ℕ). line_at script old.thread.number n ≡ Some c.args.line)
       c.requires.number c.requires.next)
       noted.noted noted.start noted.thread answer.ensures.number answer.ensures.timed
-      answer.ensures.asked answer.ensures.tells
-      (λ h state w. answer.ensures.runs (length old.note.lines) h state w
+      answer.ensures.asked answer.ensures.runs.0
+      (λ h state w. answer.ensures.runs.1 (length old.note.lines) h state w
       (p.2 ∙ c.requires.number));
   flusher = c.in_ok-answer-in-Some.ensures.flusher;
   ready = subst (λ (b : Bool). (left : ℕ)
@@ -107,8 +107,8 @@ returns-in_ok-note-in-None g c = record {
       (subst (λ (n : ℕ). line_at script old.thread.number n ≡ Some c.args.line)
       c.requires.number c.requires.next)
       noted.noted noted.start noted.thread answer.ensures.number answer.ensures.timed
-      answer.ensures.asked answer.ensures.tells
-      (λ h state w. answer.ensures.runs (length old.note.lines) h state w);
+      answer.ensures.asked answer.ensures.runs.0
+      (λ h state w. answer.ensures.runs.1 (length old.note.lines) h state w);
   flusher = c.in_ok-answer-in-None.ensures.flusher;
   ready = subst (λ (b : Bool). (left : ℕ)
       → g.F.Flusher.ready (script_of c.args.shared.now) c.args.flusher.now b (left + 1)
