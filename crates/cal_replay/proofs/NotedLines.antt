@@ -126,6 +126,7 @@ module _ (shared : Shared) (at : Thread) (told : ShownLine) (old new : Worker) (
     sees = r.sees;
     words = r.words;
     told_as = r.told_as;
+    learns = r.learns;
     kept = record {
       thread = subst (λ (n : ℕ). IsThread shared.common new.thread n (h ++ r.ops)
           (state_of script (h ++ r.ops) new)) (sym count)

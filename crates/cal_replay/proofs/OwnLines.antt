@@ -17,7 +17,7 @@ use Rattle.cal_process.specs.declared.replica.Replica.{Replica}
 use Rattle.cal_replay.proofs.ShowingLemmas.{reads-nothing}
 use Rattle.cal_replay.proofs.ShownAsNoted.{own-shown}
 use Rattle.cal_replay.proofs.Takings.{looks-published, looks-used, taken-others}
-use Rattle.cal_replay.specs.Steps.{Flushes, HasReply, IsGiven, Runs, Sees, UsesWords, noted_line}
+use Rattle.cal_replay.specs.Steps.{Flushes, HasReply, IsGiven, KnowMore, Runs, Sees, UsesWords, noted_line}
 use Rattle.cal_replay.specs.Steps.{noted_with}
 use Rattle.cal_replay.specs.Steps.{own_words, placed_words}
 use Rattle.cal_replay.specs.Workers.{script_of}
@@ -166,7 +166,8 @@ module _ (shared : Shared) (old mid new : Thread) (l : lines.Line) (met : Met)
     → IsThread shared.common new done (h ++ m.ops)
     (if met.accepted then changed (script_of shared) (history_of (h ++ m.ops)) l note state
     else state))
-    (adds : AddsWords shared.common mid.tree new.tree (words_of_line (script_of shared) l)) where
+    (adds : AddsWords shared.common mid.tree new.tree (words_of_line (script_of shared) l))
+    (learns : KnowMore old mid new) where
   abbrev script : Script
   script = script_of shared
 
@@ -250,6 +251,7 @@ module _ (shared : Shared) (old mid new : Thread) (l : lines.Line) (met : Met)
       as_noted = own-shown shared.common old mid mid told h state note (reads-nothing mid) refl met
           done m m.kept.has own refl (ap (λ (p : Replica). p.seen) process);
     };
+    learns = learns;
     kept = line-done shared.common new done (h ++ m.ops) (state_after script hist l note state)
         (subst (λ (s : ThreadState). IsThread shared.common new done (h ++ m.ops) s) after
         (makes note refl m.kept));

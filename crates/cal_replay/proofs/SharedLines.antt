@@ -15,7 +15,7 @@ use Rattle.cal_replay.proofs.OwnLines.{given-noted, is_due, merged-given, read-b
 use Rattle.cal_replay.proofs.ShowingLemmas.{reads-nothing}
 use Rattle.cal_replay.proofs.ShownAsNoted.{shared-shown}
 use Rattle.cal_replay.proofs.Takings.{taken-others}
-use Rattle.cal_replay.specs.Steps.{Runs, Sees, SeesPlace, UsesWords, noted_with}
+use Rattle.cal_replay.specs.Steps.{KnowMore, Runs, Sees, SeesPlace, UsesWords, noted_with}
 use Rattle.cal_replay.specs.Steps.{own_words, placed_words}
 use Rattle.cal_replay.specs.Workers.{script_of}
 use Rattle.cal_replay.specs.declared.shared.Shared.{Shared}
@@ -60,7 +60,8 @@ module _ (shared : Shared) (old mid new : Thread) (l : Line) (op : OpRec)
     (m : MeetsShared shared.common old mid l op answer h state)
     (t : TakesOwn shared.common mid new op (h ++ m.ops) state)
     (read : IsRead (script_of shared) (known_journal shared.real (history_of h))
-    (is_due (script_of shared) l answer) mid.clock reading) where
+    (is_due (script_of shared) l answer) mid.clock reading)
+    (knows : KnowMore old mid new) where
   abbrev script : Script
   script = script_of shared
 
@@ -169,6 +170,7 @@ module _ (shared : Shared) (old mid new : Thread) (l : Line) (op : OpRec)
       as_noted = shared-shown shared.common old mid mid told h state note (reads-nothing mid) refl
           op answer m m.placed.has process refl t.seen;
     };
+    learns = knows;
     kept = subst (λ (s : ThreadState). IsThread shared.common new (done + 1) (h ++ ops) s)
         (sym (shared-after script hist l note state process))
         (subst (λ (os : List OpRec). IsThread shared.common new (done + 1) os state) assoc

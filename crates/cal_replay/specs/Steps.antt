@@ -4,6 +4,7 @@ use Rattle.std.specs.Prelude.{Option, Some, None, is_some, if◌then◌else◌}
 use Rattle.cal_notes.specs.Notes.{IsFlushNote}
 use Rattle.cal_notes.specs.Running.{RunsNext, with_line}
 use Rattle.cal_once.specs.Seats.{view}
+use Rattle.cal_once.specs.Views.{KnowsMore}
 use Rattle.cal_process.specs.Operations.{history_of, placed_as}
 use Rattle.cal_process.specs.Takings.{KeepsLooks, words_of_ops}
 use Rattle.cal_process.specs.Replicas.{AddsWords}
@@ -75,6 +76,11 @@ pub record Tells {F : Type 0} (showing : Common → F → F → Thread → Shown
   pub shown : showing common had between at told
   pub flushes : Flushes flushed between has l given
 
+-- By a line the thread's seat at the tree learned: up to where it was told, and behind that.
+abbrev pub KnowMore : (old at new : Thread) → Type 0
+KnowMore old at new =
+    KnowsMore (view old.tree) (view at.tree) × KnowsMore (view at.tree) (view new.tree)
+
 -- the words that a line takes in the history
 abbrev pub placed_words : Script → lines.Line → ℕ
 placed_words script l = if is_process_line script l then 7 else 0
@@ -124,6 +130,7 @@ module _ (shared : Shared) where
         (looks (script_of shared) (history_of h ++ history_of ops) l note state)
     pub words : UsesWords old new l ops
     pub told_as : IsToldAs shared.common at told h ops note state
+    pub learns : KnowMore old at new
     pub kept : IsThread shared.common new (done + 1) (h ++ ops)
         (state_after (script_of shared) (history_of h ++ history_of ops) l note state)
 
@@ -137,6 +144,7 @@ module _ (shared : Shared) where
         (state_of (script_of shared) h old))
     pub words : UsesWords old.thread new.thread l ops
     pub told_as : IsToldAs shared.common at told h ops note (state_of (script_of shared) h old)
+    pub learns : KnowMore old.thread at new.thread
     pub kept : IsWorker shared new (h ++ ops)
 
   -- A worker ran its next line, and noted it. A clock was asked for the line's reading, where it

@@ -1,6 +1,8 @@
 //! A line that is its thread's own.
 ghost use Rattle.std.specs.Prelude.{◌≡◌, ℕ, ◌+◌, false, if◌then◌else◌, List, IfOk, OnOk};
 ghost use Rattle.cal_channel.specs.SmallNumbers.{HasSaidValues};
+ghost use Rattle.cal_once.specs.Seats.{view};
+ghost use Rattle.cal_once.specs.Views.{KnowsMore};
 ghost use Rattle.cal_process.specs.Operations.{history_of};
 ghost use Rattle.cal_process.specs.Replicas.{AddsWords, IsCommon};
 ghost use Rattle.cal_replay.specs.Readings.{Asked, off_clock};
@@ -102,6 +104,7 @@ fn change_if(
     ensures process { OnOk result (thread.new.process ≡ thread.old.process) }
     ensures words { OnOk result (AddsWords common.now thread.old.tree thread.new.tree
         (words_of_line common.now.script.now line)) }
+    ensures learns { OnOk result (KnowsMore (view thread.old.tree) (view thread.new.tree)) }
     ensures number { OnOk result (thread.new.number ≡ thread.old.number) }
     ensures timed { OnOk result (thread.new.timed ≡ thread.old.timed) }
 {

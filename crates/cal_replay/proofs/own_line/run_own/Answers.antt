@@ -92,5 +92,8 @@ returns-clause-runs g c = (
       (c.read_line-reading.ensures.read (history_of h ++ history_of m.ops)))
       c.in_ok-change_if.ensures.process
       (λ note is k. c.in_ok-change_if.ensures.changed done (h ++ m.ops) state note
-      (is ∙ sym c.unwrap_or.ensures) k) c.in_ok-change_if.ensures.words),
+      (is ∙ sym c.unwrap_or.ensures) k) c.in_ok-change_if.ensures.words (
+        (λ i x s. reads.learns.more i x (c.in_ok-met.ensures.learns i x s)),
+        c.in_ok-change_if.ensures.learns,
+      )),
 )

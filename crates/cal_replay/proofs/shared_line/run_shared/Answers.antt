@@ -88,5 +88,8 @@ returns-clause-runs g c = (
       c.requires.own is (number-reads placed mid reads ∙ c.in_ok-reply.ensures.number) w m t
       (subst (λ (t : Thread). IsRead (script_of shared) (known_journal shared.real (history_of h))
       (is_due (script_of shared) line answer) t.clock reading) (sym reads.same)
-      (c.read_line-reading.ensures.read (history_of h))))),
+      (c.read_line-reading.ensures.read (history_of h))) (
+        (λ i x s. reads.learns.more i x (c.in_ok-reply.ensures.learns i x s)),
+        c.in_ok-take_own.ensures.learns,
+      ))),
 )
