@@ -8,3 +8,4 @@ mod ShowingLemmas
 mod ReadingOn
 mod ShownLines
 mod ShownAsNoted
+mod ToldLines

@@ -38,6 +38,24 @@ line-is script thread place =
     (ne_eqb (place + 1) 0 (λ e. omega (arith, e)))
     ∙ ap (slice_get (lines_of script thread)) (let e : place + 1 - 1 ≡ place = omega arith in e)
 
+-- a worker whose notes are longer by a line's has done that line too
+pub lines-more : (script : Script) (old new : Worker) (l : Line) (note : LineNote)
+    → line_at script old.thread.number (length old.note.lines + 1) ≡ Some l
+    → new.note ≡ with_line old.note note → new.thread.number ≡ old.thread.number
+    → lines_done script new ≡ lines_done script old ++ l ∷ []
+lines-more script old new l note next noted number =
+    let lines = lines_of script old.thread.number in
+    let done = length old.note.lines in
+    let count : length new.note.lines ≡ done + 1 =
+    ap (λ (n : ThreadNote). length n.lines) noted ∙ length_push old.note.lines note in
+    let there : slice_get lines done ≡ Some l =
+    sym (line-is script old.thread.number done) ∙ next in
+    ap (λ (n : ℕ). take n (lines_of script new.thread.number)) count
+    ∙ ap (λ (n : ℕ). take (done + 1) (lines_of script n)) number
+    ∙ take_more lines done l (slice_get_within lines done l there)
+    ∙ ap (λ (x : Line). lines_done script old ++ x ∷ [])
+    (get_or_from_slice_get lines done l l there)
+
 module _ (shared : Shared) (at : Thread) (told : ShownLine) (old new : Worker) (l : Line)
     (note : LineNote) (h : List OpRec)
     (next : line_at (script_of shared) old.thread.number (length old.note.lines + 1) ≡ Some l)
@@ -63,15 +81,7 @@ module _ (shared : Shared) (at : Thread) (told : ShownLine) (old new : Worker) (
   count = ap (λ (n : ThreadNote). length n.lines) noted ∙ length_push old.note.lines note
 
   lines-are : lines_done script new ≡ ls ++ l ∷ []
-  lines-are =
-      let lines = lines_of script old.thread.number in
-      let done = length old.note.lines in
-      let there : slice_get lines done ≡ Some l =
-      sym (line-is script old.thread.number done) ∙ next in
-      ap (λ (n : ℕ). take n (lines_of script new.thread.number)) count
-      ∙ ap (λ (n : ℕ). take (done + 1) (lines_of script n)) number
-      ∙ take_more lines done l (slice_get_within lines done l there)
-      ∙ ap (λ (x : Line). ls ++ x ∷ []) (get_or_from_slice_get lines done l l there)
+  lines-are = lines-more script old new l note next noted number
 
   long : length old.note.lines ≡ length ls
   long = w.noted.rules.long

@@ -17,7 +17,8 @@ use Rattle.cal_process.specs.declared.replica.Replica.{Replica}
 use Rattle.cal_replay.proofs.ShowingLemmas.{reads-nothing}
 use Rattle.cal_replay.proofs.ShownAsNoted.{own-shown}
 use Rattle.cal_replay.proofs.Takings.{looks-published, looks-used, taken-others}
-use Rattle.cal_replay.specs.Steps.{Flushes, HasReply, IsGiven, KnowMore, Runs, Sees, UsesWords, noted_line}
+use Rattle.cal_replay.specs.Steps.{Flushes, HasReply, IsGiven, KnowMore, Runs, Sees}
+use Rattle.cal_replay.specs.Steps.{UsesWords, noted_line}
 use Rattle.cal_replay.specs.Steps.{noted_with}
 use Rattle.cal_replay.specs.Steps.{own_words, placed_words}
 use Rattle.cal_replay.specs.Workers.{script_of}

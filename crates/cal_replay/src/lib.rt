@@ -27,5 +27,5 @@ pub use flusher::Flusher;
 pub use flushing::flush;
 pub use shared::Shared;
 pub use showing::{ShownLine, show};
-pub use shown_laws::{shown_as_noted_law, shown_lines_law};
+pub use shown_laws::{shown_as_noted_law, shown_lines_law, told_step_law};
 pub use worker::Worker;

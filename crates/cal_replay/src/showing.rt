@@ -3,7 +3,8 @@ ghost use Rattle.std.specs.Prelude.{◌≡◌, ℕ, ◌+◌, List, IfOk, OnOk, t
 ghost use Rattle.cal_channel.specs.Closing.{HasRead};
 ghost use Rattle.cal_channel.specs.Values.{HasRoom};
 ghost use Rattle.cal_process.specs.Replicas.{IsCommon};
-ghost use Rattle.cal_replay.specs.Showing.{AreShown, HaveRoomFor, IsSaid, IsShown, MayShow, OnlyReads};
+ghost use Rattle.cal_replay.specs.Showing.{AreShown, HaveRoomFor, IsSaid, IsShown, MayShow};
+ghost use Rattle.cal_replay.specs.Showing.{OnlyReads};
 ghost use Rattle.cal_run.specs.Lines.{operation_of};
 ghost use Rattle.cal_run.specs.Numbers.{AreNamedInSome};
 ghost use Rattle.cal_run.specs.Steps.{ThreadState};
