@@ -1,5 +1,6 @@
 -- What is added to a channel's trace and table means a record more.
-use Rattle.std.proofs.Common.{◌≡◌, Bool, true, List, [], ◌∷◌, ◌++◌, map, ap, subst, sym, refl, ◌∙◌}
+use Rattle.std.proofs.Common.{◌≡◌, ◌+◌, ◌≤◌, Bool, true, List, [], ◌∷◌, ◌++◌, map, ap, arith}
+use Rattle.std.proofs.Common.{subst, sym, refl, ◌∙◌}
 use Rattle.std.specs.Prelude.{Option, None, Some, IfSome, All, is_some}
 use Rattle.std.specs.List.{AllZip}
 use Rattle.std.specs.Option.{option_map}
@@ -9,7 +10,7 @@ use Rattle.cal_channel.specs.Channels.{Counts, IsCounted, IsPathShown, IsTraced,
 use Rattle.cal_channel.specs.Channels.{TakesMore}
 use Rattle.cal_channel.specs.Shown.{numbered_entry}
 use Rattle.cal_channel.specs.Traces.{ShownSnap}
-use Rattle.cal_channel.specs.Values.{ChannelValue, Counted, KeepsServices}
+use Rattle.cal_channel.specs.Values.{ChannelValue, Counted, KeepsServices, unflushed_of}
 use Rattle.cal_once.specs.declared.seat.RowSeat.{RowSeat}
 use Rattle.cal_run.specs.Held.{Shows}
 use Rattle.cal_run.specs.Snapshots.{Sight}
@@ -97,6 +98,15 @@ shape-kept None new nodes entries counted = ap (option_map (λ (t : TableValue).
 shape-kept (Some old) new nodes entries counted =
     ap (option_map (λ (t : TableValue). t.shape)) counted.1 ∙ ap Some counted.2.added.shape
 
+few-more : (old new : Option TableValue) (nodes : List NodeId) (entries : List NumberedEntry)
+    → Counted nodes entries old new → unflushed_of new ≤ unflushed_of old + 1
+few-more None new nodes entries counted =
+    let none : unflushed_of new ≡ 0 = ap unflushed_of counted in omega (arith, none)
+few-more (Some old) new nodes entries counted =
+    let is : unflushed_of new ≡ counted.0.snapshots = ap unflushed_of counted.1 in
+    let one : counted.0.snapshots ≡ old.snapshots + 1 = counted.2.added.snapshots in
+    omega (arith, is, one)
+
 pub services-kept : (old new : ChannelValue) (snap : ShownSnap) (entries : List NumberedEntry)
     → new.trace ≡ option_map (λ (snaps : List ShownSnap). snaps ++ snap ∷ []) old.trace
     → Counted snap.nodes entries old.table new.table → KeepsServices old new
@@ -104,6 +114,7 @@ services-kept old new snap entries traced counted = record {
   trace = ap is_some traced
       ∙ is_some-mapped (λ (snaps : List ShownSnap). snaps ++ snap ∷ []) old.trace;
   shape = shape-kept old.table new.table snap.nodes entries counted;
+  few = few-more old.table new.table snap.nodes entries counted;
 }
 
 -- ---- what a moment shows

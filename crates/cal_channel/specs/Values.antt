@@ -1,6 +1,6 @@
 -- What contracts see of a channel of a thread.
-use Rattle.std.specs.Prelude.{◌≡◌, ℕ, ◌<◌, ◌^◌, Bool, List, [], ◌∷◌, if◌then◌else◌}
-use Rattle.std.specs.Prelude.{Option, Some, None, IfSome, is_some, option_map}
+use Rattle.std.specs.Prelude.{◌≡◌, ℕ, ◌+◌, ◌<◌, ◌≤◌, ◌^◌, Bool, List, [], ◌∷◌, if◌then◌else◌}
+use Rattle.std.specs.Prelude.{Option, Some, None, IfSome, is_some, option_map, unwrap_or}
 use Rattle.cal_channel.specs.Traces.{ShownSnap}
 use Rattle.cal_snap.specs.declared.numbered.NumberedEntry.{NumberedEntry}
 use Rattle.cal_snap.specs.declared.numbered.NumberedSnap.{NumberedSnap}
@@ -32,11 +32,17 @@ started_at c reading = record { previous = reading; trace = c.trace; table = c.t
 abbrev pub with_table : ChannelValue → TableValue → ChannelValue
 with_table c table = record { previous = c.previous; trace = c.trace; table = Some table }
 
--- The channel has a trace where it had one, and a table of the same shape where it had one.
+-- how many snapshots its table stands for, 0 where it has none
+abbrev pub unflushed_of : Option TableValue → ℕ
+unflushed_of table = unwrap_or (option_map (λ (t : TableValue). t.snapshots) table) 0
+
+-- The channel has a trace where it had one, and a table of the same shape where it had one, which
+-- stands for at most one snapshot more.
 pub record KeepsServices (old new : ChannelValue) : Type 0 where
   pub trace : is_some new.trace ≡ is_some old.trace
   pub shape : option_map (λ (t : TableValue). t.shape) new.table
       ≡ option_map (λ (t : TableValue). t.shape) old.table
+  pub few : unflushed_of new.table ≤ unflushed_of old.table + 1
 
 -- the table, if there is one, has room: it stands for fewer snapshots than a run has lines at most
 abbrev pub HasRoom : ChannelValue → Type 0

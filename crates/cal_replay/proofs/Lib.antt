@@ -5,5 +5,7 @@ pub mod NotedLines
 pub mod Starting
 pub mod ManyLines
 mod ShowingLemmas
+mod ReadingOn
 mod ShownLines
 mod ShownAsNoted
+mod ToldLines

@@ -6,14 +6,17 @@ use Rattle.std.specs.List.{cons_option}
 use Rattle.std.proofs.lemmas.List.{length_push}
 use Rattle.std.proofs.lemmas.List.Elements.{filter_map-append}
 use Rattle.cal_base.specs.Told.{Gives}
+use Rattle.cal_process.specs.declared.common.Common.{Common}
 use Rattle.cal_replay.specs.Readings.{Asked, AskedFor, off_clock, readings_of}
 use Rattle.cal_replay.specs.Steps.{StepsOver}
 use Rattle.cal_replay.specs.Workers.{IsWorker}
 use Rattle.cal_replay.specs.declared.shared.Shared.{Shared}
+use Rattle.cal_replay.specs.declared.showing.ShownLine.{ShownLine}
 use Rattle.cal_replay.specs.declared.worker.Worker.{Worker}
 use Rattle.cal_script.specs.declared.journal.LineNote.{LineNote}
 use Rattle.cal_script.specs.declared.journal.Reply as replies
 use Rattle.cal_script.specs.declared.journal.ThreadNote.{ThreadNote}
+use Rattle.cal_thread.specs.declared.thread.Thread.{Thread}
 use Rattle.cal_words.specs.declared.op.OpRec.{OpRec}
 
 -- ---- readings
@@ -61,9 +64,10 @@ readings-more ns n =
 -- ---- one step more
 
 module _ {K F : Type 0} (given : K → Option (List ℕ))
+    (showing : Common → F → F → Thread → ShownLine → Type 0)
     (flushed : F → F → ℕ → replies.Reply → Type 0) (shared : Shared) (old mid new : Worker)
     (was before is : K) (had has : F)
-    (s : StepsOver shared given flushed before is had has mid new) where
+    (s : StepsOver shared given showing flushed before is had has mid new) where
   pub ran-more : (h : List OpRec) → (ops : List OpRec) × IsWorker shared mid (h ++ ops)
       → (ops : List OpRec) × IsWorker shared new (h ++ ops)
   ran-more h m =

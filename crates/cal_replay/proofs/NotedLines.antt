@@ -9,11 +9,13 @@ use Rattle.cal_notes.proofs.NextLines.{noted-next, state-next}
 use Rattle.cal_notes.specs.Running.{HasNoted, RunsNext, next_line, seen_behind}
 use Rattle.cal_notes.specs.Running.{state_behind, with_line}
 use Rattle.cal_process.specs.Operations.{history_of, placed_as}
+use Rattle.cal_process.specs.declared.common.Common.{Common}
 use Rattle.cal_replay.specs.Readings.{Asked, off_clock}
-use Rattle.cal_replay.specs.Steps.{Flushes, Runs, RunsLine, StepsOver, noted_line, noted_with}
+use Rattle.cal_replay.specs.Steps.{Runs, RunsLine, StepsOver, Tells, noted_line, noted_with}
 use Rattle.cal_replay.specs.Workers.{IsWorker, lines_done, lines_of, script_of, state_of}
 use Rattle.cal_replay.specs.declared.answer.Answer.{Answer}
 use Rattle.cal_replay.specs.declared.shared.Shared.{Shared}
+use Rattle.cal_replay.specs.declared.showing.ShownLine.{ShownLine}
 use Rattle.cal_replay.specs.declared.worker.Worker.{Worker}
 use Rattle.cal_run.specs.Lawful.{NotedLine}
 use Rattle.cal_run.specs.Lines.{line_at}
@@ -36,10 +38,29 @@ line-is script thread place =
     (ne_eqb (place + 1) 0 (λ e. omega (arith, e)))
     ∙ ap (slice_get (lines_of script thread)) (let e : place + 1 - 1 ≡ place = omega arith in e)
 
-module _ (shared : Shared) (old new : Worker) (l : Line) (note : LineNote) (h : List OpRec)
+-- a worker whose notes are longer by a line's has done that line too
+pub lines-more : (script : Script) (old new : Worker) (l : Line) (note : LineNote)
+    → line_at script old.thread.number (length old.note.lines + 1) ≡ Some l
+    → new.note ≡ with_line old.note note → new.thread.number ≡ old.thread.number
+    → lines_done script new ≡ lines_done script old ++ l ∷ []
+lines-more script old new l note next noted number =
+    let lines = lines_of script old.thread.number in
+    let done = length old.note.lines in
+    let count : length new.note.lines ≡ done + 1 =
+    ap (λ (n : ThreadNote). length n.lines) noted ∙ length_push old.note.lines note in
+    let there : slice_get lines done ≡ Some l =
+    sym (line-is script old.thread.number done) ∙ next in
+    ap (λ (n : ℕ). take n (lines_of script new.thread.number)) count
+    ∙ ap (λ (n : ℕ). take (done + 1) (lines_of script n)) number
+    ∙ take_more lines done l (slice_get_within lines done l there)
+    ∙ ap (λ (x : Line). lines_done script old ++ x ∷ [])
+    (get_or_from_slice_get lines done l l there)
+
+module _ (shared : Shared) (at : Thread) (told : ShownLine) (old new : Worker) (l : Line)
+    (note : LineNote) (h : List OpRec)
     (next : line_at (script_of shared) old.thread.number (length old.note.lines + 1) ≡ Some l)
     (w : IsWorker shared old h)
-    (r : Runs shared old.thread new.thread l note (length old.note.lines) h
+    (r : Runs shared old.thread at new.thread told l note (length old.note.lines) h
     (state_of (script_of shared) h old))
     (noted : new.note ≡ with_line old.note note)
     (number : new.thread.number ≡ old.thread.number)
@@ -60,15 +81,7 @@ module _ (shared : Shared) (old new : Worker) (l : Line) (note : LineNote) (h : 
   count = ap (λ (n : ThreadNote). length n.lines) noted ∙ length_push old.note.lines note
 
   lines-are : lines_done script new ≡ ls ++ l ∷ []
-  lines-are =
-      let lines = lines_of script old.thread.number in
-      let done = length old.note.lines in
-      let there : slice_get lines done ≡ Some l =
-      sym (line-is script old.thread.number done) ∙ next in
-      ap (λ (n : ℕ). take n (lines_of script new.thread.number)) count
-      ∙ ap (λ (n : ℕ). take (done + 1) (lines_of script n)) number
-      ∙ take_more lines done l (slice_get_within lines done l there)
-      ∙ ap (λ (x : Line). ls ++ x ∷ []) (get_or_from_slice_get lines done l l there)
+  lines-are = lines-more script old new l note next noted number
 
   long : length old.note.lines ≡ length ls
   long = w.noted.rules.long
@@ -117,11 +130,13 @@ module _ (shared : Shared) (old new : Worker) (l : Line) (note : LineNote) (h : 
       (with_line old.note note)) (sym lines-are)
       ∙ ap (state_behind script (history_of (h ++ r.ops)) (lines_done script new)) (sym noted)
 
-  pub line-runs : RunsLine shared old new l note h
+  pub line-runs : RunsLine shared at told old new l note h
   line-runs = record {
     ops = r.ops;
     sees = r.sees;
     words = r.words;
+    told_as = r.told_as;
+    learns = r.learns;
     kept = record {
       thread = subst (λ (n : ℕ). IsThread shared.common new.thread n (h ++ r.ops)
           (state_of script (h ++ r.ops) new)) (sym count)
@@ -135,6 +150,7 @@ module _ (shared : Shared) (old new : Worker) (l : Line) (note : LineNote) (h : 
 -- ---- a step
 
 module _ {K F : Type 0} (given : K → Option (List ℕ))
+    (showing : Common → F → F → Thread → ShownLine → Type 0)
     (flushed : F → F → ℕ → replies.Reply → Type 0) (was is : K) (had has : F) (shared : Shared)
     (old : Worker) (mid : Thread) (new : Worker) (l : Line) (answer : Answer)
     (next : line_at (script_of shared) old.thread.number (length old.note.lines + 1) ≡ Some l)
@@ -144,17 +160,18 @@ module _ {K F : Type 0} (given : K → Option (List ℕ))
     (number : mid.number ≡ old.thread.number)
     (timed : mid.timed ≡ old.thread.timed)
     (asked : Asked given was is (off_clock shared.real answer.reading))
-    (flushes : Flushes flushed had has l answer.reply)
+    (tells : Tells showing flushed shared.common had has l answer.reply)
     (runs : (h : List OpRec) (state : ThreadState)
     → IsThread shared.common old.thread (length old.note.lines) h state
-    → Runs shared old.thread mid l (noted_with answer mid) (length old.note.lines) h state) where
+    → Runs shared old.thread tells.at mid tells.told l (noted_with answer mid)
+    (length old.note.lines) h state) where
   noted-is : new.note ≡ with_line old.note (noted_with answer mid)
   noted-is = λ j. record { start = start j; lines = lines j }
 
   same-number : new.thread.number ≡ old.thread.number
   same-number = ap (λ (t : Thread). t.number) thread ∙ number
 
-  pub steps-over : StepsOver shared given flushed was is had has old new
+  pub steps-over : StepsOver shared given showing flushed was is had has old new
   steps-over = record {
     ran = l;
     next = next;
@@ -162,9 +179,10 @@ module _ {K F : Type 0} (given : K → Option (List ℕ))
     noted = noted-is;
     number = same-number;
     asked = asked;
-    flushes = flushes;
-    runs = λ h w. line-runs shared old new l (noted_with answer mid) h next w
-        (subst (λ (t : Thread). Runs shared old.thread t l (noted_with answer mid)
+    tells = tells;
+    runs = λ h w. line-runs shared tells.at tells.told old new l (noted_with answer mid) h next w
+        (subst (λ (t : Thread). Runs shared old.thread tells.at t tells.told l
+        (noted_with answer mid)
         (length old.note.lines) h (state_of (script_of shared) h old)) (sym thread)
         (runs h (state_of (script_of shared) h old) w.thread)) noted-is same-number
         (ap (λ (t : Thread). t.timed) thread ∙ timed);

@@ -1,10 +1,10 @@
 -- A line that is its thread's own.
-use Rattle.std.proofs.Common.{◌≡◌, ℕ, ◌+◌, ◌<◌, ◌≤◌, List, ◌++◌, length, Bool, true, false}
-use Rattle.std.proofs.Common.{if◌then◌else◌, refl, sym, ap, ◌∙◌, subst, arith, inl, inr, ◌⊎◌}
+use Rattle.std.proofs.Common.{◌≡◌, ℕ, ◌+◌, ◌<◌, ◌≤◌, List, [], ◌++◌, length, Bool, true}
+use Rattle.std.proofs.Common.{false, if◌then◌else◌, refl, sym, ap, ◌∙◌, subst, arith, inl, inr, ◌⊎◌}
 use Rattle.std.specs.Prelude.{Option, Some, None, unwrap_or, ◌&&◌}
 use Rattle.std.specs.List.{list_any}
 use Rattle.std.proofs.lemmas.Bool.{cases_lt}
-use Rattle.std.proofs.lemmas.List.{length-map, map-append}
+use Rattle.std.proofs.lemmas.List.{append-nil, length-map, map-append}
 use Rattle.cal_board.specs.Blackboard.{Blackboard}
 use Rattle.cal_notes.specs.Notes.{IsNotedReply, OfOthers, known_journal}
 use Rattle.cal_notes.specs.Running.{Learns}
@@ -14,15 +14,19 @@ use Rattle.cal_process.specs.Operations.{history_of, placed_as}
 use Rattle.cal_process.specs.Replicas.{AddsWords}
 use Rattle.cal_process.specs.declared.common.Common.{Common}
 use Rattle.cal_process.specs.declared.replica.Replica.{Replica}
+use Rattle.cal_replay.proofs.ShowingLemmas.{reads-nothing}
+use Rattle.cal_replay.proofs.ShownAsNoted.{own-shown}
 use Rattle.cal_replay.proofs.Takings.{looks-published, looks-used, taken-others}
-use Rattle.cal_replay.specs.Steps.{Flushes, HasReply, IsGiven, Runs, Sees, UsesWords, noted_line}
+use Rattle.cal_replay.specs.Steps.{Flushes, HasReply, IsGiven, KnowMore, Runs, Sees}
+use Rattle.cal_replay.specs.Steps.{UsesWords, noted_line}
 use Rattle.cal_replay.specs.Steps.{noted_with}
 use Rattle.cal_replay.specs.Steps.{own_words, placed_words}
 use Rattle.cal_replay.specs.Workers.{script_of}
 use Rattle.cal_replay.specs.declared.shared.Shared.{Shared}
+use Rattle.cal_replay.specs.declared.showing.ShownLine.{ShownLine}
 use Rattle.cal_run.specs.Lawful.{IsRead}
 use Rattle.cal_run.specs.Lines.{is_process_line, takes}
-use Rattle.cal_run.specs.Steps.{ThreadState, acted_on, changed, found_reply, is_accepted, looks}
+use Rattle.cal_run.specs.Steps.{ThreadState, changed, found_reply, is_accepted, looks}
 use Rattle.cal_run.specs.Steps.{reading_of, reply_to_line, state_after}
 use Rattle.cal_script.specs.declared.journal.LineNote.{LineNote}
 use Rattle.cal_script.specs.declared.journal.Placed.{Placed}
@@ -163,7 +167,8 @@ module _ (shared : Shared) (old mid new : Thread) (l : lines.Line) (met : Met)
     → IsThread shared.common new done (h ++ m.ops)
     (if met.accepted then changed (script_of shared) (history_of (h ++ m.ops)) l note state
     else state))
-    (adds : AddsWords shared.common mid.tree new.tree (words_of_line (script_of shared) l)) where
+    (adds : AddsWords shared.common mid.tree new.tree (words_of_line (script_of shared) l))
+    (learns : KnowMore old mid new) where
   abbrev script : Script
   script = script_of shared
 
@@ -219,7 +224,10 @@ module _ (shared : Shared) (old mid new : Thread) (l : lines.Line) (met : Met)
         made = omega (arith, makes_own, taken, adds);
       }
 
-  pub own-runs : Runs shared old new l note done h state
+  abbrev told : ShownLine
+  told = record { line = l; accepted = met.accepted; reading = unwrap_or reading 0 }
+
+  pub own-runs : Runs shared old mid new told l note done h state
   own-runs = record {
     ops = m.ops;
     next = λ seen. record {
@@ -237,6 +245,14 @@ module _ (shared : Shared) (old mid new : Thread) (l : lines.Line) (met : Met)
     sees = subst (λ (p : Bool). Sees shared old new done m.ops p
         (looks script hist l note state)) (sym own) sees;
     words = words;
+    told_as = record {
+      before = m.ops;
+      rest = [];
+      ops_are = sym (append-nil m.ops);
+      as_noted = own-shown shared.common old mid mid told h state note (reads-nothing mid) refl met
+          done m m.kept.has own refl (ap (λ (p : Replica). p.seen) process);
+    };
+    learns = learns;
     kept = line-done shared.common new done (h ++ m.ops) (state_after script hist l note state)
         (subst (λ (s : ThreadState). IsThread shared.common new done (h ++ m.ops) s) after
         (makes note refl m.kept));

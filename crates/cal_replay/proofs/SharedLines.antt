@@ -12,14 +12,17 @@ use Rattle.cal_once.specs.Layout.{times}
 use Rattle.cal_once.specs.Seats.{view}
 use Rattle.cal_process.specs.Operations.{history_of, operation_in, placed_as, words_made}
 use Rattle.cal_replay.proofs.OwnLines.{given-noted, is_due, merged-given, read-by}
+use Rattle.cal_replay.proofs.ShowingLemmas.{reads-nothing}
+use Rattle.cal_replay.proofs.ShownAsNoted.{shared-shown}
 use Rattle.cal_replay.proofs.Takings.{taken-others}
-use Rattle.cal_replay.specs.Steps.{Runs, Sees, SeesPlace, UsesWords, noted_with}
+use Rattle.cal_replay.specs.Steps.{KnowMore, Runs, Sees, SeesPlace, UsesWords, noted_with}
 use Rattle.cal_replay.specs.Steps.{own_words, placed_words}
 use Rattle.cal_replay.specs.Workers.{script_of}
 use Rattle.cal_replay.specs.declared.shared.Shared.{Shared}
+use Rattle.cal_replay.specs.declared.showing.ShownLine.{ShownLine}
 use Rattle.cal_run.specs.Lawful.{IsRead}
 use Rattle.cal_run.specs.Lines.{is_process_line}
-use Rattle.cal_run.specs.Steps.{ThreadState, found_reply, looks}
+use Rattle.cal_run.specs.Steps.{ThreadState, found_reply, is_accepted, looks}
 use Rattle.cal_script.specs.declared.journal.LineNote.{LineNote}
 use Rattle.cal_script.specs.declared.journal.Placed.{Placed}
 use Rattle.cal_script.specs.declared.journal.Reply as replies
@@ -57,7 +60,8 @@ module _ (shared : Shared) (old mid new : Thread) (l : Line) (op : OpRec)
     (m : MeetsShared shared.common old mid l op answer h state)
     (t : TakesOwn shared.common mid new op (h ++ m.ops) state)
     (read : IsRead (script_of shared) (known_journal shared.real (history_of h))
-    (is_due (script_of shared) l answer) mid.clock reading) where
+    (is_due (script_of shared) l answer) mid.clock reading)
+    (knows : KnowMore old mid new) where
   abbrev script : Script
   script = script_of shared
 
@@ -140,7 +144,10 @@ module _ (shared : Shared) (old mid new : Thread) (l : Line) (op : OpRec)
         ∙ ap (λ (p : Placed). history_of m.ops ++ p ∷ []) own),
   )
 
-  pub shared-runs : Runs shared old new l note done h state
+  abbrev told : ShownLine
+  told = record { line = l; accepted = is_accepted answer; reading = unwrap_or reading 0 }
+
+  pub shared-runs : Runs shared old mid new told l note done h state
   shared-runs = record {
     ops = ops;
     next = λ seen. record {
@@ -156,6 +163,14 @@ module _ (shared : Shared) (old mid new : Thread) (l : Line) (op : OpRec)
     sees = subst (λ (p : Bool). Sees shared old new done ops p (looks script hist l note state))
         (sym process) sees;
     words = words;
+    told_as = record {
+      before = m.ops;
+      rest = op ∷ [];
+      ops_are = refl;
+      as_noted = shared-shown shared.common old mid mid told h state note (reads-nothing mid) refl
+          op answer m m.placed.has process refl t.seen;
+    };
+    learns = knows;
     kept = subst (λ (s : ThreadState). IsThread shared.common new (done + 1) (h ++ ops) s)
         (sym (shared-after script hist l note state process))
         (subst (λ (os : List OpRec). IsThread shared.common new (done + 1) os state) assoc

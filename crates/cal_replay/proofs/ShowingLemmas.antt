@@ -2,12 +2,12 @@
 use Rattle.std.proofs.Common.{◌≡◌, ◌≢◌, ◌⊎◌, ℕ, suc, zero, ◌+◌, ◌<◌, ◌≤◌}
 use Rattle.std.proofs.Common.{List, [], ◌∷◌, ◌++◌, length}
 use Rattle.std.proofs.Common.{Bool, true, false, if◌then◌else◌, refl, sym, ap, ◌∙◌, subst, arith}
-use Rattle.std.proofs.Common.{inl, inr, slice_set}
+use Rattle.std.proofs.Common.{get_or, inl, inr, slice_set}
 use Rattle.std.specs.Prelude.{Option, Some, ◌&&◌, ◌||◌, unwrap_or}
 use Rattle.std.specs.List.{All, list_any, slice_get}
 use Rattle.std.proofs.lemmas.Bool.{cases_lt}
 use Rattle.std.proofs.lemmas.List.{append-nil, length-set}
-use Rattle.std.proofs.lemmas.Option.{slice_get_within}
+use Rattle.std.proofs.lemmas.Option.{slice_get-get_or, slice_get_within}
 use Rattle.cal_book.proofs.Lists.{at_set}
 use Rattle.cal_channel.specs.Channels.{HasTaken}
 use Rattle.cal_channel.specs.Values.{ChannelValue, HasRoom}
@@ -18,7 +18,8 @@ use Rattle.cal_plog.specs.History.{OwnBefore}
 use Rattle.cal_plog.specs.Seats.{slots_of}
 use Rattle.cal_process.proofs.OperationLemmas.{Held-later}
 use Rattle.cal_process.specs.declared.common.Common.{Common}
-use Rattle.cal_replay.specs.Showing.{AreShown, IsShown, OnlyReads, is_taken_by, sight_by, taken_of}
+use Rattle.cal_replay.specs.Showing.{AreShown, HaveRoomFor, IsShown, OnlyReads, is_taken_by}
+use Rattle.cal_replay.specs.Showing.{sight_by, taken_of}
 use Rattle.cal_replay.specs.declared.showing.ShownLine.{ShownLine}
 use Rattle.cal_run.proofs.HeldLemmas.{slice_get-All}
 use Rattle.cal_run.specs.Lines.{operation_of, takes}
@@ -56,6 +57,13 @@ none-passes test (y ∷ ys) (suc place) x none is = none-passes test ys place x 
     by true e = absurd cc
     by false e = e
 
+-- an element at each place within
+there : {A : Type 0} (xs : List A) (place : ℕ) → place < length xs
+    → (x : A) × (slice_get xs place ≡ Some x)
+there [] place less = absurd (omega (arith, less))
+there (x ∷ xs) zero less = (x, refl)
+there (x ∷ xs) (suc place) less = there xs place (omega (arith, less))
+
 and-not : (b : Bool) → (b && false) ≡ false
 and-not true = refl
 and-not false = refl
@@ -89,7 +97,7 @@ module _ (common : Common) (numbers : Numbers) (thread : Thread) (shown : ShownL
         (subst (λ (us : List Rec). P taken us) (sym (append-nil unflushed)) was));
     previous = sym (ap (λ (b : Bool). if channel.timer && b then shown.reading else c.previous) not
         ∙ ap (λ (b : Bool). if b then shown.reading else c.previous) (and-not channel.timer));
-    services = record { trace = refl; shape = refl };
+    services = record { trace = refl; shape = refl; few = omega arith };
   }
 
   pub none-shown : (cs : List ChannelValue)
@@ -180,6 +188,25 @@ module _ (common : Common) (numbers : Numbers) (thread : Thread) (shown : ShownL
           → slice_get common.script.now.channels i ≡ Some channel
           → i < length common.script.now.channels
       within i channel at = slice_get_within common.script.now.channels i channel at
+
+  -- and there is room for one snapshot less in each
+  pub rooms-after : (old now : List ChannelValue) (left : ℕ)
+      → length old ≡ length common.script.now.channels
+      → AreShown common numbers thread shown old now → HaveRoomFor (left + 1) old
+      → HaveRoomFor left now
+  rooms-after old now left many shown room i d less =
+      let same = shown.many in
+      let within : i < length old = omega (arith, same, less) in
+      let at = there common.script.now.channels i (omega (arith, many, within)) in
+      let one = (shown.each i at.0 (get_or old i d) (get_or now i d) at.1
+      (slice_get-get_or old i d within) (slice_get-get_or now i d less)).services.few in
+      let had = room i d within in
+      omega (arith, one, had)
+
+-- room for more than is needed
+pub rooms-stay : (cs : List ChannelValue) (left : ℕ) → HaveRoomFor (left + 1) cs
+    → HaveRoomFor left cs
+rooms-stay cs left room i d less = let had = room i d less in omega (arith, had)
 
 -- ---- a thread that only reads
 

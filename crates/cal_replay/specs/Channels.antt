@@ -58,3 +58,12 @@ pub record IsShownAs (common : Common) (thread : Thread) (shown : ShownLine)
   pub seen : thread.process.seen
       ≡ seen_before common.script.now (history_of (h ++ rest)) shown.line n
   pub reading : shown.reading ≡ reading_of n
+
+-- A thread that had seen these operations, and sees these more by the line's end, was shown a line
+-- as its note has it, behind the first of those.
+pub record IsToldAs (common : Common) (thread : Thread) (shown : ShownLine) (h ops : List OpRec)
+    (n : LineNote) (state : ThreadState) : Type 0 where
+  pub before : List OpRec
+  pub rest : List OpRec
+  pub ops_are : ops ≡ before ++ rest
+  pub as_noted : IsShownAs common thread shown (h ++ before) rest n state

@@ -1,10 +1,10 @@
 -- What the channels of a thread take of a line, which they are shown behind its look at the process
 -- and before its change.
-use Rattle.std.specs.Prelude.{◌≡◌, ℕ, Bool, true, List, [], ◌∷◌, length, if◌then◌else◌}
-use Rattle.std.specs.Prelude.{◌&&◌, Some, All, slice_get}
+use Rattle.std.specs.Prelude.{◌≡◌, ℕ, ◌+◌, ◌≤◌, ◌^◌, Bool, true, List, [], ◌∷◌, length}
+use Rattle.std.specs.Prelude.{if◌then◌else◌, ◌&&◌, Some, All, slice_get}
 use Rattle.cal_channel.specs.Channels.{TakesMore}
 use Rattle.cal_channel.specs.SmallNumbers.{HasSaidValues}
-use Rattle.cal_channel.specs.Values.{ChannelValue, HasRoom, KeepsServices}
+use Rattle.cal_channel.specs.Values.{ChannelValue, HasRoom, KeepsServices, unflushed_of}
 use Rattle.cal_once.specs.Seats.{view}
 use Rattle.cal_once.specs.Views.{Learns}
 use Rattle.cal_process.specs.declared.common.Common.{Common}
@@ -26,6 +26,11 @@ use Rattle.cal_words.specs.declared.op.OpRec.{OpRec}
 pub record OnlyReads (old new : Thread) : Type 0 where
   pub same : new ≡ record old { tree = new.tree }
   pub learns : Learns (view old.tree) (view new.tree)
+
+-- there is room for so many snapshots more in the table of each channel, as far as it has one
+abbrev pub HaveRoomFor : ℕ → List ChannelValue → Type 0
+HaveRoomFor more channels =
+    All (λ (c : ChannelValue). unflushed_of c.table + more ≤ 2 ^ 20) channels
 
 -- A line may be shown to channels: there is one for each of the script's, and room for a snapshot
 -- in each; and where one has the timer, readings are kept.

@@ -4,13 +4,17 @@ use Rattle.std.specs.Prelude.{Option, Some, None, is_some, if◌then◌else◌}
 use Rattle.cal_notes.specs.Notes.{IsFlushNote}
 use Rattle.cal_notes.specs.Running.{RunsNext, with_line}
 use Rattle.cal_once.specs.Seats.{view}
+use Rattle.cal_once.specs.Views.{KnowsMore}
 use Rattle.cal_process.specs.Operations.{history_of, placed_as}
 use Rattle.cal_process.specs.Takings.{KeepsLooks, words_of_ops}
 use Rattle.cal_process.specs.Replicas.{AddsWords}
+use Rattle.cal_process.specs.declared.common.Common.{Common}
+use Rattle.cal_replay.specs.Channels.{IsToldAs}
 use Rattle.cal_replay.specs.Readings.{Asked, AskedFor, off_clock, readings_of}
 use Rattle.cal_replay.specs.Workers.{IsWorker, lines_done, lines_of, script_of, state_of}
 use Rattle.cal_replay.specs.declared.answer.Answer.{Answer}
 use Rattle.cal_replay.specs.declared.shared.Shared.{Shared}
+use Rattle.cal_replay.specs.declared.showing.ShownLine.{ShownLine}
 use Rattle.cal_replay.specs.declared.worker.Worker.{Worker}
 use Rattle.cal_run.specs.Lawful.{NotedLine}
 use Rattle.cal_run.specs.Lines.{is_process_line, line_at}
@@ -60,6 +64,23 @@ abbrev pub Flushes : {F : Type 0} → (F → F → ℕ → replies.Reply → Typ
 Flushes flushed old new (line.Flush c) given = flushed old new c given
 Flushes flushed old new _ given = new ≡ old
 
+-- A line was shown to whoever keeps the channels, with its thread as it was then; and a flush was
+-- flushed behind that.
+pub record Tells {F : Type 0} (showing : Common → F → F → Thread → ShownLine → Type 0)
+    (flushed : F → F → ℕ → replies.Reply → Type 0) (common : Common) (had has : F)
+    (l : lines.Line) (given : replies.Reply) : Type 0 where
+  pub at : Thread
+  pub told : ShownLine
+  pub line_is : told.line ≡ l
+  pub between : F
+  pub shown : showing common had between at told
+  pub flushes : Flushes flushed between has l given
+
+-- By a line the thread's seat at the tree learned: up to where it was told, and behind that.
+abbrev pub KnowMore : (old at new : Thread) → Type 0
+KnowMore old at new =
+    KnowsMore (view old.tree) (view at.tree) × KnowsMore (view at.tree) (view new.tree)
+
 -- the words that a line takes in the history
 abbrev pub placed_words : Script → lines.Line → ℕ
 placed_words script l = if is_process_line script l then 7 else 0
@@ -98,32 +119,39 @@ module _ (shared : Shared) where
         (words_of_ops (script_of shared) ops + own_words (script_of shared) l)
 
   -- A thread ran a line with this note, and has seen these operations more: the line keeps the
-  -- rules of journals by them, and the thread is as the line leaves it.
-  pub record Runs (old new : Thread) (l : lines.Line) (note : LineNote) (done : ℕ) (h : List OpRec)
-      (state : ThreadState) : Type 0 where
+  -- rules of journals by them, it was told as its note has it, and the thread is as the line leaves
+  -- it.
+  pub record Runs (old at new : Thread) (told : ShownLine) (l : lines.Line) (note : LineNote)
+      (done : ℕ) (h : List OpRec) (state : ThreadState) : Type 0 where
     pub ops : List OpRec
     pub next : (seen : ℕ) → RunsNext (script_of shared) shared.real (history_of h)
         (history_of ops) (noted_line old done seen l note state)
     pub sees : Sees old new done ops (is_process_line (script_of shared) l)
         (looks (script_of shared) (history_of h ++ history_of ops) l note state)
     pub words : UsesWords old new l ops
+    pub told_as : IsToldAs shared.common at told h ops note state
+    pub learns : KnowMore old at new
     pub kept : IsThread shared.common new (done + 1) (h ++ ops)
         (state_after (script_of shared) (history_of h ++ history_of ops) l note state)
 
   -- And a worker, whose notes are longer by it.
-  pub record RunsLine (old new : Worker) (l : lines.Line) (note : LineNote) (h : List OpRec)
-      : Type 0 where
+  pub record RunsLine (at : Thread) (told : ShownLine) (old new : Worker) (l : lines.Line)
+      (note : LineNote) (h : List OpRec) : Type 0 where
     pub ops : List OpRec
     pub sees : Sees old.thread new.thread (length old.note.lines) ops
         (is_process_line (script_of shared) l)
         (looks (script_of shared) (history_of h ++ history_of ops) l note
         (state_of (script_of shared) h old))
     pub words : UsesWords old.thread new.thread l ops
+    pub told_as : IsToldAs shared.common at told h ops note (state_of (script_of shared) h old)
+    pub learns : KnowMore old.thread at new.thread
     pub kept : IsWorker shared new (h ++ ops)
 
   -- A worker ran its next line, and noted it. A clock was asked for the line's reading, where it
-  -- has one and the run goes by real clocks; and a flush was flushed.
+  -- has one and the run goes by real clocks; the channels were told it as it was noted, and a flush
+  -- was flushed.
   pub record StepsOver {K F : Type 0} (given : K → Option (List ℕ))
+      (showing : Common → F → F → Thread → ShownLine → Type 0)
       (flushed : F → F → ℕ → replies.Reply → Type 0) (was is : K) (had has : F)
       (old new : Worker) : Type 0 where
     pub ran : lines.Line
@@ -133,8 +161,9 @@ module _ (shared : Shared) where
     pub noted : new.note ≡ with_line old.note note
     pub number : new.thread.number ≡ old.thread.number
     pub asked : Asked given was is (off_clock shared.real note.reading)
-    pub flushes : Flushes flushed had has ran note.reply
-    pub runs : (h : List OpRec) → IsWorker shared old h → RunsLine old new ran note h
+    pub tells : Tells showing flushed shared.common had has ran note.reply
+    pub runs : (h : List OpRec) → IsWorker shared old h
+        → RunsLine tells.at tells.told old new ran note h
 
   -- ---- what all lines do
 

@@ -1,7 +1,8 @@
 //! What a line is answered.
-ghost use Rattle.std.specs.Prelude.{◌≡◌, ℕ, IfOk, OnOk};
+ghost use Rattle.std.specs.Prelude.{◌≡◌, ℕ, Bool, IfOk, OnOk};
 ghost use Rattle.cal_replay.specs.Steps.{Flushes, HasReply, IsGiven};
 ghost use Rattle.cal_script.specs.declared.script.Line.TheVariants as line_is;
+ghost use Rattle.cal_script.specs.declared.script.Script as scripts;
 
 use crate::Flusher;
 use cal_script::{Line, Reply};
@@ -23,6 +24,8 @@ pub(crate) fn reply_or_flush<F: Flusher>(
     requires { HasReply line found }
     ensures reply { IfOk result (IsGiven (F.thread flusher.old) found) }
     ensures flushes { IfOk result (Flushes F.flushed flusher.old flusher.new line) }
+    ensures ready { OnOk result ((script : scripts.Script) (timed : Bool) (left : ℕ)
+        → F.ready script flusher.old timed left → F.ready script flusher.new timed left) }
     ensures thread { OnOk result (F.thread flusher.new ≡ F.thread flusher.old) }
 {
     match found {

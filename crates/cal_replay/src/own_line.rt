@@ -1,9 +1,12 @@
 //! A line that is its thread's own.
-ghost use Rattle.std.specs.Prelude.{◌≡◌, ℕ, false, if◌then◌else◌, List, IfOk, OnOk};
+ghost use Rattle.std.specs.Prelude.{◌≡◌, ℕ, ◌+◌, false, if◌then◌else◌, List, IfOk, OnOk};
+ghost use Rattle.cal_channel.specs.SmallNumbers.{HasSaidValues};
+ghost use Rattle.cal_once.specs.Seats.{view};
+ghost use Rattle.cal_once.specs.Views.{KnowsMore};
 ghost use Rattle.cal_process.specs.Operations.{history_of};
 ghost use Rattle.cal_process.specs.Replicas.{AddsWords, IsCommon};
 ghost use Rattle.cal_replay.specs.Readings.{Asked, off_clock};
-ghost use Rattle.cal_replay.specs.Steps.{Flushes, Runs, noted_with};
+ghost use Rattle.cal_replay.specs.Steps.{Runs, Tells, noted_with};
 ghost use Rattle.cal_replay.specs.Workers.{IsShared, script_of};
 ghost use Rattle.cal_run.specs.Lines.{is_process_line};
 ghost use Rattle.cal_run.specs.Steps.{ThreadState, changed, reading_of};
@@ -15,7 +18,7 @@ ghost use Rattle.cal_words.specs.declared.op.OpRec as words;
 
 use crate::answer::{Answer, reply_or_flush};
 use crate::reading::read_line;
-use crate::{Flusher, Shared};
+use crate::{Flusher, Shared, ShownLine};
 use cal_base::Clock;
 use cal_process::Common;
 use cal_script::Line;
@@ -23,8 +26,8 @@ use cal_thread::Thread;
 use cal_value::OutOfMemory;
 use std::alloc::Global;
 
-/// Runs a line that is the thread's own: it is answered, looks where a channel takes a snapshot,
-/// flushes if it is a flush, and changes the thread where it is accepted.
+/// Runs a line that is the thread's own: it is answered, looks where a channel takes a snapshot, is
+/// shown to the channels, flushes if it is a flush, and changes the thread where it is accepted.
 pub(crate) fn run_own<K: Clock, F: Flusher>(
     alloc: Global,
     shared: &Shared<'_>,
@@ -34,25 +37,39 @@ pub(crate) fn run_own<K: Clock, F: Flusher>(
     flusher: &mut F,
 ) -> Result<Answer, OutOfMemory>
     requires shared { IsShared shared.now }
-    requires thread { IsSomeThread shared.now.common thread.old }
+    requires thread { (done : ℕ) × (h : List words.OpRec) × (state : ThreadState)
+        × IsThread shared.now.common thread.old done h state
+        × HasSaidValues (script_of shared.now) state.board }
     requires own { is_process_line (script_of shared.now) line ≡ false }
     requires flusher { F.thread flusher.old ≡ thread.old.number }
+    requires ready { (left : ℕ)
+        × F.ready (script_of shared.now) flusher.old thread.old.timed (left + 1) }
     requires placed { IsPlaced (script_of shared.now).attributes (script_of shared.now).channels
         (script_of shared.now).values line }
-    ensures runs { IfOk result (λ answer. (done : ℕ) (h : List words.OpRec) (state : ThreadState)
+    ensures runs { IfOk result (λ answer. (tells : Tells F.shown F.flushed shared.now.common
+        flusher.old flusher.new line answer.reply)
+        × ((done : ℕ) (h : List words.OpRec) (state : ThreadState)
         → IsThread shared.now.common thread.old done h state
-        → Runs shared.now thread.old thread.new line (noted_with answer thread.new) done h state) }
+        → Runs shared.now thread.old tells.at thread.new tells.told line
+        (noted_with answer thread.new) done h state)) }
     ensures asked { IfOk result (λ answer.
         Asked K.given clock.old clock.new (off_clock shared.now.real answer.reading)) }
     ensures number { OnOk result (thread.new.number ≡ thread.old.number) }
     ensures timed { OnOk result (thread.new.timed ≡ thread.old.timed) }
-    ensures flushes { IfOk result (λ answer.
-        Flushes F.flushed flusher.old flusher.new line answer.reply) }
+    ensures ready { OnOk result ((left : ℕ)
+        → F.ready (script_of shared.now) flusher.old thread.old.timed (left + 1)
+        → F.ready (script_of shared.now) flusher.new thread.old.timed left) }
     ensures flusher { OnOk result (F.thread flusher.new ≡ F.thread flusher.old) }
 {
     let met = thread.look(alloc, &shared.common, line)?;
-    let shown = thread.clock;
-    let reading = read_line(shared, line, met.reply, shown, clock);
+    let clock_shows = thread.clock;
+    let reading = read_line(shared, line, met.reply, clock_shows, clock);
+    let shown = ShownLine {
+        line,
+        accepted: met.accepted,
+        reading: reading.unwrap_or(0),
+    };
+    flusher.show(alloc, &shared.common, thread, shown)?;
     let reply = reply_or_flush(line, met.reply, flusher)?;
     change_if(
         alloc,
@@ -60,7 +77,7 @@ pub(crate) fn run_own<K: Clock, F: Flusher>(
         thread,
         line,
         met.accepted,
-        reading.unwrap_or(0),
+        shown.reading,
     )?;
     Ok(Answer { reply, reading })
 }
@@ -87,6 +104,7 @@ fn change_if(
     ensures process { OnOk result (thread.new.process ≡ thread.old.process) }
     ensures words { OnOk result (AddsWords common.now thread.old.tree thread.new.tree
         (words_of_line common.now.script.now line)) }
+    ensures learns { OnOk result (KnowsMore (view thread.old.tree) (view thread.new.tree)) }
     ensures number { OnOk result (thread.new.number ≡ thread.old.number) }
     ensures timed { OnOk result (thread.new.timed ≡ thread.old.timed) }
 {

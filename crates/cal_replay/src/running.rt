@@ -1,5 +1,5 @@
 //! All lines of a worker, one after another.
-ghost use Rattle.std.specs.Prelude.{◌≡◌, List, length, nat_lt, OnOk};
+ghost use Rattle.std.specs.Prelude.{◌≡◌, ◌-◌, List, length, nat_lt, OnOk};
 ghost use Rattle.cal_replay.specs.Steps.{HasRead, RunsAll};
 ghost use Rattle.cal_replay.specs.Workers.{IsShared, IsSomeWorker, IsWorker, lines_of, script_of};
 ghost use Rattle.cal_words.specs.declared.op.OpRec as words;
@@ -23,6 +23,9 @@ impl Worker {
         requires shared { IsShared shared.now }
         requires worker { IsSomeWorker shared.now self.old }
         requires flusher { F.thread flusher.old ≡ self.old.thread.number }
+        requires ready { F.ready (script_of shared.now) flusher.old shared.now.timers.some
+            (length (lines_of (script_of shared.now) self.old.thread.number)
+            - length self.old.note.lines) }
         ensures runs { OnOk result ((h : List words.OpRec) → IsWorker shared.now self.old h
             → RunsAll shared.now self.new h) }
         ensures number { OnOk result (self.new.thread.number ≡ self.old.thread.number) }

@@ -1,9 +1,10 @@
 //! A line that is shown to the channels of its thread.
-ghost use Rattle.std.specs.Prelude.{◌≡◌, ℕ, List, IfOk, OnOk, true};
+ghost use Rattle.std.specs.Prelude.{◌≡◌, ℕ, ◌+◌, List, IfOk, OnOk, true};
 ghost use Rattle.cal_channel.specs.Closing.{HasRead};
 ghost use Rattle.cal_channel.specs.Values.{HasRoom};
 ghost use Rattle.cal_process.specs.Replicas.{IsCommon};
-ghost use Rattle.cal_replay.specs.Showing.{AreShown, IsSaid, IsShown, MayShow, OnlyReads};
+ghost use Rattle.cal_replay.specs.Showing.{AreShown, HaveRoomFor, IsSaid, IsShown, MayShow};
+ghost use Rattle.cal_replay.specs.Showing.{OnlyReads};
 ghost use Rattle.cal_run.specs.Lines.{operation_of};
 ghost use Rattle.cal_run.specs.Numbers.{AreNamedInSome};
 ghost use Rattle.cal_run.specs.Steps.{ThreadState};
@@ -47,6 +48,8 @@ pub fn show<P: Prober>(
     requires may { MayShow common.now.script.now thread.old channels.old }
     ensures shown { OnOk result (AreShown common.now numbers.now thread.new shown
         channels.old channels.new) }
+    ensures room { OnOk result ((left : ℕ) → HaveRoomFor (left + 1) channels.old
+        → HaveRoomFor left channels.new) }
     ensures reads { OnOk result (OnlyReads thread.old thread.new) }
     ensures state { OnOk result ((h : List words.OpRec) (state : ThreadState)
         → HasState common.now thread.old h state → HasState common.now thread.new h state) }

@@ -1,6 +1,6 @@
-//! The law of what channels have taken. Nothing here is ever run.
+//! The laws of what channels have taken. Nothing here is ever run.
 ghost use Rattle.std.specs.Prelude.{◌≡◌, ℕ, ◌+◌, Bool, true, false, List, [], ◌∷◌, ◌++◌};
-ghost use Rattle.std.specs.Prelude.{Option, Some};
+ghost use Rattle.std.specs.Prelude.{Option, Some, length};
 ghost use Rattle.cal_channel.specs.Values.{ChannelValue, with_table};
 ghost use Rattle.cal_notes.specs.Notes.{KeepsRules};
 ghost use Rattle.cal_notes.specs.Running.{state_behind, with_line};
@@ -11,8 +11,12 @@ ghost use Rattle.cal_process.specs.Operations.{history_of};
 ghost use Rattle.cal_process.specs.declared.common.Common.{Common};
 ghost use Rattle.cal_replay.specs.Channels.{HasShown, HasShownLines, IsShownAs};
 ghost use Rattle.cal_replay.specs.Showing.{IsShown, OnlyReads};
+ghost use Rattle.cal_replay.specs.Steps.{RunsLine};
+ghost use Rattle.cal_replay.specs.Workers.{IsWorker, lines_done, script_of};
+ghost use Rattle.cal_replay.specs.declared.shared.Shared.{Shared};
 ghost use Rattle.cal_replay.specs.declared.showing.ShownLine.{ShownLine};
-ghost use Rattle.cal_run.specs.Lines.{is_process_line};
+ghost use Rattle.cal_replay.specs.declared.worker.Worker.{Worker};
+ghost use Rattle.cal_run.specs.Lines.{is_process_line, line_at};
 ghost use Rattle.cal_run.specs.Numbers.{AreNamed};
 ghost use Rattle.cal_run.specs.Steps.{ThreadState, is_accepted, reading_of};
 ghost use Rattle.cal_run.specs.declared.numbers.Numbers.{Numbers};
@@ -78,4 +82,21 @@ pub fn shown_as_noted_law()
         → shown.accepted ≡ is_accepted reply → n.seen ≡ mid.process.seen + 1
         → shown.reading ≡ reading_of n
         → IsShownAs common new shown (h ++ m.ops) (op ∷ []) n state }
+{}
+
+/// The law of steps that are told: a channel that was shown a worker's next line, as a step tells
+/// it, has taken what the plain meaning of a run takes of the lines done with that one.
+pub fn told_step_law()
+    ensures { (shared : Shared) (attributes : List Attribute) (numbers : Numbers)
+        (at : Thread) (told : ShownLine) (old new : Worker) (l : Line) (note : LineNote)
+        (h : List OpRec) (channel : Channel) (was is : ChannelValue) (given : List TableValue)
+        → line_at (script_of shared) old.thread.number (length old.note.lines + 1) ≡ Some l
+        → new.note ≡ with_line old.note note → new.thread.number ≡ old.thread.number
+        → told.line ≡ l → IsWorker shared old h → (r : RunsLine shared at told old new l note h)
+        → AreNamed attributes (script_of shared) numbers
+        → IsShown shared.common numbers at told channel was is
+        → HasShownLines shared.common attributes old.thread.tree h
+        (lines_done (script_of shared) old) old.note channel was given
+        → HasShownLines shared.common attributes new.thread.tree (h ++ r.ops)
+        (lines_done (script_of shared) new) new.note channel is given }
 {}

@@ -1,5 +1,5 @@
 //! A worker's next line.
-ghost use Rattle.std.specs.Prelude.{◌≡◌, ◌+◌, ◌<◌, ◌++◌, ◌∷◌, [], Some, IfOk, OnOk};
+ghost use Rattle.std.specs.Prelude.{◌≡◌, ℕ, ◌+◌, ◌<◌, ◌++◌, ◌∷◌, [], Some, IfOk, OnOk};
 ghost use Rattle.std.specs.Prelude.{length, nat_lt, slice_index_or};
 ghost use Rattle.cal_replay.specs.Steps.{StepsOver, noted_with};
 ghost use Rattle.cal_replay.specs.Workers.{IsShared, IsSomeWorker, lines_of, script_of};
@@ -33,12 +33,17 @@ impl Worker {
         requires remains { length self.old.note.lines
             < length (lines_of (script_of shared.now) self.old.thread.number) }
         requires flusher { F.thread flusher.old ≡ self.old.thread.number }
+        requires ready { (left : ℕ)
+            × F.ready (script_of shared.now) flusher.old shared.now.timers.some (left + 1) }
         ensures steps { OnOk result
-            (StepsOver shared.now K.given F.flushed clock.old clock.new flusher.old flusher.new
-            self.old self.new) }
+            (StepsOver shared.now K.given F.shown F.flushed clock.old clock.new flusher.old
+            flusher.new self.old self.new) }
         ensures more { IfOk result (λ more. more ≡ nat_lt (length self.new.note.lines)
             (length (lines_of (script_of shared.now) self.old.thread.number))) }
         ensures flusher { OnOk result (F.thread flusher.new ≡ F.thread flusher.old) }
+        ensures ready { OnOk result ((left : ℕ)
+            → F.ready (script_of shared.now) flusher.old shared.now.timers.some (left + 1)
+            → F.ready (script_of shared.now) flusher.new shared.now.timers.some left) }
     {
         let thread = self.thread.number;
         let done = self.note.lines.len();
@@ -63,15 +68,20 @@ impl Worker {
         requires next { line_at (script_of shared.now) self.old.thread.number number ≡ Some line }
         requires number { number ≡ length self.old.note.lines + 1 }
         requires flusher { F.thread flusher.old ≡ self.old.thread.number }
+        requires ready { (left : ℕ)
+            × F.ready (script_of shared.now) flusher.old shared.now.timers.some (left + 1) }
         ensures steps { OnOk result
-            (StepsOver shared.now K.given F.flushed clock.old clock.new flusher.old flusher.new
-            self.old self.new) }
+            (StepsOver shared.now K.given F.shown F.flushed clock.old clock.new flusher.old
+            flusher.new self.old self.new) }
         ensures flusher { OnOk result (F.thread flusher.new ≡ F.thread flusher.old) }
+        ensures ready { OnOk result ((left : ℕ)
+            → F.ready (script_of shared.now) flusher.old shared.now.timers.some (left + 1)
+            → F.ready (script_of shared.now) flusher.new shared.now.timers.some left) }
     {
         let thread = self.thread.number;
         match op_of_line(shared.common.script, thread, number, line) {
             Some(op) => {
-                let answer = run_shared(alloc, shared, &mut self.thread, line, op, clock)?;
+                let answer = run_shared(alloc, shared, &mut self.thread, line, op, clock, flusher)?;
                 self.note(answer)?;
                 Ok(())
             }

@@ -1,5 +1,7 @@
 ghost use Rattle.std.specs.Prelude.{◌≡◌, ℕ, List, OnOk, true};
 ghost use Rattle.cal_board.specs.Readings.{readings_after};
+ghost use Rattle.cal_once.specs.Seats.{view};
+ghost use Rattle.cal_once.specs.Views.{KnowsMore};
 ghost use Rattle.cal_process.specs.Operations.{MayDo, history_of, words_made};
 ghost use Rattle.cal_process.specs.Replicas.{AddsWords, IsCommon};
 ghost use Rattle.cal_run.specs.Lines.{operation_of};
@@ -41,6 +43,7 @@ impl Thread {
         ensures process { OnOk result (self.new.process ≡ self.old.process) }
         ensures words { OnOk result (AddsWords common.now self.old.tree self.new.tree
             (words_of_line common.now.script.now line)) }
+        ensures learns { OnOk result (KnowsMore (view self.old.tree) (view self.new.tree)) }
         ensures number { OnOk result (self.new.number ≡ self.old.number) }
         ensures timed { OnOk result (self.new.timed ≡ self.old.timed) }
     {
@@ -73,6 +76,7 @@ impl Thread {
         ensures process { OnOk result (self.new.process ≡ self.old.process) }
         ensures words { OnOk result (AddsWords common.now self.old.tree self.new.tree
             (words_made common.now.script.now op)) }
+        ensures learns { OnOk result (KnowsMore (view self.old.tree) (view self.new.tree)) }
         ensures number { OnOk result (self.new.number ≡ self.old.number) }
         ensures timed { OnOk result (self.new.timed ≡ self.old.timed) }
     {

@@ -1,4 +1,6 @@
 ghost use Rattle.std.specs.Prelude.{◌≡◌, ℕ, false, List, IfOk, OnOk};
+ghost use Rattle.cal_once.specs.Seats.{view};
+ghost use Rattle.cal_once.specs.Views.{KnowsMore};
 ghost use Rattle.cal_process.specs.Replicas.{IsCommon};
 ghost use Rattle.cal_run.specs.Lines.{is_process_line};
 ghost use Rattle.cal_run.specs.Steps.{ThreadState};
@@ -35,6 +37,7 @@ impl Thread {
         ensures meets { IfOk result (λ met. (done : ℕ) (h : List words.OpRec) (state : ThreadState)
             → IsThread common.now self.old done h state
             → MeetsOwn common.now self.old self.new line met done h state) }
+        ensures learns { OnOk result (KnowsMore (view self.old.tree) (view self.new.tree)) }
         ensures number { OnOk result (self.new.number ≡ self.old.number) }
         ensures timed { OnOk result (self.new.timed ≡ self.old.timed) }
     {
@@ -58,6 +61,7 @@ impl Thread {
         ensures looks { OnOk result ((done : ℕ) (h : List words.OpRec) (state : ThreadState)
             → IsThread common.now self.old done h state
             → LooksIf common.now self.old self.new done h state looks) }
+        ensures learns { OnOk result (KnowsMore (view self.old.tree) (view self.new.tree)) }
         ensures number { OnOk result (self.new.number ≡ self.old.number) }
         ensures timed { OnOk result (self.new.timed ≡ self.old.timed) }
     {

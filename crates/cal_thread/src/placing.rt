@@ -1,5 +1,7 @@
 ghost use Rattle.std.specs.Prelude.{◌≡◌, ◌+◌, ℕ, true, List, IfOk, OnOk};
 ghost use Rattle.std.specs.List.{Contains};
+ghost use Rattle.cal_once.specs.Seats.{view};
+ghost use Rattle.cal_once.specs.Views.{KnowsMore};
 ghost use Rattle.cal_plog.specs.Seats.{ops_of};
 ghost use Rattle.cal_process.specs.Replicas.{IsCommon};
 ghost use Rattle.cal_run.specs.Lines.{is_process_line};
@@ -36,6 +38,7 @@ impl Thread {
             (state : ThreadState) → IsThread common.now self.old done h state
             → op.line ≡ done + 1
             → MeetsShared common.now self.old self.new line op reply h state) }
+        ensures learns { OnOk result (KnowsMore (view self.old.tree) (view self.new.tree)) }
         ensures number { OnOk result (self.new.number ≡ self.old.number) }
         ensures timed { OnOk result (self.new.timed ≡ self.old.timed) }
     {
@@ -52,6 +55,7 @@ impl Thread {
         ensures takes { OnOk result ((op : words.OpRec) (h : List words.OpRec)
             (state : ThreadState) → HasPlaced common.now self.old op h state
             → TakesOwn common.now self.old self.new op h state) }
+        ensures learns { OnOk result (KnowsMore (view self.old.tree) (view self.new.tree)) }
         ensures number { OnOk result (self.new.number ≡ self.old.number) }
         ensures timed { OnOk result (self.new.timed ≡ self.old.timed) }
     {

@@ -1,4 +1,4 @@
-use Rattle.std.proofs.Common.{sym, subst}
+use Rattle.std.proofs.Common.{subst}
 use Rattle.cal_replay.proofs.OwnLines.{board-flushes, flush-flushes}
 use Rattle.cal_replay.specs.Steps.{HasReply}
 use Rattle.cal_replay.proofs.answer.reply_or_flush.Goals as goal

@@ -1,5 +1,6 @@
 use Rattle.std.proofs.Common.{sym, ◌∙◌}
-use Rattle.cal_replay.proofs.ShowingLemmas.{none-shown, reads-nothing, thread-reads, timed-reads}
+use Rattle.cal_replay.proofs.ShowingLemmas.{none-shown, reads-nothing, rooms-after, rooms-stay}
+use Rattle.cal_replay.proofs.ShowingLemmas.{thread-reads, timed-reads}
 use Rattle.cal_replay.proofs.showing.show.Goals as goal
 
 pub show_all-requires-clause-thread : goal.show_all-requires-clause-thread
@@ -34,3 +35,12 @@ pub returns-clause-thread : goal.returns-clause-thread
 returns-clause-thread g c done h state w =
     thread-reads c.args.common.now c.args.thread.now c.read_closed.new.thread done h state
     c.in_ok-closed.ensures.reads (c.in_ok-closed.ensures.state h state w.has) w
+
+pub returns-then-not-is_taken-clause-room : goal.returns-then-not-is_taken-clause-room
+returns-then-not-is_taken-clause-room g c left room = rooms-stay c.args.channels.now left room
+
+pub returns-clause-room : goal.returns-clause-room
+returns-clause-room g c left room =
+    rooms-after c.args.common.now c.args.numbers.now c.read_closed.new.thread c.args.shown
+    c.args.channels.now c.show_all.new.channels left c.requires.may.many
+    c.in_ok-show_all.ensures room

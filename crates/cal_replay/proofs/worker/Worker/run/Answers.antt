@@ -1,5 +1,5 @@
-use Rattle.std.proofs.Common.{◌∙◌, List, [], length, ℕ, refl, sym, ap, subst, append-nil}
-use Rattle.std.proofs.Common.{arith}
+use Rattle.std.proofs.Common.{◌≡◌, ◌∙◌, ◌+◌, ◌-◌, List, [], length, ℕ, refl, sym, ap, subst}
+use Rattle.std.proofs.Common.{append-nil, arith}
 use Rattle.std.proofs.lemmas.Bool.{ltb-false, ltb-true}
 use Rattle.std.proofs.lemmas.List.{take_all}
 use Rattle.cal_replay.proofs.ManyLines.{asked-none, one-more, ran-more, readings-then}
@@ -17,6 +17,7 @@ loop-alloc-init g c = record {
   );
   number = refl;
   flusher = refl;
+  ready = c.requires.ready;
   read = (
     [],
     sym (append-nil c.args.self.now.note.lines),
@@ -35,13 +36,24 @@ pub step-requires-clause-flusher : goal.step-requires-clause-flusher
 step-requires-clause-flusher g c =
     c.loop-alloc.invariant.flusher ∙ c.requires.flusher ∙ sym c.loop-alloc.invariant.number
 
+pub step-requires-clause-ready : goal.step-requires-clause-ready
+step-requires-clause-ready g c =
+    let lines = length (lines_of (script_of c.args.shared.now) c.loop-alloc.self.thread.number) in
+    let done = length c.loop-alloc.self.note.lines in
+    let below = ltb-true done lines (sym c.has_more.ensures ∙ c.loop-alloc-test.true) in
+    let one : lines - done ≡ (lines - done - 1) + 1 = omega (arith, below) in (
+      lines - done - 1,
+      subst (g.F.Flusher.ready (script_of c.args.shared.now) c.loop-alloc.flusher
+          c.args.shared.now.timers.some) one c.loop-alloc.invariant.ready,
+    )
+
 pub loop-alloc-smaller : goal.loop-alloc-smaller
 loop-alloc-smaller g c =
     let s = c.in_ok-_more.ensures.steps in
     let below = ltb-true (length c.loop-alloc.self.note.lines)
     (length (lines_of (script_of c.args.shared.now) c.loop-alloc.self.thread.number))
     (sym c.has_more.ensures ∙ c.loop-alloc-test.true) in
-    let one = one-more _ _ c.args.shared.now c.args.self.now c.loop-alloc.self c.step.new.self
+    let one = one-more _ _ _ c.args.shared.now c.args.self.now c.loop-alloc.self c.step.new.self
     c.args.clock.now c.loop-alloc.clock c.step.new.clock _ _ s in
     let same = ap (λ (n : ℕ). length (lines_of (script_of c.args.shared.now) n)) s.number in
     omega (arith, below, one, same)
@@ -49,15 +61,33 @@ loop-alloc-smaller g c =
 pub loop-alloc-preserved : goal.loop-alloc-preserved
 loop-alloc-preserved g c =
     let i = c.loop-alloc.invariant in
+    let lines : ℕ → ℕ = λ n. length (lines_of (script_of c.args.shared.now) n) in
+    let was = c.loop-alloc.self in
+    let is = c.step.new.self in
+    let done = length was.note.lines in
+    let ready = g.F.Flusher.ready (script_of c.args.shared.now) in
+    let timed = c.args.shared.now.timers.some in
+    let below = ltb-true done (lines was.thread.number)
+    (sym c.has_more.ensures ∙ c.loop-alloc-test.true) in
+    let before : lines was.thread.number - done ≡ (lines was.thread.number - done - 1) + 1 =
+    omega (arith, below) in
+    let same = ap lines c.in_ok-_more.ensures.steps.number in
+    let one = one-more _ _ _ c.args.shared.now c.args.self.now was is
+    c.args.clock.now c.loop-alloc.clock c.step.new.clock _ _ c.in_ok-_more.ensures.steps in
+    let after : lines was.thread.number - done - 1
+    ≡ lines is.thread.number - length is.note.lines = omega (arith, below, same, one) in
     let s = c.in_ok-_more.ensures.steps in
-    let more = ran-more _ _ c.args.shared.now c.args.self.now c.loop-alloc.self c.step.new.self
+    let more = ran-more _ _ _ c.args.shared.now c.args.self.now c.loop-alloc.self c.step.new.self
     c.args.clock.now c.loop-alloc.clock c.step.new.clock _ _ s in
     record {
       some = (_, (s.runs i.some.0 i.some.1).kept);
       more = λ h w. more h (i.more h w);
       number = s.number ∙ i.number;
       flusher = c.in_ok-_more.ensures.flusher ∙ i.flusher;
-      read = readings-then _ _ c.args.shared.now c.args.self.now c.loop-alloc.self c.step.new.self
+      ready = subst (ready c.step.new.flusher timed) after
+          (c.in_ok-_more.ensures.ready (lines was.thread.number - done - 1)
+          (subst (ready c.loop-alloc.flusher timed) before i.ready));
+      read = readings-then _ _ _ c.args.shared.now c.args.self.now c.loop-alloc.self c.step.new.self
           c.args.clock.now c.loop-alloc.clock c.step.new.clock _ _ s i.read;
     }
 

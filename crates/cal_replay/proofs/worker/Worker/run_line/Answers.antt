@@ -1,9 +1,10 @@
-use Rattle.std.proofs.Common.{◌≡◌, ◌∙◌, ℕ, length, refl, sym, subst}
+use Rattle.std.proofs.Common.{◌≡◌, ◌+◌, ◌∙◌, ℕ, Bool, length, sym, subst}
 use Rattle.std.specs.Prelude.{Some}
+use Rattle.cal_channel.proofs.SaidLemmas.{said-thread}
 use Rattle.cal_process.proofs.ScriptLemmas.{some-shared}
 use Rattle.cal_replay.proofs.NotedLines.{steps-over}
-use Rattle.cal_replay.proofs.OwnLines.{board-flushes, shared-replies}
-use Rattle.cal_replay.specs.Workers.{script_of}
+use Rattle.cal_process.specs.Operations.{history_of}
+use Rattle.cal_replay.specs.Workers.{script_of, state_of}
 use Rattle.cal_run.proofs.HeldLemmas.{line_at-placed}
 use Rattle.cal_run.specs.Lines.{line_at}
 use Rattle.cal_replay.proofs.worker.Worker.run_line.Goals as goal
@@ -12,6 +13,58 @@ pub run_own-requires-clause-placed : goal.run_own-requires-clause-placed
 run_own-requires-clause-placed g c =
     line_at-placed (script_of c.args.shared.now) c.args.self.now.thread.number c.args.number
     c.args.line c.requires.shared.common.runnable c.requires.next
+
+pub run_own-requires-clause-thread : goal.run_own-requires-clause-thread
+run_own-requires-clause-thread g c =
+    let w = c.requires.worker in
+    let script = script_of c.args.shared.now in
+    let self = c.args.self.now in
+    let done = length self.note.lines in (
+      done,
+      w.0,
+      state_of script w.0 self,
+      w.1.thread,
+      said-thread script (history_of w.0) self.thread.number done self.note.lines
+          c.requires.shared.common.runnable,
+    )
+
+pub run_own-requires-clause-ready : goal.run_own-requires-clause-ready
+run_own-requires-clause-ready g c =
+    let r = c.requires.ready in (
+      r.0,
+      subst (λ (b : Bool). g.F.Flusher.ready (script_of c.args.shared.now) c.args.flusher.now b
+          (r.0 + 1)) (sym c.requires.worker.1.timed) r.1,
+    )
+
+pub run_shared-requires-clause-placed : goal.run_shared-requires-clause-placed
+run_shared-requires-clause-placed g c =
+    line_at-placed (script_of c.args.shared.now) c.args.self.now.thread.number c.args.number
+    c.args.line c.requires.shared.common.runnable c.requires.next
+
+pub run_shared-requires-clause-thread : goal.run_shared-requires-clause-thread
+run_shared-requires-clause-thread g c =
+    let w = c.requires.worker in
+    let script = script_of c.args.shared.now in
+    let self = c.args.self.now in
+    let done = length self.note.lines in
+    let p = some-shared script self.thread.number c.args.number c.args.line c.in-Some.op
+    (sym c.in-Some.ensures) in (
+      done,
+      w.0,
+      state_of script w.0 self,
+      w.1.thread,
+      (p.2 ∙ c.requires.number),
+      said-thread script (history_of w.0) self.thread.number done self.note.lines
+          c.requires.shared.common.runnable,
+    )
+
+pub run_shared-requires-clause-ready : goal.run_shared-requires-clause-ready
+run_shared-requires-clause-ready g c =
+    let r = c.requires.ready in (
+      r.0,
+      subst (λ (b : Bool). g.F.Flusher.ready (script_of c.args.shared.now) c.args.flusher.now b
+          (r.0 + 1)) (sym c.requires.worker.1.timed) r.1,
+    )
 
 pub returns-in_ok-note-in-Some : goal.returns-in_ok-note-in-Some
 returns-in_ok-note-in-Some g c = record {
@@ -23,18 +76,20 @@ returns-in_ok-note-in-Some g c = record {
       (sym c.in-Some.ensures) in
       let answer = c.in_ok-answer-in-Some in
       let noted = c.in_ok-note-in-Some.ensures in
-      steps-over g.K.Clock.given g.F.Flusher.flushed c.args.clock.now c.run_shared.new.clock
-      c.args.flusher.now c.args.flusher.now shared old
+      steps-over g.K.Clock.given g.F.Flusher.shown g.F.Flusher.flushed c.args.clock.now
+      c.run_shared.new.clock c.args.flusher.now c.run_shared.new.flusher shared old
       c.run_shared.new.thread c.note.new.self c.args.line answer.answer
       (subst (λ (n : ℕ). line_at script old.thread.number n ≡ Some c.args.line)
       c.requires.number c.requires.next)
       noted.noted noted.start noted.thread answer.ensures.number answer.ensures.timed
-      answer.ensures.asked
-      (board-flushes g.F.Flusher.flushed c.args.flusher.now c.args.line answer.answer.reply
-      (shared-replies script c.args.line answer.answer.reply p.0))
-      (λ h state w. answer.ensures.runs (length old.note.lines) h state w
+      answer.ensures.asked answer.ensures.runs.0
+      (λ h state w. answer.ensures.runs.1 (length old.note.lines) h state w
       (p.2 ∙ c.requires.number));
-  flusher = refl;
+  flusher = c.in_ok-answer-in-Some.ensures.flusher;
+  ready = subst (λ (b : Bool). (left : ℕ)
+      → g.F.Flusher.ready (script_of c.args.shared.now) c.args.flusher.now b (left + 1)
+      → g.F.Flusher.ready (script_of c.args.shared.now) c.run_shared.new.flusher b left)
+      c.requires.worker.1.timed c.in_ok-answer-in-Some.ensures.ready;
 }
 
 pub returns-in_ok-note-in-None : goal.returns-in_ok-note-in-None
@@ -45,13 +100,18 @@ returns-in_ok-note-in-None g c = record {
       let old = c.args.self.now in
       let answer = c.in_ok-answer-in-None in
       let noted = c.in_ok-note-in-None.ensures in
-      steps-over g.K.Clock.given g.F.Flusher.flushed c.args.clock.now c.run_own.new.clock
+      steps-over g.K.Clock.given g.F.Flusher.shown g.F.Flusher.flushed c.args.clock.now
+      c.run_own.new.clock
       c.args.flusher.now c.run_own.new.flusher shared old
       c.run_own.new.thread c.note-in-None.new.self c.args.line answer.answer
       (subst (λ (n : ℕ). line_at script old.thread.number n ≡ Some c.args.line)
       c.requires.number c.requires.next)
       noted.noted noted.start noted.thread answer.ensures.number answer.ensures.timed
-      answer.ensures.asked answer.ensures.flushes
-      (λ h state w. answer.ensures.runs (length old.note.lines) h state w);
+      answer.ensures.asked answer.ensures.runs.0
+      (λ h state w. answer.ensures.runs.1 (length old.note.lines) h state w);
   flusher = c.in_ok-answer-in-None.ensures.flusher;
+  ready = subst (λ (b : Bool). (left : ℕ)
+      → g.F.Flusher.ready (script_of c.args.shared.now) c.args.flusher.now b (left + 1)
+      → g.F.Flusher.ready (script_of c.args.shared.now) c.run_own.new.flusher b left)
+      c.requires.worker.1.timed c.in_ok-answer-in-None.ensures.ready;
 }
