@@ -4,7 +4,7 @@ ghost use Rattle.cal_replay.specs.Steps.{Flushes, HasReply, IsGiven};
 ghost use Rattle.cal_script.specs.declared.script.Line.TheVariants as line_is;
 ghost use Rattle.cal_script.specs.declared.script.Script as scripts;
 
-use crate::Flusher;
+use crate::Keeper;
 use cal_script::{Line, Reply};
 use cal_value::OutOfMemory;
 
@@ -16,22 +16,22 @@ pub(crate) struct Answer {
 }
 
 /// The reply to a line: the one that a board gives, or that to a flush.
-pub(crate) fn reply_or_flush<F: Flusher>(
+pub(crate) fn reply_or_flush<F: Keeper>(
     line: Line,
     found: Option<Reply>,
-    flusher: &mut F,
+    keeper: &mut F,
 ) -> Result<Reply, OutOfMemory>
     requires { HasReply line found }
-    ensures reply { IfOk result (IsGiven (F.thread flusher.old) found) }
-    ensures flushes { IfOk result (Flushes F.flushed flusher.old flusher.new line) }
+    ensures reply { IfOk result (IsGiven (F.thread keeper.old) found) }
+    ensures flushes { IfOk result (Flushes F.flushed keeper.old keeper.new line) }
     ensures ready { OnOk result ((script : scripts.Script) (timed : Bool) (left : ℕ)
-        → F.ready script flusher.old timed left → F.ready script flusher.new timed left) }
-    ensures thread { OnOk result (F.thread flusher.new ≡ F.thread flusher.old) }
+        → F.ready script keeper.old timed left → F.ready script keeper.new timed left) }
+    ensures thread { OnOk result (F.thread keeper.new ≡ F.thread keeper.old) }
 {
     match found {
         Some(reply) => Ok(reply),
         None => {
-            let reply = flusher.flush(flushed(line))?;
+            let reply = keeper.flush(flushed(line))?;
             Ok(reply)
         }
     }

@@ -11,8 +11,8 @@
 #![tactic(auto)]
 
 mod answer;
-mod flusher;
 mod flushing;
+mod keeper;
 mod own_line;
 mod reading;
 mod running;
@@ -23,8 +23,8 @@ mod shown_laws;
 mod step;
 mod worker;
 
-pub use flusher::Flusher;
 pub use flushing::flush;
+pub use keeper::Keeper;
 pub use shared::Shared;
 pub use showing::{ShownLine, show};
 pub use shown_laws::{shown_as_noted_law, shown_lines_law, told_step_law};

@@ -18,7 +18,7 @@ ghost use Rattle.cal_words.specs.declared.op.OpRec as words;
 
 use crate::answer::{Answer, reply_or_flush};
 use crate::reading::read_line;
-use crate::{Flusher, Shared, ShownLine};
+use crate::{Keeper, Shared, ShownLine};
 use cal_base::Clock;
 use cal_process::Common;
 use cal_script::Line;
@@ -28,26 +28,26 @@ use std::alloc::Global;
 
 /// Runs a line that is the thread's own: it is answered, looks where a channel takes a snapshot, is
 /// shown to the channels, flushes if it is a flush, and changes the thread where it is accepted.
-pub(crate) fn run_own<K: Clock, F: Flusher>(
+pub(crate) fn run_own<K: Clock, F: Keeper>(
     alloc: Global,
     shared: &Shared<'_>,
     thread: &mut Thread,
     line: Line,
     clock: &mut K,
-    flusher: &mut F,
+    keeper: &mut F,
 ) -> Result<Answer, OutOfMemory>
     requires shared { IsShared shared.now }
     requires thread { (done : ℕ) × (h : List words.OpRec) × (state : ThreadState)
         × IsThread shared.now.common thread.old done h state
         × HasSaidValues (script_of shared.now) state.board }
     requires own { is_process_line (script_of shared.now) line ≡ false }
-    requires flusher { F.thread flusher.old ≡ thread.old.number }
+    requires keeper { F.thread keeper.old ≡ thread.old.number }
     requires ready { (left : ℕ)
-        × F.ready (script_of shared.now) flusher.old thread.old.timed (left + 1) }
+        × F.ready (script_of shared.now) keeper.old thread.old.timed (left + 1) }
     requires placed { IsPlaced (script_of shared.now).attributes (script_of shared.now).channels
         (script_of shared.now).values line }
     ensures runs { IfOk result (λ answer. (tells : Tells F.shown F.flushed shared.now.common
-        flusher.old flusher.new line answer.reply)
+        keeper.old keeper.new line answer.reply)
         × ((done : ℕ) (h : List words.OpRec) (state : ThreadState)
         → IsThread shared.now.common thread.old done h state
         → Runs shared.now thread.old tells.at thread.new tells.told line
@@ -57,9 +57,9 @@ pub(crate) fn run_own<K: Clock, F: Flusher>(
     ensures number { OnOk result (thread.new.number ≡ thread.old.number) }
     ensures timed { OnOk result (thread.new.timed ≡ thread.old.timed) }
     ensures ready { OnOk result ((left : ℕ)
-        → F.ready (script_of shared.now) flusher.old thread.old.timed (left + 1)
-        → F.ready (script_of shared.now) flusher.new thread.old.timed left) }
-    ensures flusher { OnOk result (F.thread flusher.new ≡ F.thread flusher.old) }
+        → F.ready (script_of shared.now) keeper.old thread.old.timed (left + 1)
+        → F.ready (script_of shared.now) keeper.new thread.old.timed left) }
+    ensures keeper { OnOk result (F.thread keeper.new ≡ F.thread keeper.old) }
 {
     let met = thread.look(alloc, &shared.common, line)?;
     let clock_shows = thread.clock;
@@ -69,8 +69,8 @@ pub(crate) fn run_own<K: Clock, F: Flusher>(
         accepted: met.accepted,
         reading: reading.unwrap_or(0),
     };
-    flusher.show(alloc, &shared.common, thread, shown)?;
-    let reply = reply_or_flush(line, met.reply, flusher)?;
+    keeper.show(alloc, &shared.common, thread, shown)?;
+    let reply = reply_or_flush(line, met.reply, keeper)?;
     change_if(
         alloc,
         &shared.common,

@@ -4,7 +4,7 @@ ghost use Rattle.cal_replay.specs.Steps.{HasRead, RunsAll};
 ghost use Rattle.cal_replay.specs.Workers.{IsShared, IsSomeWorker, IsWorker, lines_of, script_of};
 ghost use Rattle.cal_words.specs.declared.op.OpRec as words;
 
-use crate::{Flusher, Shared, Worker};
+use crate::{Keeper, Shared, Worker};
 use cal_base::{Clock, Gate};
 use cal_script::Script;
 use cal_value::OutOfMemory;
@@ -12,18 +12,18 @@ use std::alloc::Global;
 
 impl Worker {
     /// Runs all lines that remain. Behind an `Err` the worker may not run on.
-    pub fn run<K: Clock, G: Gate, F: Flusher>(
+    pub fn run<K: Clock, G: Gate, F: Keeper>(
         &mut self,
         alloc: Global,
         shared: &Shared<'_>,
         clock: &mut K,
         gate: &G,
-        flusher: &mut F,
+        keeper: &mut F,
     ) -> Result<(), OutOfMemory>
         requires shared { IsShared shared.now }
         requires worker { IsSomeWorker shared.now self.old }
-        requires flusher { F.thread flusher.old ≡ self.old.thread.number }
-        requires ready { F.ready (script_of shared.now) flusher.old shared.now.timers.some
+        requires keeper { F.thread keeper.old ≡ self.old.thread.number }
+        requires ready { F.ready (script_of shared.now) keeper.old shared.now.timers.some
             (length (lines_of (script_of shared.now) self.old.thread.number)
             - length self.old.note.lines) }
         ensures runs { OnOk result ((h : List words.OpRec) → IsWorker shared.now self.old h
@@ -31,10 +31,10 @@ impl Worker {
         ensures number { OnOk result (self.new.thread.number ≡ self.old.thread.number) }
         ensures read { OnOk result
             (HasRead shared.now K.given clock.old clock.new self.old self.new) }
-        ensures flusher { OnOk result (F.thread flusher.new ≡ F.thread flusher.old) }
+        ensures keeper { OnOk result (F.thread keeper.new ≡ F.thread keeper.old) }
     {
         while self.has_more(shared) {
-            let _more = self.step(alloc, shared, clock, gate, flusher)?;
+            let _more = self.step(alloc, shared, clock, gate, keeper)?;
         }
         Ok(())
     }

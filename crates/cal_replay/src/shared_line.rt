@@ -14,7 +14,7 @@ ghost use Rattle.cal_words.specs.declared.op.OpRec as words;
 
 use crate::answer::Answer;
 use crate::reading::read_line;
-use crate::{Flusher, Shared, ShownLine};
+use crate::{Keeper, Shared, ShownLine};
 use cal_base::Clock;
 use cal_run::is_accepted;
 use cal_script::{Line, Reply};
@@ -25,14 +25,14 @@ use std::alloc::Global;
 
 /// Runs a process line: it is placed, answered by the process's board before its place, shown to
 /// the channels, and taken in.
-pub(crate) fn run_shared<K: Clock, F: Flusher>(
+pub(crate) fn run_shared<K: Clock, F: Keeper>(
     alloc: Global,
     shared: &Shared<'_>,
     thread: &mut Thread,
     line: Line,
     op: OpRec,
     clock: &mut K,
-    flusher: &mut F,
+    keeper: &mut F,
 ) -> Result<Answer, OutOfMemory>
     requires shared { IsShared shared.now }
     requires thread { (done : ℕ) × (h : List words.OpRec) × (state : ThreadState)
@@ -42,11 +42,11 @@ pub(crate) fn run_shared<K: Clock, F: Flusher>(
     requires among { Contains (ops_of shared.now.common.log) op }
     requires own { op.thread ≡ thread.old.number }
     requires ready { (left : ℕ)
-        × F.ready (script_of shared.now) flusher.old thread.old.timed (left + 1) }
+        × F.ready (script_of shared.now) keeper.old thread.old.timed (left + 1) }
     requires placed { IsPlaced (script_of shared.now).attributes (script_of shared.now).channels
         (script_of shared.now).values line }
     ensures runs { IfOk result (λ answer. (tells : Tells F.shown F.flushed shared.now.common
-        flusher.old flusher.new line answer.reply)
+        keeper.old keeper.new line answer.reply)
         × ((done : ℕ) (h : List words.OpRec) (state : ThreadState)
         → IsThread shared.now.common thread.old done h state → op.line ≡ done + 1
         → Runs shared.now thread.old tells.at thread.new tells.told line
@@ -56,9 +56,9 @@ pub(crate) fn run_shared<K: Clock, F: Flusher>(
     ensures number { OnOk result (thread.new.number ≡ thread.old.number) }
     ensures timed { OnOk result (thread.new.timed ≡ thread.old.timed) }
     ensures ready { OnOk result ((left : ℕ)
-        → F.ready (script_of shared.now) flusher.old thread.old.timed (left + 1)
-        → F.ready (script_of shared.now) flusher.new thread.old.timed left) }
-    ensures flusher { OnOk result (F.thread flusher.new ≡ F.thread flusher.old) }
+        → F.ready (script_of shared.now) keeper.old thread.old.timed (left + 1)
+        → F.ready (script_of shared.now) keeper.new thread.old.timed left) }
+    ensures keeper { OnOk result (F.thread keeper.new ≡ F.thread keeper.old) }
 {
     let reply = thread.place(alloc, &shared.common, line, op)?;
     let clock_shows = thread.clock;
@@ -68,7 +68,7 @@ pub(crate) fn run_shared<K: Clock, F: Flusher>(
         accepted: is_accepted(reply),
         reading: reading.unwrap_or(0),
     };
-    flusher.show(alloc, &shared.common, thread, shown)?;
+    keeper.show(alloc, &shared.common, thread, shown)?;
     thread.take_own(alloc, &shared.common)?;
     let given = reply.unwrap_or(Reply::Merged);
     Ok(Answer {

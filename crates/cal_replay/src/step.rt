@@ -10,7 +10,7 @@ ghost use Rattle.cal_script.specs.declared.script.Line as lines_of_script;
 use crate::answer::Answer;
 use crate::own_line::run_own;
 use crate::shared_line::run_shared;
-use crate::{Flusher, Shared, Worker};
+use crate::{Keeper, Shared, Worker};
 use cal_base::{Clock, Gate};
 use cal_process::op_of_line;
 use cal_script::{Line, LineNote, Script};
@@ -20,73 +20,73 @@ use std::alloc::Global;
 impl Worker {
     /// Runs the next line and notes it, when the gate has let it pass, and answers whether lines
     /// remain. Behind an `Err` the worker may not be stepped again.
-    pub fn step<K: Clock, G: Gate, F: Flusher>(
+    pub fn step<K: Clock, G: Gate, F: Keeper>(
         &mut self,
         alloc: Global,
         shared: &Shared<'_>,
         clock: &mut K,
         gate: &G,
-        flusher: &mut F,
+        keeper: &mut F,
     ) -> Result<bool, OutOfMemory>
         requires shared { IsShared shared.now }
         requires worker { IsSomeWorker shared.now self.old }
         requires remains { length self.old.note.lines
             < length (lines_of (script_of shared.now) self.old.thread.number) }
-        requires flusher { F.thread flusher.old ≡ self.old.thread.number }
+        requires keeper { F.thread keeper.old ≡ self.old.thread.number }
         requires ready { (left : ℕ)
-            × F.ready (script_of shared.now) flusher.old shared.now.timers.some (left + 1) }
+            × F.ready (script_of shared.now) keeper.old shared.now.timers.some (left + 1) }
         ensures steps { OnOk result
-            (StepsOver shared.now K.given F.shown F.flushed clock.old clock.new flusher.old
-            flusher.new self.old self.new) }
+            (StepsOver shared.now K.given F.shown F.flushed clock.old clock.new keeper.old
+            keeper.new self.old self.new) }
         ensures more { IfOk result (λ more. more ≡ nat_lt (length self.new.note.lines)
             (length (lines_of (script_of shared.now) self.old.thread.number))) }
-        ensures flusher { OnOk result (F.thread flusher.new ≡ F.thread flusher.old) }
+        ensures keeper { OnOk result (F.thread keeper.new ≡ F.thread keeper.old) }
         ensures ready { OnOk result ((left : ℕ)
-            → F.ready (script_of shared.now) flusher.old shared.now.timers.some (left + 1)
-            → F.ready (script_of shared.now) flusher.new shared.now.timers.some left) }
+            → F.ready (script_of shared.now) keeper.old shared.now.timers.some (left + 1)
+            → F.ready (script_of shared.now) keeper.new shared.now.timers.some left) }
     {
         let thread = self.thread.number;
         let done = self.note.lines.len();
         let next = next_line(shared.common.script, thread, done);
         gate.pass(thread, next.number);
-        self.run_line(alloc, shared, next.line, next.number, clock, flusher)?;
+        self.run_line(alloc, shared, next.line, next.number, clock, keeper)?;
         Ok(next.more)
     }
 
     /// Runs a line of this number, which is the next, and notes it.
-    fn run_line<K: Clock, F: Flusher>(
+    fn run_line<K: Clock, F: Keeper>(
         &mut self,
         alloc: Global,
         shared: &Shared<'_>,
         line: Line,
         number: u32,
         clock: &mut K,
-        flusher: &mut F,
+        keeper: &mut F,
     ) -> Result<(), OutOfMemory>
         requires shared { IsShared shared.now }
         requires worker { IsSomeWorker shared.now self.old }
         requires next { line_at (script_of shared.now) self.old.thread.number number ≡ Some line }
         requires number { number ≡ length self.old.note.lines + 1 }
-        requires flusher { F.thread flusher.old ≡ self.old.thread.number }
+        requires keeper { F.thread keeper.old ≡ self.old.thread.number }
         requires ready { (left : ℕ)
-            × F.ready (script_of shared.now) flusher.old shared.now.timers.some (left + 1) }
+            × F.ready (script_of shared.now) keeper.old shared.now.timers.some (left + 1) }
         ensures steps { OnOk result
-            (StepsOver shared.now K.given F.shown F.flushed clock.old clock.new flusher.old
-            flusher.new self.old self.new) }
-        ensures flusher { OnOk result (F.thread flusher.new ≡ F.thread flusher.old) }
+            (StepsOver shared.now K.given F.shown F.flushed clock.old clock.new keeper.old
+            keeper.new self.old self.new) }
+        ensures keeper { OnOk result (F.thread keeper.new ≡ F.thread keeper.old) }
         ensures ready { OnOk result ((left : ℕ)
-            → F.ready (script_of shared.now) flusher.old shared.now.timers.some (left + 1)
-            → F.ready (script_of shared.now) flusher.new shared.now.timers.some left) }
+            → F.ready (script_of shared.now) keeper.old shared.now.timers.some (left + 1)
+            → F.ready (script_of shared.now) keeper.new shared.now.timers.some left) }
     {
         let thread = self.thread.number;
         match op_of_line(shared.common.script, thread, number, line) {
             Some(op) => {
-                let answer = run_shared(alloc, shared, &mut self.thread, line, op, clock, flusher)?;
+                let answer = run_shared(alloc, shared, &mut self.thread, line, op, clock, keeper)?;
                 self.note(answer)?;
                 Ok(())
             }
             None => {
-                let answer = run_own(alloc, shared, &mut self.thread, line, clock, flusher)?;
+                let answer = run_own(alloc, shared, &mut self.thread, line, clock, keeper)?;
                 self.note(answer)?;
                 Ok(())
             }

@@ -5,11 +5,11 @@ use Rattle.cal_replay.proofs.answer.reply_or_flush.Goals as goal
 
 pub returns-in-Some-clause-flushes : goal.returns-in-Some-clause-flushes
 returns-in-Some-clause-flushes g c =
-    board-flushes g.F.Flusher.flushed c.args.flusher.now c.args.line c.in-Some.reply
+    board-flushes g.F.Keeper.flushed c.args.keeper.now c.args.line c.in-Some.reply
     (subst (HasReply c.args.line) c.in-Some.is c.requires)
 
 pub returns-in_ok-reply-in-None-clause-flushes : goal.returns-in_ok-reply-in-None-clause-flushes
 returns-in_ok-reply-in-None-clause-flushes g c =
-    flush-flushes g.F.Flusher.flushed c.args.flusher.now c.flush.new.self c.args.line
+    flush-flushes g.F.Keeper.flushed c.args.keeper.now c.flush.new.self c.args.line
     (subst (HasReply c.args.line) c.in-None.is c.requires) c.flushed.result c.flushed.ensures
     c.in_ok-reply-in-None.reply c.in_ok-reply-in-None.ensures.flushed

@@ -36,7 +36,7 @@ pub show-requires-clause-ready : goal.show-requires-clause-ready
 show-requires-clause-ready g c =
     let r = c.requires.ready in (
       r.0,
-      subst (λ (b : Bool). g.F.Flusher.ready (script_of c.args.shared.now) c.args.flusher.now b
+      subst (λ (b : Bool). g.F.Keeper.ready (script_of c.args.shared.now) c.args.keeper.now b
           (r.0 + 1)) (sym c.in_ok-met.ensures.timed) r.1,
     )
 
@@ -61,7 +61,7 @@ returns-clause-runs g c = (
     };
     line_is = refl;
     between = c.show.new.self;
-    shown = subst (λ (reading : ℕ). g.F.Flusher.shown c.args.shared.now.common c.args.flusher.now
+    shown = subst (λ (reading : ℕ). g.F.Keeper.shown c.args.shared.now.common c.args.keeper.now
         c.show.new.self c.show.new.runner (record {
           line = c.args.line;
           accepted = c.in_ok-met.met.accepted;
@@ -85,7 +85,7 @@ returns-clause-runs g c = (
       own-runs shared old mid new line met given reading done h state c.requires.own w m
       (number-reads looked mid reads ∙ c.in_ok-met.ensures.number)
       (subst (λ (n : ℕ). IsGiven n met.reply given)
-      (c.in_ok-show.ensures.thread ∙ c.requires.flusher) c.in_ok-reply.ensures.reply)
+      (c.in_ok-show.ensures.thread ∙ c.requires.keeper) c.in_ok-reply.ensures.reply)
       (subst (λ (t : Thread). IsRead (script_of shared)
       (known_journal shared.real (history_of h ++ history_of m.ops))
       (is_due (script_of shared) line met.reply) t.clock reading) (sym reads.same)

@@ -36,7 +36,7 @@ pub show-requires-clause-ready : goal.show-requires-clause-ready
 show-requires-clause-ready g c =
     let r = c.requires.ready in (
       r.0,
-      subst (λ (b : Bool). g.F.Flusher.ready (script_of c.args.shared.now) c.args.flusher.now b
+      subst (λ (b : Bool). g.F.Keeper.ready (script_of c.args.shared.now) c.args.keeper.now b
           (r.0 + 1)) (sym c.in_ok-reply.ensures.timed) r.1,
     )
 
@@ -51,13 +51,13 @@ returns-clause-runs g c = (
     };
     line_is = refl;
     between = c.show.new.self;
-    shown = subst (g.F.Flusher.shown c.args.shared.now.common c.args.flusher.now
+    shown = subst (g.F.Keeper.shown c.args.shared.now.common c.args.keeper.now
         c.show.new.self c.show.new.runner) (λ i. record {
           line = c.args.line;
           accepted = c.is_accepted.ensures i;
           reading = c.unwrap_or.ensures i;
         }) c.in_ok-show.ensures.shown;
-    flushes = board-flushes g.F.Flusher.flushed c.show.new.self c.args.line
+    flushes = board-flushes g.F.Keeper.flushed c.show.new.self c.args.line
         c.unwrap_or-given.result
         (shared-replies (script_of c.args.shared.now) c.args.line c.unwrap_or-given.result
         c.requires.shared_line);

@@ -16,7 +16,7 @@ loop-alloc-init g c = record {
         (sym (append-nil h)) w,
   );
   number = refl;
-  flusher = refl;
+  keeper = refl;
   ready = c.requires.ready;
   read = (
     [],
@@ -32,9 +32,9 @@ pub step-requires-clause-remains : goal.step-requires-clause-remains
 step-requires-clause-remains g c =
     ltb-true _ _ (sym c.has_more.ensures ∙ c.loop-alloc-test.true)
 
-pub step-requires-clause-flusher : goal.step-requires-clause-flusher
-step-requires-clause-flusher g c =
-    c.loop-alloc.invariant.flusher ∙ c.requires.flusher ∙ sym c.loop-alloc.invariant.number
+pub step-requires-clause-keeper : goal.step-requires-clause-keeper
+step-requires-clause-keeper g c =
+    c.loop-alloc.invariant.keeper ∙ c.requires.keeper ∙ sym c.loop-alloc.invariant.number
 
 pub step-requires-clause-ready : goal.step-requires-clause-ready
 step-requires-clause-ready g c =
@@ -43,7 +43,7 @@ step-requires-clause-ready g c =
     let below = ltb-true done lines (sym c.has_more.ensures ∙ c.loop-alloc-test.true) in
     let one : lines - done ≡ (lines - done - 1) + 1 = omega (arith, below) in (
       lines - done - 1,
-      subst (g.F.Flusher.ready (script_of c.args.shared.now) c.loop-alloc.flusher
+      subst (g.F.Keeper.ready (script_of c.args.shared.now) c.loop-alloc.keeper
           c.args.shared.now.timers.some) one c.loop-alloc.invariant.ready,
     )
 
@@ -65,7 +65,7 @@ loop-alloc-preserved g c =
     let was = c.loop-alloc.self in
     let is = c.step.new.self in
     let done = length was.note.lines in
-    let ready = g.F.Flusher.ready (script_of c.args.shared.now) in
+    let ready = g.F.Keeper.ready (script_of c.args.shared.now) in
     let timed = c.args.shared.now.timers.some in
     let below = ltb-true done (lines was.thread.number)
     (sym c.has_more.ensures ∙ c.loop-alloc-test.true) in
@@ -83,10 +83,10 @@ loop-alloc-preserved g c =
       some = (_, (s.runs i.some.0 i.some.1).kept);
       more = λ h w. more h (i.more h w);
       number = s.number ∙ i.number;
-      flusher = c.in_ok-_more.ensures.flusher ∙ i.flusher;
-      ready = subst (ready c.step.new.flusher timed) after
+      keeper = c.in_ok-_more.ensures.keeper ∙ i.keeper;
+      ready = subst (ready c.step.new.keeper timed) after
           (c.in_ok-_more.ensures.ready (lines was.thread.number - done - 1)
-          (subst (ready c.loop-alloc.flusher timed) before i.ready));
+          (subst (ready c.loop-alloc.keeper timed) before i.ready));
       read = readings-then _ _ _ c.args.shared.now c.args.self.now c.loop-alloc.self c.step.new.self
           c.args.clock.now c.loop-alloc.clock c.step.new.clock _ _ s i.read;
     }
@@ -109,5 +109,5 @@ returns-clause-number g c = c.loop-alloc.invariant.number
 pub returns-clause-read : goal.returns-clause-read
 returns-clause-read g c = c.loop-alloc.invariant.read
 
-pub returns-clause-flusher : goal.returns-clause-flusher
-returns-clause-flusher g c = c.loop-alloc.invariant.flusher
+pub returns-clause-keeper : goal.returns-clause-keeper
+returns-clause-keeper g c = c.loop-alloc.invariant.keeper

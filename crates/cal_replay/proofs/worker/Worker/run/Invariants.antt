@@ -13,8 +13,8 @@ invariant-loop-alloc g l =
       more : (h : List OpRec) → IsWorker l.shared l.fn.self h
           → (ops : List OpRec) × IsWorker l.shared l.self (h ++ ops);
       number : l.self.thread.number ≡ l.fn.self.thread.number;
-      flusher : g.F.Flusher.thread l.flusher ≡ g.F.Flusher.thread l.fn.flusher;
-      ready : g.F.Flusher.ready (script_of l.shared) l.flusher l.shared.timers.some
+      keeper : g.F.Keeper.thread l.keeper ≡ g.F.Keeper.thread l.fn.keeper;
+      ready : g.F.Keeper.ready (script_of l.shared) l.keeper l.shared.timers.some
           (length (lines_of (script_of l.shared) l.self.thread.number) - length l.self.note.lines);
       read : HasRead l.shared clock.given l.fn.clock l.clock l.fn.self l.self;
     }

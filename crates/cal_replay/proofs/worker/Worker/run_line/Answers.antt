@@ -32,7 +32,7 @@ pub run_own-requires-clause-ready : goal.run_own-requires-clause-ready
 run_own-requires-clause-ready g c =
     let r = c.requires.ready in (
       r.0,
-      subst (λ (b : Bool). g.F.Flusher.ready (script_of c.args.shared.now) c.args.flusher.now b
+      subst (λ (b : Bool). g.F.Keeper.ready (script_of c.args.shared.now) c.args.keeper.now b
           (r.0 + 1)) (sym c.requires.worker.1.timed) r.1,
     )
 
@@ -62,7 +62,7 @@ pub run_shared-requires-clause-ready : goal.run_shared-requires-clause-ready
 run_shared-requires-clause-ready g c =
     let r = c.requires.ready in (
       r.0,
-      subst (λ (b : Bool). g.F.Flusher.ready (script_of c.args.shared.now) c.args.flusher.now b
+      subst (λ (b : Bool). g.F.Keeper.ready (script_of c.args.shared.now) c.args.keeper.now b
           (r.0 + 1)) (sym c.requires.worker.1.timed) r.1,
     )
 
@@ -76,8 +76,8 @@ returns-in_ok-note-in-Some g c = record {
       (sym c.in-Some.ensures) in
       let answer = c.in_ok-answer-in-Some in
       let noted = c.in_ok-note-in-Some.ensures in
-      steps-over g.K.Clock.given g.F.Flusher.shown g.F.Flusher.flushed c.args.clock.now
-      c.run_shared.new.clock c.args.flusher.now c.run_shared.new.flusher shared old
+      steps-over g.K.Clock.given g.F.Keeper.shown g.F.Keeper.flushed c.args.clock.now
+      c.run_shared.new.clock c.args.keeper.now c.run_shared.new.keeper shared old
       c.run_shared.new.thread c.note.new.self c.args.line answer.answer
       (subst (λ (n : ℕ). line_at script old.thread.number n ≡ Some c.args.line)
       c.requires.number c.requires.next)
@@ -85,10 +85,10 @@ returns-in_ok-note-in-Some g c = record {
       answer.ensures.asked answer.ensures.runs.0
       (λ h state w. answer.ensures.runs.1 (length old.note.lines) h state w
       (p.2 ∙ c.requires.number));
-  flusher = c.in_ok-answer-in-Some.ensures.flusher;
+  keeper = c.in_ok-answer-in-Some.ensures.keeper;
   ready = subst (λ (b : Bool). (left : ℕ)
-      → g.F.Flusher.ready (script_of c.args.shared.now) c.args.flusher.now b (left + 1)
-      → g.F.Flusher.ready (script_of c.args.shared.now) c.run_shared.new.flusher b left)
+      → g.F.Keeper.ready (script_of c.args.shared.now) c.args.keeper.now b (left + 1)
+      → g.F.Keeper.ready (script_of c.args.shared.now) c.run_shared.new.keeper b left)
       c.requires.worker.1.timed c.in_ok-answer-in-Some.ensures.ready;
 }
 
@@ -100,18 +100,18 @@ returns-in_ok-note-in-None g c = record {
       let old = c.args.self.now in
       let answer = c.in_ok-answer-in-None in
       let noted = c.in_ok-note-in-None.ensures in
-      steps-over g.K.Clock.given g.F.Flusher.shown g.F.Flusher.flushed c.args.clock.now
+      steps-over g.K.Clock.given g.F.Keeper.shown g.F.Keeper.flushed c.args.clock.now
       c.run_own.new.clock
-      c.args.flusher.now c.run_own.new.flusher shared old
+      c.args.keeper.now c.run_own.new.keeper shared old
       c.run_own.new.thread c.note-in-None.new.self c.args.line answer.answer
       (subst (λ (n : ℕ). line_at script old.thread.number n ≡ Some c.args.line)
       c.requires.number c.requires.next)
       noted.noted noted.start noted.thread answer.ensures.number answer.ensures.timed
       answer.ensures.asked answer.ensures.runs.0
       (λ h state w. answer.ensures.runs.1 (length old.note.lines) h state w);
-  flusher = c.in_ok-answer-in-None.ensures.flusher;
+  keeper = c.in_ok-answer-in-None.ensures.keeper;
   ready = subst (λ (b : Bool). (left : ℕ)
-      → g.F.Flusher.ready (script_of c.args.shared.now) c.args.flusher.now b (left + 1)
-      → g.F.Flusher.ready (script_of c.args.shared.now) c.run_own.new.flusher b left)
+      → g.F.Keeper.ready (script_of c.args.shared.now) c.args.keeper.now b (left + 1)
+      → g.F.Keeper.ready (script_of c.args.shared.now) c.run_own.new.keeper b left)
       c.requires.worker.1.timed c.in_ok-answer-in-None.ensures.ready;
 }

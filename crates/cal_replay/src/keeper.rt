@@ -8,7 +8,7 @@ use std::alloc::Global;
 
 /// Whoever keeps a thread's channels: they are shown each line, and a flush gives what one holds of
 /// the thread's snapshots to its book.
-pub trait Flusher {
+pub trait Keeper {
     ghost use Rattle.std.specs.Prelude.{◌≡◌, ◌+◌, ℕ, Bool, List, IfOk, OnOk};
     ghost use Rattle.cal_notes.specs.Notes.{IsFlushNote};
     ghost use Rattle.cal_process.specs.Replicas.{IsCommon};
