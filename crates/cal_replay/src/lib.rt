@@ -4,12 +4,12 @@
 //!
 //! `step` runs a worker's next line, over the tree and the history that all workers share. The
 //! layer above uses that each line with its note keeps the rules of journals by what its thread has
-//! seen of the history, whatever other threads append meanwhile, that a clock was asked for just the
-//! readings that are noted, and that channels are shown each line as it is noted. `show` hands a
-//! line to a thread's channels and `flush` a channel's table to its book; by the laws beside them
+//! seen of the history, whatever other threads append meanwhile, that a clock was asked for just
+//! the readings that are noted, and that channels are shown each line as it is noted. `show` hands
+//! a line to a thread's channels and `flush` a channel's table to its book; by the laws beside them
 //! channels have taken what the plain meaning takes.
-//! Nothing is promised of a worker that ran out of memory, nor of when another thread's operation is
-//! seen.
+//! Nothing is promised of a worker that ran out of memory, nor of when another thread's operation
+//! is seen.
 #![tactic(auto)]
 
 mod answer;
