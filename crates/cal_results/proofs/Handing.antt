@@ -3,12 +3,17 @@ use Rattle.std.proofs.Common.{◌≡◌, ℕ, suc, zero, ◌+◌, ◌<◌, List,
 use Rattle.std.proofs.Common.{sym, subst, arith}
 use Rattle.std.specs.List.{AllZip}
 use Rattle.std.proofs.lemmas.List.{take_more}
+use Rattle.std.proofs.lemmas.Slice.Zip.{AllZip-long}
 use Rattle.cal_channel.specs.Channels.{IsTraced}
 use Rattle.cal_channel.specs.Traces.{ShownSnap}
 use Rattle.cal_context.proofs.CallerLemmas.{TakesMore-trans}
+use Rattle.cal_context.specs.Lists.{IsFront}
 use Rattle.cal_context.specs.Taking.{TakesMore}
 use Rattle.cal_context.specs.Tree as contexts
+use Rattle.cal_once.specs.Seats.{view}
+use Rattle.cal_once.specs.Views.{KnowsMore}
 use Rattle.cal_once.specs.declared.seat.RowSeat.{RowSeat}
+use Rattle.cal_results.proofs.Meanings.{record_later}
 use Rattle.cal_results.specs.Tracing.{MeanRecords, MeansRecord}
 use Rattle.cal_script.specs.declared.script.Script.{Script}
 use Rattle.cal_tree.specs.declared.tree.Tree.{Tree}
@@ -23,16 +28,29 @@ zip_at R (x ∷ xs) [] k d e h l = absurd h
 zip_at R (x ∷ xs) (y ∷ ys) zero d e h l = h.0
 zip_at R (x ∷ xs) (y ∷ ys) (suc k) d e h l = zip_at R xs ys k d e h.1 (omega (arith, l))
 
--- one of the snapshots means one of the records
-pub record_at : (t : contexts.Tree) (script : Script) (tree : Tree) (seat : RowSeat NodeSort)
-    (snaps : List ShownSnap) (recs : List Rec) (k : ℕ) (d : ShownSnap) (e : Rec)
-    → MeanRecords t script tree seat snaps recs → k < length snaps
-    → MeansRecord t script tree seat (get_or snaps k d) (get_or recs k e)
-record_at t script tree seat snaps recs k d e m l = record {
-  attributes = m.attributes;
-  front = m.front;
-  traced = zip_at (IsTraced m.attributes script tree seat) snaps recs k d e m.traced l;
-}
+-- there are as many snapshots as records
+pub means_long : (t : contexts.Tree) (script : Script) (tree : Tree) (seat : RowSeat NodeSort)
+    (snaps : List ShownSnap) (recs : List Rec) → MeanRecords t script tree seat snaps recs
+    → length recs ≡ length snaps
+means_long t script tree seat snaps recs m =
+    AllZip-long (IsTraced m.attributes script tree seat) snaps recs m.traced
+
+-- The snapshot at a place means the record there, however much a seat has learned since, and
+-- whatever attributes came behind the others.
+pub record_at : (script : Script) (tree : Tree) (old new : contexts.Tree)
+    → IsFront old.attributes new.attributes → (was is : RowSeat NodeSort)
+    → KnowsMore (view was) (view is) → (snaps : List ShownSnap) (recs : List Rec) (k : ℕ)
+    → MeanRecords old script tree was snaps recs → k < length snaps → (shown : ShownSnap)
+    → ((d : ShownSnap) → get_or snaps k d ≡ shown) → (e : Rec)
+    → MeansRecord new script tree is shown (get_or recs k e)
+record_at script tree old new more was is learned snaps recs k m l shown at e =
+    record_later script tree shown old new more was is learned (get_or recs k e) (record {
+      attributes = m.attributes;
+      front = m.front;
+      traced = subst (λ (s : ShownSnap). IsTraced m.attributes script tree was s (get_or recs k e))
+          (at shown)
+          (zip_at (IsTraced m.attributes script tree was) snaps recs k shown e m.traced l);
+    })
 
 -- one record more was taken
 pub taken_more : (had then has : List Rec → Type 0) (recs : List Rec) (i : ℕ) (d : Rec)
