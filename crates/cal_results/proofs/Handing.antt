@@ -1,6 +1,6 @@
 -- The snapshots of a trace so far, and one more.
-use Rattle.std.proofs.Common.{◌≡◌, ℕ, suc, zero, ◌+◌, ◌<◌, List, [], ◌∷◌, length, get_or, take}
-use Rattle.std.proofs.Common.{sym, subst, arith}
+use Rattle.std.proofs.Common.{◌≡◌, ℕ, suc, zero, ◌+◌, ◌<◌, List, [], ◌∷◌, ◌++◌, length, get_or}
+use Rattle.std.proofs.Common.{take, sym, subst, arith}
 use Rattle.std.specs.List.{AllZip}
 use Rattle.std.proofs.lemmas.List.{take_more}
 use Rattle.std.proofs.lemmas.Slice.Zip.{AllZip-long}
@@ -59,3 +59,10 @@ pub taken_more : (had then has : List Rec → Type 0) (recs : List Rec) (i : ℕ
 taken_more had then has recs i d l so_far next = subst (TakesMore had has)
     (sym (take_more recs i d l))
     (TakesMore-trans had then has (take i recs) (get_or recs i d ∷ []) so_far next)
+
+-- A record was taken that is this one, from a context that had grown.
+pub hands_on : (had then has : List Rec → Type 0) (made rec : Rec) → made ≡ rec
+    → ((rs : List Rec) → had rs → then rs) → TakesMore then has (made ∷ [])
+    → TakesMore had has (rec ∷ [])
+hands_on had then has made rec same stays taken rs is =
+    subst (λ (r : Rec). has (rs ++ r ∷ [])) same (taken rs (stays rs is))

@@ -40,7 +40,7 @@ pub(crate) fn place_snap(
     ensures lies { OnOk result (IsIn context.new snapshot.new) }
     ensures means { OnOk result ((rec : Rec)
         → MeansRecord context.old script.now tree.now seat.old
-        (record { nodes = shown.nodes.now; entries = shown.entries.now }) rec
+        (record { nodes = shown.entry.nodes.now; entries = shown.entry.entries.now }) rec
         → meaning context.new snapshot.new ≡ rec) }
     ensures seat { IsTreeSeat tree.now seat.new }
     ensures learns { Learns (view seat.old) (view seat.new) }

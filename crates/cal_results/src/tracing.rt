@@ -51,7 +51,14 @@ pub fn take_trace<T: Taker>(
     for place in 0..trace.len() {
         let shown = trace.snap(place);
         place_snap(
-            alloc, script, shown, tree, seat, nodes, context, &mut snapshot,
+            alloc,
+            script,
+            shown,
+            tree,
+            seat,
+            nodes,
+            context,
+            &mut snapshot,
         )?;
         taker.take(context, &snapshot)?;
     }

@@ -1,16 +1,12 @@
-use Rattle.std.proofs.Common.{◌≡◌, ◌<◌, ◌≤◌, List, [], ◌∷◌, ◌++◌, length, get_or, take, Some, sym}
+use Rattle.std.proofs.Common.{◌≡◌, ◌+◌, ◌<◌, List, [], ◌∷◌, ◌++◌, length, get_or, take, Some, sym}
 use Rattle.std.proofs.Common.{subst, arith}
-use Rattle.std.proofs.lemmas.List.{take_all, take_more}
+use Rattle.std.proofs.lemmas.List.{take_more}
 use Rattle.std.proofs.lemmas.Slice.Zip.{all_zipped_more}
 use Rattle.cal_context.specs.declared.numbers.NodeNumber.{NodeNumber}
 use Rattle.cal_nodes.specs.Numbers.{number_in}
 use Rattle.cal_results.specs.Tracing.{AreNumbersOf}
 use Rattle.cal_words.specs.declared.node.NodeId.{NodeId}
 use Rattle.cal_results.proofs.placing.add_numbers.Goals as goal
-
-pub loop-node-init : goal.loop-node-init
-loop-node-init c = subst (λ (ns : List NodeNumber). AreNumbersOf c.args.nodes.now ns [])
-    (sym c.requires.none) tt
 
 pub loop-node-preserved : goal.loop-node-preserved
 loop-node-preserved c =
@@ -27,12 +23,4 @@ loop-node-preserved c =
     let both = subst (λ (rs : List NodeId). AreNumbersOf nodes (old ++ n ∷ []) rs)
     (sym (take_more refs i none less)) more in
     subst (λ (ns : List NodeNumber). AreNumbersOf nodes ns (take (i + 1) refs))
-    (sym c.in_ok-push.ensures) both
-
-pub returns : goal.returns
-returns c =
-    let refs = c.args.refs.now in
-    let i = c.loop-node.node-index in
-    let test = c.loop-node-test.false in
-    subst (AreNumbersOf c.args.nodes.now c.loop-node.numbers.items)
-    (take_all i refs (omega arith)) c.loop-node.invariant
+    (sym c.in_ok-push.ensures.items) both

@@ -4,10 +4,11 @@ use Rattle.std.proofs.lemmas.List.{take_all}
 use Rattle.cal_channel.specs.Traces.{ShownSnap}
 use Rattle.cal_context.proofs.CallerLemmas.{Grows-refl, Grows-trans}
 use Rattle.cal_context.proofs.ListLemmas.{IsFront-trans}
+use Rattle.cal_context.specs.Snapshots.{meaning}
 use Rattle.cal_context.specs.Taking.{TakesMore}
 use Rattle.cal_once.proofs.Learning.{learns_nothing, learns_then}
 use Rattle.cal_once.specs.Seats.{view}
-use Rattle.cal_results.proofs.Handing.{means_long, record_at, taken_more}
+use Rattle.cal_results.proofs.Handing.{hands_on, means_long, record_at, taken_more}
 use Rattle.cal_results.specs.Tracing.{MeanRecords}
 use Rattle.cal_value.specs.declared.record.Rec.{Rec}
 use Rattle.cal_results.proofs.tracing.take_trace.Goals as goal
@@ -34,14 +35,16 @@ place_snap-requires-clause-means g c =
     let none : Rec = record { paths = []; imms = [] } in
     let test = c.loop-place-test.true in
     let end = c.len-place-end.ensures in
-    let recs = c.requires.means.0 in
-    (
+    let recs = c.requires.means.0 in (
       get_or recs c.loop-place.place none,
       record_at c.args.script.now c.args.tree.now c.args.context.now c.loop-place.context
           inv.grows.attributes c.args.seat.now c.loop-place.seat inv.learns.more c.args.trace.now
           recs c.loop-place.place c.requires.means.1 (omega arith)
-          (record { nodes = c.snap-shown.result.nodes.now; entries =
-          c.snap-shown.result.entries.now }) c.snap-shown.ensures none,
+          (record {
+            nodes = c.snap-shown.result.nodes.now;
+            entries =
+                c.snap-shown.result.entries.now;
+          }) c.snap-shown.ensures none,
     )
 
 pub loop-place-preserved : goal.loop-place-preserved
@@ -70,13 +73,16 @@ loop-place-preserved g c =
           let rec : Rec = get_or recs i none in
           let one = record_at c.args.script.now c.args.tree.now c.args.context.now old
           inv.grows.attributes c.args.seat.now c.loop-place.seat inv.learns.more snaps recs i m less
-          (record { nodes = c.snap-shown.result.nodes.now; entries =
-          c.snap-shown.result.entries.now }) c.snap-shown.ensures none in
-          let is_rec = c.in_ok-place_snap.ensures.means rec one in
-          let next : TakesMore (has c.loop-place.taker old) (has c.take.new.self new) (rec ∷ []) =
-          λ rs had. subst (λ (r : Rec). has c.take.new.self new (rs ++ r ∷ [])) is_rec
-          (c.in_ok-take.ensures rs (g.met.T.Taker.stays c.loop-place.taker old new rs had
-          done.grows)) in
+          (record {
+            nodes = c.snap-shown.result.nodes.now;
+            entries =
+                c.snap-shown.result.entries.now;
+          }) c.snap-shown.ensures none in
+          let next = hands_on (has c.loop-place.taker old) (has c.loop-place.taker new)
+          (has c.take.new.self new) (meaning new c.place_snap.new.snapshot) rec
+          (c.in_ok-place_snap.ensures.means rec one)
+          (λ rs had. g.met.T.Taker.stays c.loop-place.taker old new rs had done.grows)
+          c.in_ok-take.ensures in
           taken_more (has c.args.taker.now c.args.context.now) (has c.loop-place.taker old)
           (has c.take.new.self new) recs i none (omega (arith, long, less)) (inv.taken recs m) next;
     }
