@@ -4,10 +4,10 @@ use Rattle.std.proofs.Common.{sym, ap, ◌∙◌, subst, arith}
 use Rattle.std.specs.List.{All, AllZip}
 use Rattle.std.proofs.lemmas.List.Elements.{All-cons, All-nil}
 use Rattle.cal_board.proofs.StandingLemmas.{AllZip-weaken}
-use Rattle.cal_board.specs.Contexts.{NodeStands, opened_entry}
+use Rattle.cal_board.specs.Contexts.{opened_entry}
 use Rattle.cal_board.specs.PathBoards.{AreKnown, entry_in}
 use Rattle.cal_board.specs.declared.opened.Opened.{Opened}
-use Rattle.cal_channel.specs.Channels.{IsPathShown}
+use Rattle.cal_channel.specs.Channels.{IsPathShown, IsTraced}
 use Rattle.cal_channel.specs.Shown.{immediate_shown, numbered_entry, value_shown}
 use Rattle.cal_channel.specs.Traces.{ShownSnap}
 use Rattle.cal_channel.specs.declared.shown.ShownEntry.{ShownEntry}
@@ -24,7 +24,7 @@ use Rattle.cal_nodes.specs.Numbers.{AreNumbered, CanNumber, number_in}
 use Rattle.cal_once.specs.Seats.{view}
 use Rattle.cal_once.specs.Views.{KnowsMore}
 use Rattle.cal_once.specs.declared.seat.RowSeat.{RowSeat}
-use Rattle.cal_results.specs.Tracing.{AreNumbersOf, MeansRecord}
+use Rattle.cal_results.specs.Tracing.{AreNumbersOf, MeanRecords, MeansRecord}
 use Rattle.cal_script.specs.declared.script.Script.{Script}
 use Rattle.cal_snap.specs.Numbered as numbered
 use Rattle.cal_tree.specs.Seats.{IsTreeSeat}
@@ -132,26 +132,45 @@ nodes_lie tree seat t numbers all (n ∷ ns) (m ∷ nodes) a =
 
 -- ---- a snapshot
 
+-- what a snapshot of a trace means it means still, while a seat learns
+traced_later : (attributes : List Attribute) (script : Script) (tree : Tree)
+    (was is : RowSeat NodeSort) → KnowsMore (view was) (view is) → (snap : ShownSnap) (rec : Rec)
+    → IsTraced attributes script tree was snap rec → IsTraced attributes script tree is snap rec
+traced_later attributes script tree was is learned snap rec h = record {
+  paths = AllZip-weaken (IsPathShown attributes script tree was)
+      (IsPathShown attributes script tree is)
+      (λ node path shows. record {
+        opened = shows.opened;
+        is_node = node_later tree was is learned node shows.opened shows.is_node;
+        known = shows.known;
+        entries = shows.entries;
+      }) snap.nodes rec.paths h.paths;
+  within = h.within;
+  imms = h.imms;
+}
+
+-- and while attributes of a context come behind others: so do all of a trace
+pub records_later : (script : Script) (tree : Tree) (old new : contexts.Tree)
+    → IsFront old.attributes new.attributes → (was is : RowSeat NodeSort)
+    → KnowsMore (view was) (view is) → (snaps : List ShownSnap) (recs : List Rec)
+    → MeanRecords old script tree was snaps recs → MeanRecords new script tree is snaps recs
+records_later script tree old new more was is learned snaps recs m = record {
+  attributes = m.attributes;
+  front = IsFront-trans m.attributes old.attributes new.attributes m.front more;
+  traced = AllZip-weaken (IsTraced m.attributes script tree was)
+      (IsTraced m.attributes script tree is)
+      (traced_later m.attributes script tree was is learned) snaps recs m.traced;
+}
+
 module _ (script : Script) (tree : Tree) (snap : ShownSnap) where
-  -- what a snapshot means it means still, while a seat learns and attributes come behind others
+  -- and so does one
   pub record_later : (old new : contexts.Tree) → IsFront old.attributes new.attributes
       → (was is : RowSeat NodeSort) → KnowsMore (view was) (view is) → (rec : Rec)
       → MeansRecord old script tree was snap rec → MeansRecord new script tree is snap rec
   record_later old new more was is learned rec m = record {
     attributes = m.attributes;
     front = IsFront-trans m.attributes old.attributes new.attributes m.front more;
-    traced = record {
-      paths = AllZip-weaken (IsPathShown m.attributes script tree was)
-          (IsPathShown m.attributes script tree is)
-          (λ node path h. record {
-            opened = h.opened;
-            is_node = node_later tree was is learned node h.opened h.is_node;
-            known = h.known;
-            entries = h.entries;
-          }) snap.nodes rec.paths m.traced.paths;
-      within = m.traced.within;
-      imms = m.traced.imms;
-    };
+    traced = traced_later m.attributes script tree was is learned snap rec m.traced;
   }
 
   module _ (t : contexts.Tree) (seat : RowSeat NodeSort) (numbers : List (Option NodeNumber))

@@ -6,7 +6,9 @@
 //! memory ran out.
 #![tactic(auto)]
 
+mod laws;
 mod placing;
 mod tracing;
 
+pub use laws::traces_mean_for_good;
 pub use tracing::take_trace;

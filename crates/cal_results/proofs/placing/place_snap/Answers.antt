@@ -1,4 +1,4 @@
-use Rattle.std.proofs.Common.{◌≡◌, ◌++◌, map, ap, ◌∙◌}
+use Rattle.std.proofs.Common.{◌++◌, map, ap, ◌∙◌}
 use Rattle.cal_channel.specs.Shown.{immediate_shown}
 use Rattle.cal_channel.specs.Traces.{ShownSnap}
 use Rattle.cal_context.proofs.ListLemmas.{IsFront-trans}

@@ -1,7 +1,6 @@
-use Rattle.std.proofs.Common.{◌≡◌, ◌<◌, ◌++◌, List, [], ◌∷◌, length, get_or, take, refl, sym, ◌∙◌}
+use Rattle.std.proofs.Common.{◌<◌, [], length, get_or, refl, sym, ◌∙◌}
 use Rattle.std.proofs.Common.{subst, append-nil, arith}
 use Rattle.std.proofs.lemmas.List.{take_all}
-use Rattle.cal_channel.specs.Traces.{ShownSnap}
 use Rattle.cal_context.proofs.CallerLemmas.{Grows-refl, Grows-trans}
 use Rattle.cal_context.proofs.ListLemmas.{IsFront-trans}
 use Rattle.cal_context.specs.Snapshots.{meaning}
@@ -9,7 +8,6 @@ use Rattle.cal_context.specs.Taking.{TakesMore}
 use Rattle.cal_once.proofs.Learning.{learns_nothing, learns_then}
 use Rattle.cal_once.specs.Seats.{view}
 use Rattle.cal_results.proofs.Handing.{hands_on, means_long, record_at, taken_more}
-use Rattle.cal_results.specs.Tracing.{MeanRecords}
 use Rattle.cal_value.specs.declared.record.Rec.{Rec}
 use Rattle.cal_results.proofs.tracing.take_trace.Goals as goal
 
