@@ -147,7 +147,7 @@ module _ (script : Script) (journal : Journal) where
       }
 
       holder-merged : (channel holder : ℕ)
-          → HasFlushed script journal channel (reply.Busy holder) ls note
+          → HasFlushed channel (reply.Busy holder) ls note
           → HasMerged script journal holder channel
       holder-merged channel holder has =
           let found = has-line script journal.ops thread 1 0 at_start (zip ls note.lines) has.0

@@ -18,6 +18,14 @@ pub record Begins (thread : ℕ) (h all : List Placed) : Type 0 where
   pub whole : all ≡ h ++ more
   pub others : OfOthers thread more
 
+-- a flush of the channel was answered so
+abbrev pub WasFlushed : (channel : ℕ) → replies.Reply → lines.Line × LineNote → Type 0
+WasFlushed channel answer l = (l.0 ≡ line.Flush channel) × (l.1.reply ≡ answer)
+
+-- among these lines with their notes there is one
+abbrev pub HasFlushed : (channel : ℕ) → replies.Reply → List lines.Line → ThreadNote → Type 0
+HasFlushed channel answer ls note = Any (WasFlushed channel answer) (zip ls note.lines)
+
 module _ (script : Script) (journal : Journal) where
   -- a thread of the run ran these lines and has this note
   pub record RanLines (thread : ℕ) (ls : List lines.Line) (note : ThreadNote) : Type 0 where
@@ -29,13 +37,6 @@ module _ (script : Script) (journal : Journal) where
     pub known : List Placed
     pub begins : Begins thread known journal.ops
     pub keeps : KeepsRules script journal.real known thread ls note
-
-  -- a flush of the channel was answered so
-  abbrev pub WasFlushed : (channel : ℕ) → replies.Reply → lines.Line × LineNote → Type 0
-  WasFlushed channel answer l = (l.0 ≡ line.Flush channel) × (l.1.reply ≡ answer)
-
-  abbrev pub HasFlushed : (channel : ℕ) → replies.Reply → List lines.Line → ThreadNote → Type 0
-  HasFlushed channel answer ls note = Any (WasFlushed channel answer) (zip ls note.lines)
 
   -- a thread of the run merged in a flush of the channel
   pub record HasMerged (thread channel : ℕ) : Type 0 where
