@@ -48,6 +48,14 @@ pub none-done : (script : Script) (w : Worker) → w.note.lines ≡ [] → lines
 none-done script w none =
     ap (λ (ns : List LineNote). take (length ns) (lines_of script w.thread.number)) none
 
+pub started-same : {P : Type 0} (old new : Channels P)
+    → new ≡ record old { channels = new.channels } → SameServices old new
+started-same old new same = record {
+  thread = λ i. (same i).thread;
+  numbers = λ i. (same i).numbers;
+  books = λ i. (same i).books;
+}
+
 module _ {P : Type 0} (shared : Shared) (old new : Runner P) (reading : ℕ) (law : StartLaw)
     (hired : IsHiredRunner shared old)
     (worker : IsWorker shared new.worker [])
