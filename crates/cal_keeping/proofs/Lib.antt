@@ -1,0 +1,2 @@
+mod FreshChannels
+mod KeptChannels

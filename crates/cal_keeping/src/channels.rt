@@ -78,9 +78,7 @@ impl<'a> Channels<'a> {
             ≡ map (λ (c : ChannelValue). started_at c reading) self.old.channels.items }
         ensures same { self.new ≡ record self.old { channels = self.new.channels } }
     {
-        for place in 0..self.channels.len() {
-            self.channels[place].start(reading);
-        }
+        start_all(self.channels.as_mut_slice(), reading);
     }
 }
 
@@ -112,6 +110,15 @@ fn new_channel(
         ThreadChannel::new(alloc, channel, Some(shape))
     } else {
         ThreadChannel::new(alloc, channel, None)
+    }
+}
+
+/// Keeps the start reading in each channel.
+fn start_all(channels: &mut [ThreadChannel], reading: u64)
+    ensures { channels.new ≡ map (λ (c : ChannelValue). started_at c reading) channels.old }
+{
+    for channel in channels.iter_mut() {
+        channel.start(reading);
     }
 }
 

@@ -8,7 +8,5 @@
 #![tactic(auto)]
 
 mod channels;
-mod runner;
 
 pub use channels::Channels;
-pub use runner::Runner;
