@@ -8,5 +8,7 @@
 #![tactic(auto)]
 
 mod channels;
+mod runner;
 
 pub use channels::Channels;
+pub use runner::Runner;
