@@ -152,7 +152,7 @@ flush-noted thread v w was is part _ own flushed = absurd flushed
 -- ---- all channels
 
 -- a line may be shown to them
-pub may-show : (script : Script) (kept : Channels) (thread : Thread) (left : ℕ)
+pub may-show : {P : Type 0} (script : Script) (kept : Channels P) (thread : Thread) (left : ℕ)
     → AreReady script kept thread.timed (left + 1) → MayShow script thread kept.channels.items
 may-show script kept thread left ready = record {
   many = ready.many;
@@ -218,7 +218,7 @@ module _ (books : List BookOf) (old : List ChannelValue) (seats : List SeatOf) (
           (subst (λ (x : BookOf). IsSeatOf x seat_is) same_book at) flushed before))
 
 -- A channel that a line flushes, among channels that are ready.
-module _ (script : Script) (kept : Channels) (timed : Bool) (left : ℕ)
+module _ {P : Type 0} (script : Script) (kept : Channels P) (timed : Bool) (left : ℕ)
     (ready : AreReady script kept timed left) (place : ℕ)
     (declared : IsFlushed script.channels place) where
   in-script : place < length script.channels

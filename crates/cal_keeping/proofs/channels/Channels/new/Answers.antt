@@ -5,7 +5,7 @@ use Rattle.cal_keeping.proofs.FreshChannels.{each-fresh, each-fresh-ready, lengt
 use Rattle.cal_keeping.proofs.channels.Channels.new.Goals as goal
 
 pub returns-clause-fresh : goal.returns-clause-fresh
-returns-clause-fresh c =
+returns-clause-fresh g c =
     let books = c.args.books.now in
     let long = sym (length-map books shape_of) ∙ ap length c.requires.books ∙ c.requires.many in
     each-fresh c.args.thread c.args.script.now.channels books c.args.shapes.now
@@ -13,7 +13,7 @@ returns-clause-fresh c =
     c.requires.seats long
 
 pub returns-clause-ready : goal.returns-clause-ready
-returns-clause-ready c timed left few timed_is =
+returns-clause-ready g c timed left few timed_is =
     let channels = c.args.script.now.channels in
     let books = c.args.books.now in
     record {
