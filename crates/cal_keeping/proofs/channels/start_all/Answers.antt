@@ -1,4 +1,4 @@
-use Rattle.std.proofs.Common.{◌≡◌, ◌∙◌, ◌++◌, [], ap, arith, drop, map, take}
+use Rattle.std.proofs.Common.{◌≡◌, ◌∙◌, ◌++◌, [], ap, arith, drop, map, slice_set, take}
 use Rattle.std.specs.Prelude.{List}
 use Rattle.std.proofs.lemmas.List.{append-nil, drop_all, take_all}
 use Rattle.std.proofs.lemmas.List.Edits.{map_over_more}
@@ -7,9 +7,13 @@ use Rattle.cal_keeping.proofs.channels.start_all.Goals as goal
 
 pub loop-channel-preserved : goal.loop-channel-preserved
 loop-channel-preserved c =
+    let now = c.loop-channel.channels in
+    let n = c.loop-channel.channel-index in
     let f : ChannelValue → ChannelValue =
     λ (x : ChannelValue). started_at x c.args.reading in
-    grind (arith, map_over_more f)
+    ap (λ (x : ChannelValue). slice_set now n x) c.start.ensures
+    ∙ map_over_more f c.args.channels.now now n c.channel-item.result (omega arith)
+    c.loop-channel.invariant c.channel-item.is
 
 pub returns : goal.returns
 returns c =

@@ -1,7 +1,8 @@
-use Rattle.std.proofs.Common.{◌≡◌, ◌∙◌, length, refl}
+use Rattle.std.proofs.Common.{◌≡◌, ◌∙◌, arith, length, refl}
 use Rattle.std.specs.Prelude.{Some, slice_get}
 use Rattle.std.proofs.lemmas.List.{length-set}
 use Rattle.std.proofs.lemmas.Option.{slice_get_read}
+use Rattle.cal_book.specs.Seats.{view}
 use Rattle.cal_keeping.proofs.KeptChannels.{each-flushed, flush-noted, in-books, in-channels}
 use Rattle.cal_keeping.proofs.KeptChannels.{in-seats, may-flush-at, own-at}
 use Rattle.cal_keeping.proofs.channels.ChannelsKeeper.flush.Goals as goal
@@ -12,11 +13,17 @@ bounds-books-place g c =
 
 pub index_mut-requires : goal.index_mut-requires
 index_mut-requires g c =
-    let r = c.requires.ready in in-seats r.0 c.args.self.now r.1 r.2 r.3 c.args.channel r.4
+    let r = c.requires.ready in
+    let less = in-seats r.0 c.args.self.now r.1 r.2 r.3 c.args.channel r.4 in
+    let long = c.args.self.now.seats.ok.0 in
+    omega (arith, less, long)
 
 pub index_mut-requires-2 : goal.index_mut-requires-2
 index_mut-requires-2 g c =
-    let r = c.requires.ready in in-channels r.0 c.args.self.now r.1 r.2 r.3 c.args.channel r.4
+    let r = c.requires.ready in
+    let less = in-channels r.0 c.args.self.now r.1 r.2 r.3 c.args.channel r.4 in
+    let long = c.args.self.now.channels.ok.0 in
+    omega (arith, less, long)
 
 pub flush-requires : goal.flush-requires
 flush-requires g c =
