@@ -1,12 +1,13 @@
 -- Channels stay ready while lines are shown to them and while they are flushed.
 use Rattle.std.proofs.Common.{◌≡◌, ◌≢◌, ◌⊎◌, ℕ, ◌+◌, ◌<◌, ◌≤◌, ◌^◌, List, [], ◌∷◌, ◌++◌, length}
 use Rattle.std.proofs.Common.{Bool, true, refl, sym, ap, ◌∙◌, subst, inl, inr, arith, get_or}
-use Rattle.std.proofs.Common.{slice_set}
+use Rattle.std.proofs.Common.{drop, slice_set, take}
 use Rattle.std.specs.List.{All, sum_by}
 use Rattle.std.specs.Prelude.{Option, Some, None, IfSome, is_some, option_map, slice_get}
-use Rattle.std.proofs.lemmas.List.{length-set}
+use Rattle.std.proofs.lemmas.List.{append-nil, drop_all, length-set, take_all}
 use Rattle.std.proofs.lemmas.List.Sums.{sum_by_push}
-use Rattle.std.proofs.lemmas.Option.{IfSome_then, same_Some, slice_get-get_or, slice_get_within}
+use Rattle.std.proofs.lemmas.Option.{same_Some, slice_get-get_or, slice_get_read}
+use Rattle.std.proofs.lemmas.Option.{slice_get_within}
 use Rattle.cal_book.proofs.Lists.{at_set}
 use Rattle.cal_book.specs.Seats.{IsSeatOf, shape_of, view}
 use Rattle.cal_channel.specs.Values.{ChannelValue, HasRoom, KeepsServices, unflushed_of}
@@ -122,7 +123,7 @@ flushed-ready thread left channel book was is old new part _ part_is at flushed 
     absurd flushed
 
 -- it may be flushed where it aggregates
-pub may-flush : (thread left : ℕ) (channel : Channel) (book : BookOf) (c : ChannelValue)
+may-flush : (thread left : ℕ) (channel : Channel) (book : BookOf) (c : ChannelValue)
     (seat : SeatOf) → channel.aggregate ≡ true → IsReady thread left channel book c seat
     → MayFlush book seat c
 may-flush thread left channel book c seat aggregates ready =
@@ -186,6 +187,21 @@ each-shown common numbers at shown thread left books old new seats told ready pl
     (told.each place channel was.0 c is_at was.1 had).services
     (ready place channel book was.0 seat is_at book_at was.1 seat_at)
 
+-- the same of channels that were lent whole and given back
+pub told-whole : (common : Common) (numbers : Numbers) (at : Thread) (shown : ShownLine)
+    (old lent new : List ChannelValue) (long : ℕ) → lent ≡ old → long ≡ length old
+    → AreShown common numbers at shown lent new
+    → AreShown common numbers at shown old (take long (new ++ drop (length new) old))
+told-whole common numbers at shown old lent new long all many told =
+    let told_old = subst (λ (was : List ChannelValue). AreShown common numbers at shown was new)
+    all told in
+    let same = told_old.many in
+    let whole : take long (new ++ drop (length new) old) ≡ new =
+    ap (λ (rest : List ChannelValue). take long (new ++ rest))
+    (drop_all (length new) old (omega (arith, same))) ∙ ap (take long) (append-nil new)
+    ∙ take_all long new (omega (arith, many, same)) in
+    subst (λ (is : List ChannelValue). AreShown common numbers at shown old is) (sym whole) told_old
+
 -- The channel and the seat at a place are flushed, and all are as ready as before.
 module _ (books : List BookOf) (old : List ChannelValue) (seats : List SeatOf) (place : ℕ)
     (book : BookOf) (was is : ChannelValue) (seat_was seat_is : SeatOf) (part : TableValue)
@@ -217,6 +233,15 @@ module _ (books : List BookOf) (old : List ChannelValue) (seats : List SeatOf) (
           (flushed-ready thread left channel b was is seat_was seat_is part answer part_is
           (subst (λ (x : BookOf). IsSeatOf x seat_is) same_book at) flushed before))
 
+-- What stands at the place of a flush that is asked for.
+pub record IsAsked {P : Type 0} (kept : Channels P) (place : ℕ) (book : BookOf) (c : ChannelValue)
+    (seat : SeatOf) : Type 0 where
+  pub book_at : slice_get kept.books.now place ≡ Some book
+  pub channel_at : slice_get kept.channels.items place ≡ Some c
+  pub seat_at : slice_get kept.seats.items place ≡ Some seat
+  pub may : MayFlush book seat c
+  pub own : (view seat).thread ≡ Some kept.thread
+
 -- A channel that a line flushes, among channels that are ready.
 module _ {P : Type 0} (script : Script) (kept : Channels P) (timed : Bool) (left : ℕ)
     (ready : AreReady script kept timed left) (place : ℕ)
@@ -233,16 +258,22 @@ module _ {P : Type 0} (script : Script) (kept : Channels P) (timed : Bool) (left
   pub in-seats : place < length kept.seats.items
   in-seats = let less = in-script in let many = ready.seats in omega (arith, less, many)
 
-  pub may-flush-at : (book : BookOf) (c : ChannelValue) (seat : SeatOf)
-      → slice_get kept.books.now place ≡ Some book → slice_get kept.channels.items place ≡ Some c
-      → slice_get kept.seats.items place ≡ Some seat → MayFlush book seat c
-  may-flush-at book c seat book_at c_at seat_at =
-      may-flush kept.thread left declared.flushed book c seat declared.aggregates
-      (ready.each place declared.flushed book c seat declared.declared book_at c_at seat_at)
-
-  -- the seat there is the thread's
-  pub own-at : (book : BookOf) (c : ChannelValue) (seat : SeatOf)
-      → slice_get kept.books.now place ≡ Some book → slice_get kept.channels.items place ≡ Some c
-      → slice_get kept.seats.items place ≡ Some seat → (view seat).thread ≡ Some kept.thread
-  own-at book c seat book_at c_at seat_at =
-      (ready.each place declared.flushed book c seat declared.declared book_at c_at seat_at).own
+  pub asked : (book : BookOf) (c : ChannelValue) (seat : SeatOf)
+      → book ≡ get_or kept.books.now place book → c ≡ get_or kept.channels.items place c
+      → seat ≡ get_or kept.seats.items place seat → IsAsked kept place book c seat
+  asked book c seat book_is c_is seat_is =
+      let books = kept.books.now in
+      let cs = kept.channels.items in
+      let seats = kept.seats.items in
+      let book_at = slice_get_read books (length books) place book refl in-books book_is in
+      let channel_at = slice_get_read cs (length cs) place c refl in-channels c_is in
+      let seat_at = slice_get_read seats (length seats) place seat refl in-seats seat_is in
+      let at = ready.each place declared.flushed book c seat declared.declared book_at channel_at
+      seat_at in
+      record {
+        book_at = book_at;
+        channel_at = channel_at;
+        seat_at = seat_at;
+        may = may-flush kept.thread left declared.flushed book c seat declared.aggregates at;
+        own = at.own;
+      }

@@ -34,6 +34,7 @@ pub struct Channels<'a, P> {
 impl<'a, P: Prober> Channels<'a, P> {
     /// What a thread keeps before its first line, with these seats, one for each channel. A channel
     /// that aggregates has a table of the shape at its place. It takes memory for copies of shapes.
+    /// An `Err` is want of it, and drops the seats.
     pub fn new(
         alloc: Global,
         script: &Script,
@@ -58,6 +59,7 @@ impl<'a, P: Prober> Channels<'a, P> {
         ensures thread { IfOk result (λ kept. kept.thread ≡ thread) }
         ensures numbers { IfOk result (λ kept. kept.numbers ≡ numbers.entry) }
         ensures books { IfOk result (λ kept. kept.books ≡ books.entry) }
+        ensures probes { IfOk result (λ kept. kept.probes ≡ probes.entry) }
         ensures seats { IfOk result (λ kept. kept.seats ≡ seats) }
     {
         let channels = new_channels(alloc, script.channels.as_slice(), shapes)?;
@@ -121,6 +123,7 @@ fn start_all(channels: &mut [ThreadChannel], reading: u64)
     }
 }
 
+/// A line is shown to each channel, and a flush takes a turn at the book of the channel's place.
 impl<'a, P: Prober> Keeper for Channels<'a, P> {
     ghost use Rattle.cal_keeping.specs.Kept.{AreReady, AreToldOf, IsFlushedAt};
 

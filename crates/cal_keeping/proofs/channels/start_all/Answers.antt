@@ -1,4 +1,4 @@
-use Rattle.std.proofs.Common.{◌≡◌, ◌∙◌, ◌++◌, [], ap, arith, drop, map, slice_set, take}
+use Rattle.std.proofs.Common.{◌≡◌, ◌∙◌, ◌++◌, [], ap, arith, drop, map, slice_set, sym, take}
 use Rattle.std.specs.Prelude.{List}
 use Rattle.std.proofs.lemmas.List.{append-nil, drop_all, take_all}
 use Rattle.std.proofs.lemmas.List.Edits.{map_over_more}
@@ -12,6 +12,7 @@ loop-channel-preserved c =
     let f : ChannelValue → ChannelValue =
     λ (x : ChannelValue). started_at x c.args.reading in
     ap (λ (x : ChannelValue). slice_set now n x) c.start.ensures
+    ∙ ap (λ (x : ChannelValue). slice_set now n (f x)) (sym c.channel-item.is)
     ∙ map_over_more f c.args.channels.now now n c.channel-item.result (omega arith)
     c.loop-channel.invariant c.channel-item.is
 
