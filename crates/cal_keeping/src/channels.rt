@@ -34,6 +34,7 @@ pub struct Channels<'a, P> {
 impl<'a, P: Prober> Channels<'a, P> {
     /// What a thread keeps before its first line, with these seats, one for each channel. A channel
     /// that aggregates has a table of the shape at its place. It takes memory for copies of shapes.
+    /// An `Err` is want of it, and drops the seats.
     pub fn new(
         alloc: Global,
         script: &Script,
@@ -58,6 +59,7 @@ impl<'a, P: Prober> Channels<'a, P> {
         ensures thread { IfOk result (λ kept. kept.thread ≡ thread) }
         ensures numbers { IfOk result (λ kept. kept.numbers ≡ numbers.entry) }
         ensures books { IfOk result (λ kept. kept.books ≡ books.entry) }
+        ensures probes { IfOk result (λ kept. kept.probes ≡ probes.entry) }
         ensures seats { IfOk result (λ kept. kept.seats ≡ seats) }
     {
         let channels = new_channels(alloc, script.channels.as_slice(), shapes)?;
@@ -77,9 +79,7 @@ impl<'a, P: Prober> Channels<'a, P> {
             ≡ map (λ (c : ChannelValue). started_at c reading) self.old.channels.items }
         ensures same { self.new ≡ record self.old { channels = self.new.channels } }
     {
-        for place in 0..self.channels.len() {
-            self.channels[place].start(reading);
-        }
+        start_all(self.channels.as_mut_slice(), reading);
     }
 }
 
@@ -114,6 +114,16 @@ fn new_channel(
     }
 }
 
+/// Keeps the start reading in each channel.
+fn start_all(channels: &mut [ThreadChannel], reading: u64)
+    ensures { channels.new ≡ map (λ (c : ChannelValue). started_at c reading) channels.old }
+{
+    for channel in channels.iter_mut() {
+        channel.start(reading);
+    }
+}
+
+/// A line is shown to each channel, and a flush takes a turn at the book of the channel's place.
 impl<'a, P: Prober> Keeper for Channels<'a, P> {
     ghost use Rattle.cal_keeping.specs.Kept.{AreReady, AreToldOf, IsFlushedAt};
 
