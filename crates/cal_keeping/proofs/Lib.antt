@@ -1,0 +1,7 @@
+mod FreshChannels
+mod KeptChannels
+pub mod FlushedLines
+pub mod KeptLines
+pub mod KeptPlaces
+pub mod SteppedRunners
+pub mod StartedRunners

@@ -1,0 +1,169 @@
+//! What a thread keeps for the channels of its script.
+ghost use Rattle.std.specs.Prelude.{◌≡◌, ℕ, ◌≤◌, ◌^◌, Bool, true, All, IfOk, OnOk, Some};
+ghost use Rattle.std.specs.Prelude.{length, map, slice_get};
+ghost use Rattle.cal_book.specs.Seats.{shape_of};
+ghost use Rattle.cal_channel.specs.Values.{ChannelValue, started_at};
+ghost use Rattle.cal_keeping.specs.Kept.{AreFresh, AreReady, IsNewSeat, new_for, new_of};
+ghost use Rattle.cal_replay.specs.Flushing.{BookOf, SeatOf};
+ghost use Rattle.cal_run.specs.Numbers.{AreNamedInSome};
+ghost use Rattle.cal_script.specs.declared.script.Channel as channels_of;
+
+use cal_channel::ThreadChannel;
+use cal_process::Common;
+use cal_replay::{Keeper, ShownLine, flush, show};
+use cal_run::{Numbers, Prober};
+use cal_script::{Channel, Reply, Script};
+use cal_table::{Book, BookSeat, TableShape};
+use cal_thread::Thread;
+use cal_value::OutOfMemory;
+use std::alloc::Global;
+
+/// What a thread keeps for the channels of its script, one for each in their order: what the
+/// channel has taken, and the thread's seat at its book. The numbers of attributes, the books and
+/// the probes are those of all threads.
+#[derive(Drop)]
+pub struct Channels<'a, P> {
+    pub thread: u32,
+    pub numbers: &'a Numbers,
+    pub books: &'a [Book],
+    pub probes: &'a P,
+    pub channels: Vec<ThreadChannel>,
+    pub seats: Vec<BookSeat>,
+}
+
+impl<'a, P: Prober> Channels<'a, P> {
+    /// What a thread keeps before its first line, with these seats, one for each channel. A channel
+    /// that aggregates has a table of the shape at its place. It takes memory for copies of shapes.
+    /// An `Err` is want of it, and drops the seats.
+    pub fn new(
+        alloc: Global,
+        script: &Script,
+        thread: u32,
+        numbers: &'a Numbers,
+        books: &'a [Book],
+        shapes: &[TableShape],
+        probes: &'a P,
+        seats: Vec<BookSeat>,
+    ) -> Result<Channels<'a, P>, OutOfMemory>
+        requires named { AreNamedInSome script.now numbers.now }
+        requires books { map shape_of books.now ≡ shapes.now }
+        requires many { length shapes.now ≡ length script.now.channels }
+        requires seat_each { length seats.items ≡ length script.now.channels }
+        requires seats { (place : ℕ) (book : BookOf) (seat : SeatOf)
+            → slice_get books.now place ≡ Some book → slice_get seats.items place ≡ Some seat
+            → IsNewSeat thread book seat }
+        ensures fresh { IfOk result (λ kept. AreFresh script.now kept) }
+        ensures ready { IfOk result (λ kept. (timed : Bool) (left : ℕ) → left ≤ 2 ^ 20
+            → All (λ (channel : channels_of.Channel). channel.timer ≡ true → timed ≡ true)
+            script.now.channels → AreReady script.now kept timed left) }
+        ensures thread { IfOk result (λ kept. kept.thread ≡ thread) }
+        ensures numbers { IfOk result (λ kept. kept.numbers ≡ numbers.entry) }
+        ensures books { IfOk result (λ kept. kept.books ≡ books.entry) }
+        ensures probes { IfOk result (λ kept. kept.probes ≡ probes.entry) }
+        ensures seats { IfOk result (λ kept. kept.seats ≡ seats) }
+    {
+        let channels = new_channels(alloc, script.channels.as_slice(), shapes)?;
+        Ok(Channels {
+            thread,
+            numbers,
+            books,
+            probes,
+            channels,
+            seats,
+        })
+    }
+
+    /// Keeps the thread's start reading in each channel, which is the first one before.
+    pub fn start(&mut self, reading: u64)
+        ensures started { self.new.channels.items
+            ≡ map (λ (c : ChannelValue). started_at c reading) self.old.channels.items }
+        ensures same { self.new ≡ record self.old { channels = self.new.channels } }
+    {
+        start_all(self.channels.as_mut_slice(), reading);
+    }
+}
+
+/// A channel of a thread for each of the script's.
+fn new_channels(
+    alloc: Global,
+    channels: &[Channel],
+    shapes: &[TableShape],
+) -> Result<Vec<ThreadChannel>, OutOfMemory>
+    requires { length shapes.now ≡ length channels.now }
+    ensures { IfOk result (λ made. made.items ≡ new_for channels.now shapes.now) }
+{
+    let mut made = Vec::with_capacity(alloc, channels.len())?;
+    for place in 0..channels.len() {
+        made.push(new_channel(alloc, &channels[place], &shapes[place])?)?;
+    }
+    Ok(made)
+}
+
+/// A channel of a thread that has taken nothing, with a table of the shape where it aggregates.
+fn new_channel(
+    alloc: Global,
+    channel: &Channel,
+    shape: &TableShape,
+) -> Result<ThreadChannel, OutOfMemory>
+    ensures { IfOk result (λ made. made ≡ new_of channel.now shape.now) }
+{
+    if channel.aggregate {
+        ThreadChannel::new(alloc, channel, Some(shape))
+    } else {
+        ThreadChannel::new(alloc, channel, None)
+    }
+}
+
+/// Keeps the start reading in each channel.
+fn start_all(channels: &mut [ThreadChannel], reading: u64)
+    ensures { channels.new ≡ map (λ (c : ChannelValue). started_at c reading) channels.old }
+{
+    for channel in channels.iter_mut() {
+        channel.start(reading);
+    }
+}
+
+/// A line is shown to each channel, and a flush takes a turn at the book of the channel's place.
+impl<'a, P: Prober> Keeper for Channels<'a, P> {
+    ghost use Rattle.cal_keeping.specs.Kept.{AreReady, AreToldOf, IsFlushedAt};
+
+    ghost thread = { λ kept. kept.thread };
+
+    ghost ready = { AreReady };
+
+    ghost shown = { AreToldOf };
+
+    ghost flushed = { IsFlushedAt };
+
+    fn show(
+        &mut self,
+        alloc: Global,
+        common: &Common<'_>,
+        runner: &mut Thread,
+        line: ShownLine,
+    ) -> Result<(), OutOfMemory> {
+        let numbers = self.numbers;
+        let probes = self.probes;
+        show(
+            alloc,
+            common,
+            numbers,
+            runner,
+            line,
+            self.channels.as_mut_slice(),
+            probes,
+        )?;
+        Ok(())
+    }
+
+    fn flush(&mut self, channel: u32) -> Result<Reply, OutOfMemory> {
+        let place = channel as usize;
+        let books = self.books;
+        let reply = flush(
+            &books[place],
+            &mut self.seats[place],
+            &mut self.channels[place],
+        )?;
+        Ok(reply)
+    }
+}
