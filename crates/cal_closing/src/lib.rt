@@ -7,7 +7,9 @@
 #![tactic(auto)]
 
 mod book;
+mod channel;
 mod rest;
 
 pub use book::close_book;
+pub use channel::close_channel;
 pub use rest::merge_rest;

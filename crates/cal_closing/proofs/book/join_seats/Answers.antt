@@ -1,4 +1,4 @@
-use Rattle.std.proofs.Common.{◌∙◌, [], sym, ap, append-nil, length}
+use Rattle.std.proofs.Common.{◌∙◌, [], sym, ap, append-nil, arith, drop, length}
 use Rattle.std.proofs.Math.Seq.{drop-length}
 use Rattle.cal_book.specs.Seats.{view}
 use Rattle.cal_closing.proofs.Joins.{last-seat, told-all, told-more}
@@ -12,7 +12,8 @@ loop-seat-init c = record {
     gone = [];
     whole = sym (append-nil c.args.seats.items);
     long = c.requires.all;
-    told = ?;
+    told = ap (λ n. drop n (view c.args.first.now).others) (sym c.requires.all)
+        ∙ drop-length (view c.args.first.now).others;
   };
 }
 
@@ -34,5 +35,8 @@ loop-seat-preserved c = record {
 }
 
 pub returns-clause-told : goal.returns-clause-told
-returns-clause-told c = told-all c.args.seats.items c.loop-seat.seats.items
-    (view c.loop-seat.first) c.in_default.ensures.cases.0 c.loop-seat.invariant.told
+returns-clause-told c =
+    let gone = c.in_default.ensures.cases.0 in
+    let items = c.loop-seat.seats.ok in
+    told-all c.args.seats.items c.loop-seat.seats.items (view c.loop-seat.first)
+    (omega (arith, gone, items)) c.loop-seat.invariant.told
