@@ -8,8 +8,10 @@
 
 mod book;
 mod channel;
+mod laws;
 mod rest;
 
 pub use book::close_book;
 pub use channel::close_channel;
+pub use laws::{closed_channel_law, thread_share_law};
 pub use rest::merge_rest;
