@@ -11,7 +11,7 @@ use Rattle.std.proofs.lemmas.Result.{IfOk-weaker}
 use Rattle.cal_agg.specs.declared.row.AggRow.{AggRow}
 use Rattle.cal_closing.specs.Parts.{AreOfShape, all_of}
 use Rattle.cal_table.specs.Rows.{Row, both_held, tally}
-use Rattle.cal_table.specs.TableLaws.{both_held-assoc, both_held-comm, tally-append}
+use Rattle.cal_table.specs.TableLaws.{tally-append}
 use Rattle.cal_table.specs.Tables.{Same, TableValue, merged_tables}
 use Rattle.cal_table.specs.declared.key.TableKey.{TableKey}
 use Rattle.cal_table.specs.declared.shape.TableShape.{TableShape}

@@ -1,7 +1,7 @@
-use Rattle.std.proofs.Common.{◌∙◌, Some, IsSome, List, All, sym, ap, subst, map, refl}
+use Rattle.std.proofs.Common.{◌∙◌, IsSome, All, sym, ap, subst}
 use Rattle.cal_book.proofs.Joined.{all_joined-all, joined_accounts-all}
 use Rattle.cal_book.specs.Closing.{AllMetHadTurns}
-use Rattle.cal_book.specs.Seats.{shape_of, view}
+use Rattle.cal_book.specs.Seats.{shape_of}
 use Rattle.cal_book.specs.Views.{joined_accounts}
 use Rattle.cal_closing.proofs.Given.{given-all, given_tables}
 use Rattle.cal_closing.specs.Seats.{accounts_of}

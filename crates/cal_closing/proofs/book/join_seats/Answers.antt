@@ -1,4 +1,4 @@
-use Rattle.std.proofs.Common.{◌∙◌, [], sym, ap, append-nil, arith, drop, length}
+use Rattle.std.proofs.Common.{◌∙◌, [], sym, ap, append-nil, arith, drop}
 use Rattle.std.proofs.Math.Seq.{drop-length}
 use Rattle.cal_book.specs.Seats.{view}
 use Rattle.cal_closing.proofs.Joins.{last-seat, told-all, told-more}
