@@ -39,8 +39,8 @@ module _ {T Q : Type 0} where
       → popped ≡ left ++ seat ∷ [] → IsThreadSeat cell (length left) seat
   last-seat cell all popped left seat v seats h pop = seats (length left) seat
       (ap (λ (xs : List (FlushSeat T Q)). slice_get xs (length left))
-          (h.whole ∙ ap (λ (xs : List (FlushSeat T Q)). xs ++ h.gone) pop
-          ∙ append_assoc left (seat ∷ []) h.gone)
+      (h.whole ∙ ap (λ (xs : List (FlushSeat T Q)). xs ++ h.gone) pop
+      ∙ append_assoc left (seat ∷ []) h.gone)
       ∙ slice_get-seam left seat h.gone)
 
   -- it is joined

@@ -22,13 +22,13 @@ module _ (attributes : List Attribute) (script : Script) (tree : Tree)
   -- one behind another, and the table that it has left for the rest. All are of one shape.
   pub record IsShare (given : List TableValue) (left : TableValue) (taken : List Rec) : Type 0
     where
-    pub flushed : List (List Rec)
-    pub unflushed : List Rec
-    pub whole : joined flushed ++ unflushed ≡ taken
-    pub parts : AllZip (Counts attributes script tree seat) given flushed
-    pub rest : Counts attributes script tree seat left unflushed
-    pub made : AreOfShape shape given
-    pub left_made : left.shape ≡ shape
+      pub flushed : List (List Rec)
+      pub unflushed : List Rec
+      pub whole : joined flushed ++ unflushed ≡ taken
+      pub parts : AllZip (Counts attributes script tree seat) given flushed
+      pub rest : Counts attributes script tree seat left unflushed
+      pub made : AreOfShape shape given
+      pub left_made : left.shape ≡ shape
 
   -- of each thread of a run what it has done at the book, its table, and what it has taken
   pub record AreShares (accounts : List (Account TableValue)) (lefts : List TableValue)

@@ -8,8 +8,8 @@ ghost use Rattle.cal_table.specs.Tables.{Same};
 
 use cal_table::{Book, BookSeat, Table};
 
-/// Joins the seats that all threads had at a book, in the order of their numbers, and closes it: the
-/// table of all parts that the threads have given. It merges nothing, and takes no memory.
+/// Joins the seats that all threads had at a book, in the order of their numbers, and closes it:
+/// the table of all parts that the threads have given. It merges nothing, and takes no memory.
 pub fn close_book(book: Book, mut first: BookSeat, seats: Vec<BookSeat>) -> Table
     requires seat { IsSeatOf book first }
     requires first { (view first).thread ≡ None }

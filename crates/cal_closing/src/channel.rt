@@ -11,9 +11,9 @@ use cal_table::{Book, BookSeat, Table};
 use cal_value::OutOfMemory;
 
 /// The table of all that the threads of a run have taken in a channel: of all parts that they gave
-/// to its book, by their seats in the order of their numbers, and of the tables that they have left.
-/// An `Err` is want of memory, and leaves nothing. It takes the time and memory of merging what was
-/// left.
+/// to its book, by their seats in the order of their numbers, and of the tables that they have
+/// left. An `Err` is want of memory, and leaves nothing. It takes the time and memory of merging
+/// what was left.
 pub fn close_channel(
     book: Book,
     first: BookSeat,

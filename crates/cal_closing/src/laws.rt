@@ -30,8 +30,8 @@ pub fn thread_share_law()
         → IsShare attributes common.script.now common.tree seat shape given left taken }
 {}
 
-/// The table that `close_channel` gives stands for the records that all threads have taken: those of
-/// the first one, then those of the second one, and so on.
+/// The table that `close_channel` gives stands for the records that all threads have taken: those
+/// of the first one, then those of the second one, and so on.
 pub fn closed_channel_law()
     ensures { (attributes : List Attribute) (script : Script) (tree : Tree)
         (seat : RowSeat NodeSort) (shape : AShape) (accounts : List (AnAccount TableValue))

@@ -21,8 +21,8 @@ pub join-requires-clause-seats : goal.join-requires-clause-seats
 join-requires-clause-seats c = (
   c.loop-seat.invariant.seat,
   (last-seat c.args.book.now c.args.seats.items c.loop-seat.seats.items c.pop.new.self.items
-  c.in-Some.seat (view c.loop-seat.first) c.requires.seats c.loop-seat.invariant.told
-  c.in-Some.ensures.items).seat_is,
+      c.in-Some.seat (view c.loop-seat.first) c.requires.seats c.loop-seat.invariant.told
+      c.in-Some.ensures.items).seat_is,
 )
 
 pub loop-seat-preserved : goal.loop-seat-preserved

@@ -1,4 +1,5 @@
-use Rattle.std.proofs.Common.{◌≡◌, List, ◌∷◌, [], ◌++◌, length, sym, ap, ◌∙◌, append_assoc, append-nil, arith, rules, subst}
+use Rattle.std.proofs.Common.{◌≡◌, List, ◌∷◌, [], ◌++◌, length, sym, ap, ◌∙◌}
+use Rattle.std.proofs.Common.{append_assoc, append-nil, arith, rules, subst}
 use Rattle.std.specs.Vec.Iter.{into_iter_items}
 use Rattle.std.proofs.lemmas.List.{nil_from_length}
 use Rattle.cal_closing.proofs.Rests.{merged-next, merged-none, part-fits, part-made}
@@ -56,6 +57,6 @@ returns c =
     let left : List TableValue = into_iter_items at.part-iterator in
     let empty : left ≡ [] = nil_from_length left (sym at.invariant.left ∙ none.0) in
     let all : at.yielded ≡ c.args.rest.items = sym (append-nil at.yielded)
-        ∙ ap (λ (xs : List TableValue). at.yielded ++ xs) (sym empty) ∙ at.invariant.whole in
+    ∙ ap (λ (xs : List TableValue). at.yielded ++ xs) (sym empty) ∙ at.invariant.whole in
     subst (λ (parts : List TableValue). Same at.table
     (merged_tables c.args.table (all_of c.args.table.shape parts))) all at.invariant.merged
