@@ -1,0 +1,5 @@
+pub mod Joins
+pub mod Given
+pub mod Rests
+pub mod Exchanges
+pub mod Counting

@@ -1,0 +1,17 @@
+-- What tables of one shape come to.
+use Rattle.std.specs.Prelude.{◌≡◌, List, All, flat_map, sum_by}
+use Rattle.cal_table.specs.Tables.{TableValue}
+use Rattle.cal_table.specs.declared.shape.TableShape.{TableShape}
+
+-- the tables are of one shape
+abbrev pub AreOfShape : TableShape → List TableValue → Type 0
+AreOfShape shape tables = All (λ (table : TableValue). table.shape ≡ shape) tables
+
+-- The table of a shape that stands for all that these tables stand for: it has their rows, one list
+-- behind another.
+abbrev pub all_of : TableShape → List TableValue → TableValue
+all_of shape tables = record {
+  shape = shape;
+  rows = flat_map (λ (table : TableValue). table.rows) tables;
+  snapshots = sum_by (λ (table : TableValue). table.snapshots) tables;
+}
