@@ -55,7 +55,7 @@ pub record IsFresh (channel : Channel) (c : ChannelValue) (seat : SeatOf) : Type
   pub made : c ≡ new_channel channel.trace shape
   pub nothing : (view seat).account ≡ blank
 
-abbrev pub AreFresh : Script → Channels → Type 0
+abbrev pub AreFresh : {P : Type 0} → Script → Channels P → Type 0
 AreFresh script kept = (place : ℕ) (channel : Channel) (c : ChannelValue) (seat : SeatOf)
     → slice_get script.channels place ≡ Some channel
     → slice_get kept.channels.items place ≡ Some c
@@ -64,7 +64,8 @@ AreFresh script kept = (place : ℕ) (channel : Channel) (c : ChannelValue) (sea
 
 -- And so may each of a thread's channels, of which there is one for each of the script's; where one
 -- of these has the timer, readings are kept.
-pub record AreReady (script : Script) (kept : Channels) (timed : Bool) (left : ℕ) : Type 0 where
+pub record AreReady {P : Type 0} (script : Script) (kept : Channels P) (timed : Bool) (left : ℕ)
+    : Type 0 where
   pub named : AreNamedInSome script kept.numbers.now
   pub many : length kept.channels.items ≡ length script.channels
   pub seats : length kept.seats.items ≡ length script.channels
@@ -78,13 +79,14 @@ pub record AreReady (script : Script) (kept : Channels) (timed : Bool) (left : �
       → IsReady kept.thread left channel book c seat
 
 -- Each channel was shown a line, and nothing else is changed.
-pub record AreToldOf (common : Common) (old new : Channels) (thread : Thread) (shown : ShownLine)
-    : Type 0 where
-  pub shown : AreShown common old.numbers.now thread shown old.channels.items new.channels.items
+pub record AreToldOf {P : Type 0} (common : Common) (old new : Channels P) (thread : Thread)
+    (told : ShownLine) : Type 0 where
+  pub shown : AreShown common old.numbers.now thread told old.channels.items new.channels.items
   pub same : new ≡ record old { channels = new.channels }
 
 -- A flush of the channel at a place was replied to so, and nothing else is changed.
-pub record IsFlushedAt (old new : Channels) (place : ℕ) (reply : replies.Reply) : Type 0 where
+pub record IsFlushedAt {P : Type 0} (old new : Channels P) (place : ℕ) (reply : replies.Reply)
+    : Type 0 where
   pub was : ChannelValue
   pub is : ChannelValue
   pub seat_was : SeatOf

@@ -9,10 +9,9 @@ ghost use Rattle.cal_run.specs.Numbers.{AreNamedInSome};
 ghost use Rattle.cal_script.specs.declared.script.Channel as channels_of;
 
 use cal_channel::ThreadChannel;
-use cal_probe::Probes;
 use cal_process::Common;
 use cal_replay::{Keeper, ShownLine, flush, show};
-use cal_run::Numbers;
+use cal_run::{Numbers, Prober};
 use cal_script::{Channel, Reply, Script};
 use cal_table::{Book, BookSeat, TableShape};
 use cal_thread::Thread;
@@ -23,16 +22,16 @@ use std::alloc::Global;
 /// has taken, and the thread's seat at its book. The numbers of attributes, the books and the probes
 /// are those of all threads.
 #[derive(Drop)]
-pub struct Channels<'a> {
+pub struct Channels<'a, P> {
     pub thread: u32,
     pub numbers: &'a Numbers,
     pub books: &'a [Book],
-    pub probes: &'a Probes,
+    pub probes: &'a P,
     pub channels: Vec<ThreadChannel>,
     pub seats: Vec<BookSeat>,
 }
 
-impl<'a> Channels<'a> {
+impl<'a, P: Prober> Channels<'a, P> {
     /// What a thread keeps before its first line, with these seats, one for each channel. A channel
     /// that aggregates has a table of the shape at its place. It takes memory for copies of shapes.
     pub fn new(
@@ -42,9 +41,9 @@ impl<'a> Channels<'a> {
         numbers: &'a Numbers,
         books: &'a [Book],
         shapes: &[TableShape],
-        probes: &'a Probes,
+        probes: &'a P,
         seats: Vec<BookSeat>,
-    ) -> Result<Channels<'a>, OutOfMemory>
+    ) -> Result<Channels<'a, P>, OutOfMemory>
         requires named { AreNamedInSome script.now numbers.now }
         requires books { map shape_of books.now ≡ shapes.now }
         requires many { length shapes.now ≡ length script.now.channels }
@@ -115,7 +114,7 @@ fn new_channel(
     }
 }
 
-impl<'a> Keeper for Channels<'a> {
+impl<'a, P: Prober> Keeper for Channels<'a, P> {
     ghost use Rattle.cal_keeping.specs.Kept.{AreReady, AreToldOf, IsFlushedAt};
 
     ghost thread = { λ kept. kept.thread };

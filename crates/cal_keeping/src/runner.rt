@@ -1,5 +1,5 @@
 //! A worker with its channels.
-ghost use Rattle.std.specs.Prelude.{◌≡◌, ◌<◌, [], List, IfOk, OnOk, length, nat_lt};
+ghost use Rattle.std.specs.Prelude.{◌≡◌, ◌<◌, ◌++◌, [], List, IfOk, OnOk, length, nat_lt};
 ghost use Rattle.cal_keeping.specs.Runners.{IsHiredRunner, IsRunner, IsSomeRunner, RanAll, StepsOn};
 ghost use Rattle.cal_keeping.specs.Runners.{SameServices};
 ghost use Rattle.cal_replay.specs.Readings.{Asked, off_clock};
@@ -9,18 +9,19 @@ ghost use Rattle.cal_words.specs.declared.op.OpRec as words;
 
 use crate::Channels;
 use cal_base::{Clock, Gate};
-use cal_replay::{Shared, Worker};
+use cal_replay::{Shared, Worker, shown_at_start_law, shown_lines_law, told_step_law};
+use cal_run::Prober;
 use cal_value::OutOfMemory;
 use std::alloc::Global;
 
 /// A running thread: the worker of its lines, and what it keeps for its channels.
 #[derive(Drop)]
-pub struct Runner<'a> {
+pub struct Runner<'a, P> {
     pub worker: Worker,
-    pub channels: Channels<'a>,
+    pub channels: Channels<'a, P>,
 }
 
-impl<'a> Runner<'a> {
+impl<'a, P: Prober> Runner<'a, P> {
     /// Takes the start reading, where some channel has the timer, as `Worker::start` does, and
     /// keeps it in each channel. It is called once, before the first `step`.
     pub fn start<K: Clock>(&mut self, shared: &Shared<'_>, clock: &mut K)
@@ -33,6 +34,7 @@ impl<'a> Runner<'a> {
         ensures asked { Asked K.given clock.old clock.new
             (off_clock shared.now.real self.new.worker.note.start) }
     {
+        shown_at_start_law();
         self.worker.start(shared, clock);
         let reading = self.worker.note.start.unwrap_or(0);
         self.channels.start(reading);
@@ -58,6 +60,8 @@ impl<'a> Runner<'a> {
         ensures more { IfOk result (λ more. more ≡ nat_lt (length self.new.worker.note.lines)
             (length (lines_of (script_of shared.now) self.old.worker.thread.number))) }
     {
+        told_step_law();
+        shown_lines_law();
         let more = self
             .worker
             .step(alloc, shared, clock, gate, &mut self.channels)?;
