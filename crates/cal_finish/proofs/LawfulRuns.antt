@@ -3,9 +3,10 @@ use Rattle.std.proofs.Common.{◌≡◌, ◌≢◌, ℕ, zero, suc, ◌+◌, ◌
 use Rattle.std.proofs.Common.{◌⊎◌, inl, inr, refl, sym, ap, ◌∙◌, subst, arith}
 use Rattle.std.specs.Prelude.{Any, Option, Some, None, IsSomeAnd, option_map, slice_get, zip}
 use Rattle.std.specs.List.{All, AllZip, Contains}
+use Rattle.std.proofs.lemmas.List.{length-map}
 use Rattle.std.proofs.lemmas.List.Elements.{All-contains, Contains-get_or}
 use Rattle.std.proofs.lemmas.Option.{get_or_from_slice_get, slice_get-get_or, slice_get-map}
-use Rattle.std.proofs.lemmas.Option.{slice_get_within}
+use Rattle.std.proofs.lemmas.Option.{same_Some, slice_get_within}
 use Rattle.std.proofs.lemmas.Slice.Zip.{AllZip-left, AllZip-right}
 use Rattle.cal_book.specs.Accounts.{HadTurn, ThreadHadTurn}
 use Rattle.cal_book.specs.Closing.{AllMetHadTurns}
@@ -59,39 +60,37 @@ module _ {A : Type 0} where
 -- what stands at a place of a list that was mapped
 mapped-at : {A B : Type 0} (f : A → B) (xs : List A) (k : ℕ) (y : B) → slice_get (map f xs) k ≡ Some y
     → (x : A) × (slice_get xs k ≡ Some x) × (y ≡ f x)
-mapped-at f xs k y is = of (slice_get xs k) refl (sym (slice_get-map f xs k) ∙ is)
-  where
-    of : (o : Option _) → slice_get xs k ≡ o → option_map f o ≡ Some y
-        → (x : _) × (slice_get xs k ≡ Some x) × (y ≡ f x)
-    of (Some x) at refl = (x, at, refl)
+mapped-at f [] k y is = absurd cc
+mapped-at f (x ∷ xs) zero y is = (x, refl, sym (same_Some (f x) y is))
+mapped-at f (x ∷ xs) (suc k) y is = mapped-at f xs k y is
 
 -- what stands at places of two lists that go together
 zipped-left : {A B : Type 0} (Q : A → B → Type 0) (xs : List A) (ys : List B) → AllZip Q xs ys
     → (k : ℕ) (x : A) → slice_get xs k ≡ Some x → (y : B) × (slice_get ys k ≡ Some y) × Q x y
-zipped-left Q (x ∷ xs) (y ∷ ys) all zero x refl = (y, refl, all.0)
+zipped-left Q [] ys all k z at = absurd cc
+zipped-left Q (x ∷ xs) [] all k z at = absurd all
+zipped-left Q (x ∷ xs) (y ∷ ys) all zero z at = (y, refl, subst (λ w. Q w y) (same_Some x z at) all.0)
 zipped-left Q (x ∷ xs) (y ∷ ys) all (suc k) z at = zipped-left Q xs ys all.1 k z at
 
 zipped-right : {A B : Type 0} (Q : A → B → Type 0) (xs : List A) (ys : List B) → AllZip Q xs ys
     → (k : ℕ) (y : B) → slice_get ys k ≡ Some y → (x : A) × (slice_get xs k ≡ Some x) × Q x y
-zipped-right Q (x ∷ xs) (y ∷ ys) all zero y refl = (x, refl, all.0)
+zipped-right Q xs [] all k z at = absurd cc
+zipped-right Q [] (y ∷ ys) all k z at = absurd all
+zipped-right Q (x ∷ xs) (y ∷ ys) all zero z at = (x, refl, subst (λ w. Q x w) (same_Some y z at) all.0)
 zipped-right Q (x ∷ xs) (y ∷ ys) all (suc k) z at = zipped-right Q xs ys all.1 k z at
 
 -- an item of two lists that go together, one behind the other
 zipped-contains : {A B : Type 0} (xs : List A) (ys : List B) (x : A) (y : B)
     → Contains (zip xs ys) (x, y) → Contains xs x
-zipped-contains xs [] x y has = absurd (let below = has.1 in none xs has.0 below)
-  where
-    none : (xs : List _) (k : ℕ) → k < length (zip xs []) → ⊥
-    none [] k below = omega (arith, below)
-    none (x ∷ xs) k below = omega (arith, below)
-zipped-contains [] (y ∷ ys) x z has = absurd (let below = has.1 in omega (arith, below))
+zipped-contains [] ys x y has = absurd (let below = has.1 in omega (arith, below))
+zipped-contains (w ∷ xs) [] x y has = absurd (let below = has.1 in omega (arith, below))
 zipped-contains (w ∷ xs) (v ∷ ys) x y (zero, below, is) =
-    (zero, omega arith, ap (λ (p : _ × _). p.0) is)
+    (zero, omega arith, ap (λ p. p.0) is)
 zipped-contains (w ∷ xs) (v ∷ ys) x y (suc k, below, is) =
     let found = zipped-contains xs ys x y (k, omega (arith, below), is) in
     (suc found.0, (let b = found.1 in omega (arith, b)), found.2)
 
-module _ (shared : Shared) (runners : List Runner) (history : List Placed)
+module _ {P : Type 0} (shared : Shared) (runners : List (Runner P)) (history : List Placed)
     (is_shared : IsShared shared) (ended : HaveAllEnded shared runners history) where
   abbrev script : Script
   script = script_of shared
@@ -101,7 +100,7 @@ module _ (shared : Shared) (runners : List Runner) (history : List Placed)
 
   -- the thread of a number, with what it has
   record TheThread (thread : ℕ) (ls : List lines.Line) (note : ThreadNote) : Type 0 where
-    pub r : Runner
+    pub r : Runner P
     pub there : slice_get runners thread ≡ Some r
     pub note_is : note ≡ r.worker.note
     pub end : HasEnded shared history thread r
@@ -110,7 +109,7 @@ module _ (shared : Shared) (runners : List Runner) (history : List Placed)
   the-thread : (thread : ℕ) (ls : List lines.Line) (note : ThreadNote)
       → RanLines script journal thread ls note → TheThread thread ls note
   the-thread thread ls note ran =
-      let at = mapped-at (λ (r : Runner). r.worker.note) runners thread note ran.noted in
+      let at = mapped-at (λ (r : Runner P). r.worker.note) runners thread note ran.noted in
       let end = ended.ended thread at.0 at.1 in
       record {
         r = at.0;
@@ -136,7 +135,7 @@ module _ (shared : Shared) (runners : List Runner) (history : List Placed)
       }
 
   -- what a thread has kept for the channel at a place
-  record KeptAt (r : Runner) (h : List OpRec) (place : ℕ) : Type 0 where
+  record KeptAt (r : Runner P) (h : List OpRec) (place : ℕ) : Type 0 where
     pub attributes : List Attribute
     pub channel : Channel
     pub c : ChannelValue
@@ -144,7 +143,7 @@ module _ (shared : Shared) (runners : List Runner) (history : List Placed)
     pub seat_at : slice_get r.channels.seats.items place ≡ Some seat
     pub kept : HasKept shared attributes r.worker h place channel c (view seat)
 
-  kept-at : (thread : ℕ) (r : Runner) (end : HasEnded shared history thread r) (place : ℕ)
+  kept-at : (thread : ℕ) (r : Runner P) (end : HasEnded shared history thread r) (place : ℕ)
       → place < length script.channels → KeptAt r end.h place
   kept-at thread r end place below =
       let ready = end.is.ready in
@@ -169,11 +168,11 @@ module _ (shared : Shared) (runners : List Runner) (history : List Placed)
   flushed-channel thread ls channel at has =
       let all = is_shared.common.runnable.places thread [] (slice_get_within script.threads thread ls at) in
       let placed : All (IsPlaced script.attributes script.channels script.values) ls =
-          subst (All (IsPlaced script.attributes script.channels script.values))
-          (get_or_from_slice_get script.threads thread ls [] at) all in
+      subst (All (IsPlaced script.attributes script.channels script.values))
+      (get_or_from_slice_get script.threads thread ls [] at) all in
       let flush : IsFlushed script.channels channel =
-          All-contains (IsPlaced script.attributes script.channels script.values) ls
-          (line.Flush channel) placed has in
+      All-contains (IsPlaced script.attributes script.channels script.values) ls
+      (line.Flush channel) placed has in
       slice_get_within script.channels channel flush.flushed flush.declared
 
   flush-among : (ls : List lines.Line) (note : ThreadNote) (channel : ℕ) (r : replies.Reply)
@@ -182,14 +181,12 @@ module _ (shared : Shared) (runners : List Runner) (history : List Placed)
       subst (Contains ls) flush (zipped-contains ls note.lines l n (k, below, is))
 
   -- the account that a thread has at a place is that of its seat
-  account-is : (place : ℕ) (r : Runner) (seat : SeatOf) (account : Account TableValue)
+  account-is : (place : ℕ) (r : Runner P) (seat : SeatOf) (account : Account TableValue)
       → slice_get r.channels.seats.items place ≡ Some seat → HasAccount place r account
       → account ≡ (view seat).account
   account-is place r seat account at has =
-      sym has.account_is ∙ ap (λ s. (view s).account) (same-some (sym has.seat_at ∙ at))
-    where
-      same-some : {A : Type 0} {x y : A} → Some x ≡ Some y → x ≡ y
-      same-some refl = refl
+      sym has.account_is ∙ ap (λ (s : SeatOf). (view s).account)
+      (same_Some has.seat seat (sym has.seat_at ∙ at))
 
   -- a thread that has had a turn at a book has merged there
   merged-there : (v : Type 0) (given : List TableValue) (given_up : ℕ)
@@ -230,9 +227,9 @@ module _ (shared : Shared) (runners : List Runner) (history : List Placed)
     had-turn =
         let at = slice_get_within met.accounts thread own.0 own.1 in
         let all : All (ThreadHadTurn met.accounts) (get_or met.accounts thread own.0).met =
-            met.met thread own.0 at in
+        met.met thread own.0 at in
         let is : get_or met.accounts thread own.0 ≡ own.0 =
-            get_or_from_slice_get met.accounts thread own.0 own.0 own.1 in
+        get_or_from_slice_get met.accounts thread own.0 own.0 own.1 in
         All-contains (ThreadHadTurn met.accounts) own.0.met holder
         (subst (λ (a : Account TableValue). All (ThreadHadTurn met.accounts) a.met) is all)
         has-met
@@ -241,7 +238,7 @@ module _ (shared : Shared) (runners : List Runner) (history : List Placed)
         × (slice_get met.accounts holder ≡ Some account) × HadTurn account
     holder-account = some-of (slice_get met.accounts holder) had-turn
 
-    other : (r : Runner) × (slice_get runners holder ≡ Some r)
+    other : (r : Runner P) × (slice_get runners holder ≡ Some r)
         × HasAccount channel r holder-account.0
     other = zipped-right (HasAccount channel) runners met.accounts met.each holder
         holder-account.0 holder-account.1
@@ -259,7 +256,7 @@ module _ (shared : Shared) (runners : List Runner) (history : List Placed)
         (view theirs.seat).account.given (view theirs.seat).account.given_up theirs.kept.turns
         theirs.kept.merged
         (subst HadTurn (account-is channel other.0 theirs.seat holder-account.0 theirs.seat_at
-        other.2) holder-account.2.1)
+        other.2) holder-account.2)
 
     has-merged : HasMerged script journal holder channel
     has-merged =
@@ -271,8 +268,8 @@ module _ (shared : Shared) (runners : List Runner) (history : List Placed)
           note = other.0.worker.note;
           ran = record {
             ran = ls.there;
-            noted = slice_get-map (λ (r : Runner). r.worker.note) runners holder
-                ∙ ap (option_map (λ (r : Runner). r.worker.note)) other.1;
+            noted = slice_get-map (λ (r : Runner P). r.worker.note) runners holder
+                ∙ ap (option_map (λ (r : Runner P). r.worker.note)) other.1;
           };
           merged = subst (λ l. HasFlushed channel reply.Merged l other.0.worker.note)
               (other-end.all ∙ get_or_from_slice_get script.threads holder ls.item [] ls.there)
@@ -281,11 +278,8 @@ module _ (shared : Shared) (runners : List Runner) (history : List Placed)
 
   pub have-ended : HaveEnded script journal
   have-ended = record {
-    many = length-map-is ∙ ended.many;
+    many = length-map runners (λ (r : Runner P). r.worker.note) ∙ ended.many;
     known = ended.known;
     ended = has-ended;
     busy = has-merged;
   }
-    where
-      length-map-is : length (map (λ (r : Runner). r.worker.note) runners) ≡ length runners
-      length-map-is = length-map (λ (r : Runner). r.worker.note) runners

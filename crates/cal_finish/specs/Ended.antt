@@ -18,21 +18,21 @@ use Rattle.cal_table.specs.Tables.{TableValue}
 use Rattle.cal_words.specs.declared.op.OpRec.{OpRec}
 
 -- what a thread has done at the book of the channel at a place
-pub record HasAccount (place : ℕ) (r : Runner) (account : Account TableValue) : Type 0 where
+pub record HasAccount {P : Type 0} (place : ℕ) (r : Runner P) (account : Account TableValue) : Type 0 where
   pub seat : SeatOf
   pub seat_at : slice_get r.channels.seats.items place ≡ Some seat
   pub account_is : (view seat).account ≡ account
 
 -- Whose turn was met at the book of the channel at a place had one there.
-pub record AllMetAt (place : ℕ) (runners : List Runner) : Type 0 where
+pub record AllMetAt {P : Type 0} (place : ℕ) (runners : List (Runner P)) : Type 0 where
   pub accounts : List (Account TableValue)
   pub each : AllZip (HasAccount place) runners accounts
   pub met : AllMetHadTurns accounts
 
-module _ (shared : Shared) where
+module _ {P : Type 0} (shared : Shared) where
   -- A thread has done all its lines, and what it has seen begins the whole history, which has no
   -- operation of it behind that.
-  pub record HasEnded (history : List Placed) (thread : ℕ) (r : Runner) : Type 0 where
+  pub record HasEnded (history : List Placed) (thread : ℕ) (r : Runner P) : Type 0 where
     pub h : List OpRec
     pub is : IsRunner shared r h
     pub number : r.worker.thread.number ≡ thread
@@ -40,17 +40,17 @@ module _ (shared : Shared) where
     pub begins : Begins thread (history_of h) history
 
   -- So have all threads of the run; and whoever held the turn where a flush was busy had one.
-  pub record HaveAllEnded (runners : List Runner) (history : List Placed) : Type 0 where
+  pub record HaveAllEnded (runners : List (Runner P)) (history : List Placed) : Type 0 where
     pub many : length runners ≡ length (script_of shared).threads
     pub known : All (IsKnown (script_of shared)) history
-    pub ended : (thread : ℕ) (r : Runner) → slice_get runners thread ≡ Some r
+    pub ended : (thread : ℕ) (r : Runner P) → slice_get runners thread ≡ Some r
         → HasEnded history thread r
     pub met : (place : ℕ) → place < length (script_of shared).channels → AllMetAt place runners
 
   -- the journal of a run: which clock was read, the whole history, and the notes of all threads
-  abbrev pub journal_of : List Runner → List Placed → Journal
+  abbrev pub journal_of : List (Runner P) → List Placed → Journal
   journal_of runners history = record {
     real = shared.real;
     ops = history;
-    threads = map (λ (r : Runner). r.worker.note) runners;
+    threads = map (λ (r : Runner P). r.worker.note) runners;
   }

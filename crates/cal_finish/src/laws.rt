@@ -9,8 +9,8 @@ ghost use Rattle.cal_script.specs.declared.journal.Placed.{Placed};
 
 /// The law of a run: once all threads have ended, their notes with the whole history are a lawful
 /// journal of the script.
-pub fn lawful_run_law()
-    ensures { (shared : Shared) (runners : List Runner) (history : List Placed)
+pub fn lawful_run_law<P>()
+    ensures { (shared : Shared) (runners : List (Runner P)) (history : List Placed)
         → IsShared shared → HaveAllEnded shared runners history
         → Lawful (script_of shared) (journal_of shared runners history) }
 {}

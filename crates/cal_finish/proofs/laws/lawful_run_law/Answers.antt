@@ -5,6 +5,6 @@ use Rattle.cal_replay.specs.Workers.{script_of}
 use Rattle.cal_finish.specs.Ended.{journal_of}
 
 pub returns : goal.returns
-returns c shared runners history is_shared ended =
+returns g c shared runners history is_shared ended =
     together (script_of shared) (journal_of shared runners history)
     (have-ended shared runners history is_shared ended)
