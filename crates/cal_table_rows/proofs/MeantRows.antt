@@ -52,16 +52,16 @@ module _ (attributes : List Attribute) (script : Script) (tree : Tree) (seat : R
       λ i. record { key = key i; held = held i }
 
   -- and so do rows
-  pub one_meaning : (rows : List Row) (as bs : List KeyedRow) → AllZip Mean rows as
-      → AllZip Mean rows bs → as ≡ bs
+  pub one_meaning : (rows : List Row) (ones others : List KeyedRow) → AllZip Mean rows ones
+      → AllZip Mean rows others → ones ≡ others
   one_meaning [] [] [] one other = refl
   one_meaning [] [] (b ∷ bs) one other = absurd other
-  one_meaning [] (a ∷ as) bs one other = absurd one
+  one_meaning [] (a ∷ ls) bs one other = absurd one
   one_meaning (row ∷ rows) [] bs one other = absurd one
-  one_meaning (row ∷ rows) (a ∷ as) [] one other = absurd other
-  one_meaning (row ∷ rows) (a ∷ as) (b ∷ bs) one other =
+  one_meaning (row ∷ rows) (a ∷ ls) [] one other = absurd other
+  one_meaning (row ∷ rows) (a ∷ ls) (b ∷ bs) one other =
       let first = one_row row a b one.0 other.0 in
-      let rest = one_meaning rows as bs one.1 other.1 in
+      let rest = one_meaning rows ls bs one.1 other.1 in
       λ i. first i ∷ rest i
 
   module _ (k : TableKey) (r : Rec) (means : IsMeant k r) where

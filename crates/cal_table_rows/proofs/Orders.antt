@@ -72,19 +72,19 @@ StandsFor-order snaps others table order stands = record {
 -- ---- parts of threads
 
 -- one list ++ other exchanged between two others
-exchanged : {A : Type 0} (as bs cs ds : List A)
-    → IsPermutation ((as ++ bs) ++ (cs ++ ds)) ((as ++ cs) ++ (bs ++ ds))
-exchanged as bs cs ds =
-    subst (λ l. IsPermutation l ((as ++ cs) ++ (bs ++ ds))) (sym (append_assoc as bs (cs ++ ds)))
-    (subst (λ l. IsPermutation (as ++ (bs ++ (cs ++ ds))) l)
-    (sym (append_assoc as cs (bs ++ ds)))
-    (IsPermutation-append_right as (bs ++ (cs ++ ds)) (cs ++ (bs ++ ds)) middle))
+exchanged : {A : Type 0} (xs ys zs ws : List A)
+    → IsPermutation ((xs ++ ys) ++ (zs ++ ws)) ((xs ++ zs) ++ (ys ++ ws))
+exchanged xs ys zs ws =
+    subst (λ l. IsPermutation l ((xs ++ zs) ++ (ys ++ ws))) (sym (append_assoc xs ys (zs ++ ws)))
+    (subst (λ l. IsPermutation (xs ++ (ys ++ (zs ++ ws))) l)
+    (sym (append_assoc xs zs (ys ++ ws)))
+    (IsPermutation-append_right xs (ys ++ (zs ++ ws)) (zs ++ (ys ++ ws)) middle))
   where
-    middle : IsPermutation (bs ++ (cs ++ ds)) (cs ++ (bs ++ ds))
+    middle : IsPermutation (ys ++ (zs ++ ws)) (zs ++ (ys ++ ws))
     middle =
-        subst (λ l. IsPermutation l (cs ++ (bs ++ ds))) (append_assoc bs cs ds)
-        (subst (λ l. IsPermutation ((bs ++ cs) ++ ds) l) (append_assoc cs bs ds)
-        (IsPermutation-append_left ds (bs ++ cs) (cs ++ bs) (IsPermutation-append_comm bs cs)))
+        subst (λ l. IsPermutation l (zs ++ (ys ++ ws))) (append_assoc ys zs ws)
+        (subst (λ l. IsPermutation ((ys ++ zs) ++ ws) l) (append_assoc zs ys ws)
+        (IsPermutation-append_left ws (ys ++ zs) (zs ++ ys) (IsPermutation-append_comm ys zs)))
 
 -- the first parts of all, and then the second ones, in place of both of each
 pub parts-order : {A P : Type 0} (first second : P → List A) (ps : List P)

@@ -130,17 +130,21 @@ module _ {A B : Type 0} (R : A → B → Type 0) where
       let rest = chosen xs (λ a there. each a (Contains-cons a x xs there)) in
       record { items = first.0 ∷ rest.items; zip = (first.1, rest.zip) }
 
+-- an item that passes a test stands behind one that doesn't
+behind : {A : Type 0} (p : A → Bool) (x y : A) (xs : List A) → p x ≡ true → p y ≡ false
+    → (y ≡ x) ⊎ Contains xs x → Contains xs x
+behind p x y xs passes fails (inl same) =
+    absurd (true≢false (sym passes ∙ ap p (sym same) ∙ fails))
+behind p x y xs passes fails (inr rest) = rest
+
 -- an item that is there and passes a test is kept
 pub kept_some : {A : Type 0} (p : A → Bool) (xs : List A) (x : A) → Contains xs x → p x ≡ true
     → 0 < length (filter p xs)
-kept_some p [] x there is = absurd (Contains-nil x there)
-kept_some p (y ∷ ys) x there is = by (p y) refl (kept_some p ys x)
+kept_some p [] x there passes = absurd (Contains-nil x there)
+kept_some p (y ∷ ys) x there passes = by (p y) refl (kept_some p ys x)
   where
     by : (b : Bool) → p y ≡ b
         → (Contains ys x → p x ≡ true → 0 < length (filter p ys)) → 0 < length (filter p (y ∷ ys))
     by true e more = rw e (omega arith)
-    by false e more = rw e (more (behind (Contains-cases x y ys there)) is)
-      where
-        behind : (y ≡ x) ⊎ Contains ys x → Contains ys x
-        behind (inl same) = absurd (true≢false (sym is ∙ ap p (sym same) ∙ e))
-        behind (inr rest) = rest
+    by false e more =
+        rw e (more (behind p x y ys passes e (Contains-cases x y ys there)) passes)
