@@ -6,3 +6,4 @@ pub mod Holding
 pub mod MeantRows
 pub mod Orders
 pub mod Merging
+pub mod Fronts

@@ -1,6 +1,6 @@
 -- The rows of a table whose snapshots mean records mean the rows of a channel's table of these.
-use Rattle.std.proofs.Common.{◌≡◌, ℕ, ◌<◌, ◌||◌, Bool, true, false, Some, List, [], ◌∷◌, length, map}
-use Rattle.std.proofs.Common.{refl, sym, ap, ◌∙◌, subst, arith, Contains, filter}
+use Rattle.std.proofs.Common.{◌≡◌, ◌<◌, ◌||◌, Bool, true, false, List, [], ◌∷◌, length, map, refl}
+use Rattle.std.proofs.Common.{sym, ap, ◌∙◌, subst, arith, Contains, filter}
 use Rattle.std.specs.List.{AllByRecursion, AllZip, IsDistinct, list_any}
 use Rattle.std.proofs.lemmas.Slice.Zip.{AllZip-long}
 use Rattle.std.specs.declared.random_state.RandomState.{RandomState}
@@ -106,7 +106,8 @@ module _ (attributes : List Attribute) (script : Script) (tree : Tree) (seat : R
   module _ (channel : ChannelQuery) (hashers : RandomState) (snaps : List NumberedSnap)
       (recs : List Rec)
       (all : AllZip (IsOf attributes script tree seat channel hashers) snaps recs)
-      (table : TableValue) (shaped : table.shape ≡ shape attributes script tree seat channel hashers)
+      (table : TableValue)
+      (shaped : table.shape ≡ shape attributes script tree seat channel hashers)
       (stands : StandsFor snaps table) (once : IsDistinct same_key (keys_of table.rows)) where
     abbrev IsSnap : NumberedSnap → Rec → Type 0
     IsSnap = IsOf attributes script tree seat channel hashers
@@ -124,7 +125,8 @@ module _ (attributes : List Attribute) (script : Script) (tree : Tree) (seat : R
     holds asked = StandsFor-tally snaps table stands asked
         ∙ ap (λ s. held_of_keys s asked snaps) shaped
 
-    key_means : (s : NumberedSnap) (m : Rec) → IsSnap s m → IsMeant (snap_key s) (table_key channel m)
+    key_means : (s : NumberedSnap) (m : Rec) → IsSnap s m
+        → IsMeant (snap_key s) (table_key channel m)
     key_means = key_alike attributes script tree seat channel hashers
 
     -- the snapshots with the key of a row
@@ -162,7 +164,8 @@ module _ (attributes : List Attribute) (script : Script) (tree : Tree) (seat : R
     row_of_records row keyed there means =
         let h = row_holds row there in
         let some = h.some in
-        let zip = AllZip-filter IsSnap (with_row row) (λ m. is_group (table_key channel m) keyed.key)
+        let zip = AllZip-filter IsSnap (with_row row)
+        (λ m. is_group (table_key channel m) keyed.key)
         (λ s m goes. tested_alike attributes script tree seat sound apart (snap_key s) row.key
         (table_key channel m) keyed.key (key_means s m goes) means.key) snaps recs all in
         let long = AllZip-long IsSnap (filter (with_row row) snaps)

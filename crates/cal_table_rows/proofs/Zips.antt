@@ -1,6 +1,6 @@
 -- Two lists of which each item goes with one of the other.
-use Rattle.std.proofs.Common.{◌≡◌, ℕ, zero, suc, ◌<◌, Bool, true, false, List, [], ◌∷◌, ◌++◌, length}
-use Rattle.std.proofs.Common.{get_or, set, swap, refl, sym, subst, arith, IsPermutation, Contains}
+use Rattle.std.proofs.Common.{◌≡◌, ℕ, zero, suc, ◌<◌, Bool, true, false, List, [], ◌∷◌, ◌++◌}
+use Rattle.std.proofs.Common.{length, get_or, set, swap, refl, sym, subst, arith, IsPermutation, Contains}
 use Rattle.std.proofs.Common.{filter, ap, ◌∙◌, if◌then◌else◌, inl, inr, true≢false}
 use Rattle.std.specs.Prelude.{◌⊎◌}
 use Rattle.std.specs.List.{AllByRecursion, AllZip}

@@ -1,12 +1,15 @@
 //! Laws of tables that count records. Nothing here is ever run.
 
 ghost use Rattle.std.specs.Prelude.{◌≡◌, List, ◌++◌, flat_map, IsPermutation};
-ghost use Rattle.std.specs.List.{AllZip};
+ghost use Rattle.std.specs.List.{AllZip, IsDistinct};
 ghost use Rattle.std.specs.declared.random_state.RandomState.{RandomState as Hashers};
 ghost use Rattle.cal_agg.specs.declared.row.AggRow.{AggRow};
 ghost use Rattle.cal_channel.specs.Channels.{Counts};
+ghost use Rattle.cal_context.specs.Lists.{IsFront};
 ghost use Rattle.cal_once.specs.declared.seat.RowSeat.{RowSeat};
 ghost use Rattle.cal_profile.specs.TableRows.{KeyedRow};
+ghost use Rattle.cal_rowset.specs.Texts.{is_same};
+ghost use Rattle.cal_script.specs.Parts.{attribute_names};
 ghost use Rattle.cal_script.specs.declared.script.ChannelQuery.{ChannelQuery};
 ghost use Rattle.cal_script.specs.declared.script.Script.{Script};
 ghost use Rattle.cal_snap.specs.declared.numbered.NumberedSnap.{NumberedSnap};
@@ -74,4 +77,11 @@ pub fn parts_in_any_order()
     ensures { (parts : List (List Rec × List Rec))
         → IsPermutation (flat_map (λ p. p.0 ++ p.1) parts)
         (flat_map (λ p. p.0) parts ++ flat_map (λ p. p.1) parts) }
+{}
+
+/// Where all names of a run are apart, so are those of its script, whose attributes stand in front.
+pub fn names_of_runs_are_apart()
+    ensures { (attributes : List Attribute) (script : Script)
+        → IsFront script.attributes attributes → IsDistinct is_same (attribute_names attributes)
+        → NamesAreApart attributes script }
 {}
