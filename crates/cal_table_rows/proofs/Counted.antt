@@ -1,6 +1,6 @@
 -- What snapshots by numbers come to in a table is what the records come to that they mean.
-use Rattle.std.proofs.Common.{◌≡◌, ℕ, ◌<◌, ◌||◌, Bool, true, false, Option, None, List, [], ◌∷◌}
-use Rattle.std.proofs.Common.{length, map, refl, sym, ap, ◌∙◌, pos, All, filter, get_or}
+use Rattle.std.proofs.Common.{◌≡◌, ℕ, ◌||◌, Bool, true, false, None, List, [], ◌∷◌}
+use Rattle.std.proofs.Common.{map, refl, sym, ap, ◌∙◌, pos, All, filter}
 use Rattle.std.specs.Cmp.Lexicographic.{bytes_decides}
 use Rattle.std.specs.List.{AllByRecursion, AllZip, cons_option, filter_map, last_or, list_any}
 use Rattle.std.specs.Ordering.{eq_by_cmp}
@@ -10,8 +10,7 @@ use Rattle.std.proofs.lemmas.List.Elements.{All-filter, All-weaker, recursion_fr
 use Rattle.std.proofs.lemmas.Slice.Zip.{AllZip-long}
 use Rattle.std.specs.declared.random_state.RandomState.{RandomState}
 use Rattle.cal_agg.specs.Rows.{cell_over}
-use Rattle.cal_agg.specs.declared.num.Num.{Num}
-use Rattle.cal_channel.specs.Channels.{IsCounted, Means}
+use Rattle.cal_channel.specs.Channels.{IsCounted}
 use Rattle.cal_filter.specs.Named.{is_named}
 use Rattle.cal_filter.specs.Numbers.{number_in}
 use Rattle.cal_once.specs.declared.seat.RowSeat.{RowSeat}

@@ -1,5 +1,5 @@
 -- What the rows of a table hold, whose keys are apart.
-use Rattle.std.proofs.Common.{◌≡◌, ℕ, zero, suc, ◌<◌, Bool, true, false, Option, None, Some}
+use Rattle.std.proofs.Common.{◌≡◌, suc, ◌<◌, Bool, true, false, Option, None, Some}
 use Rattle.std.proofs.Common.{List, [], ◌∷◌, length, map, get_or, refl, sym, ap, ◌∙◌, subst, arith}
 use Rattle.std.proofs.Common.{true≢false, Contains, inl, inr, ◌||◌}
 use Rattle.std.specs.Prelude.{◌⊎◌, if◌then◌else◌}

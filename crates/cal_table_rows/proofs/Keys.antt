@@ -1,5 +1,5 @@
 -- A test that tells the keys of tables apart.
-use Rattle.std.proofs.Common.{◌≡◌, ℕ, Bool, Decides}
+use Rattle.std.proofs.Common.{◌≡◌, Bool, Decides}
 use Rattle.std.specs.declared.cmp.Ordering.{Ordering}
 use Rattle.std.specs.declared.cmp.Ordering.TheVariants.{Equal}
 use Rattle.std.specs.Ordering.{eq_by_cmp, nat_cmp, on, then_cmp}

@@ -8,7 +8,7 @@ use Rattle.cal_agg.specs.declared.row.AggRow.{AggRow}
 use Rattle.cal_channel.specs.Channels.{Counts}
 use Rattle.cal_engine.specs.Groups.{is_group}
 use Rattle.cal_once.specs.declared.seat.RowSeat.{RowSeat}
-use Rattle.cal_profile.specs.TableRows.{AreRowsOf, IsRowOf, KeyedRow, table_key, with_key}
+use Rattle.cal_profile.specs.TableRows.{IsRowOf, KeyedRow, table_key, with_key}
 use Rattle.cal_script.specs.declared.script.ChannelQuery.{ChannelQuery}
 use Rattle.cal_script.specs.declared.script.Script.{Script}
 use Rattle.cal_snap.specs.declared.numbered.NumberedSnap.{NumberedSnap}
