@@ -1,7 +1,7 @@
 -- Two lists of which each item goes with one of the other.
 use Rattle.std.proofs.Common.{◌≡◌, ℕ, zero, suc, ◌<◌, Bool, true, false, List, [], ◌∷◌, ◌++◌}
-use Rattle.std.proofs.Common.{length, get_or, set, swap, refl, sym, subst, arith, IsPermutation, Contains}
-use Rattle.std.proofs.Common.{filter, ap, ◌∙◌, if◌then◌else◌, inl, inr, true≢false}
+use Rattle.std.proofs.Common.{length, get_or, set, swap, refl, sym, subst, arith, IsPermutation}
+use Rattle.std.proofs.Common.{Contains, filter, ap, ◌∙◌, if◌then◌else◌, inl, inr, true≢false}
 use Rattle.std.specs.Prelude.{◌⊎◌}
 use Rattle.std.specs.List.{AllByRecursion, AllZip}
 use Rattle.std.proofs.lemmas.List.Sorted.{IsPermutation-keeps, IsPermutation-refl}
