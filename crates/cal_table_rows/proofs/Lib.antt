@@ -1,0 +1,9 @@
+pub mod Keys
+pub mod Zips
+pub mod OneMeaning
+pub mod Counted
+pub mod Holding
+pub mod MeantRows
+pub mod Orders
+pub mod Merging
+pub mod Fronts

@@ -1,0 +1,87 @@
+//! Laws of tables that count records. Nothing here is ever run.
+
+ghost use Rattle.std.specs.Prelude.{◌≡◌, List, ◌++◌, flat_map, IsPermutation};
+ghost use Rattle.std.specs.List.{AllZip, IsDistinct};
+ghost use Rattle.std.specs.declared.random_state.RandomState.{RandomState as Hashers};
+ghost use Rattle.cal_agg.specs.declared.row.AggRow.{AggRow};
+ghost use Rattle.cal_channel.specs.Channels.{Counts};
+ghost use Rattle.cal_context.specs.Lists.{IsFront};
+ghost use Rattle.cal_once.specs.declared.seat.RowSeat.{RowSeat};
+ghost use Rattle.cal_profile.specs.TableRows.{KeyedRow};
+ghost use Rattle.cal_rowset.specs.Texts.{is_same};
+ghost use Rattle.cal_script.specs.Parts.{attribute_names};
+ghost use Rattle.cal_script.specs.declared.script.ChannelQuery.{ChannelQuery};
+ghost use Rattle.cal_script.specs.declared.script.Script.{Script};
+ghost use Rattle.cal_snap.specs.declared.numbered.NumberedSnap.{NumberedSnap};
+ghost use Rattle.cal_table.specs.Rows.{Row};
+ghost use Rattle.cal_table.specs.Shapes.{shape_of};
+ghost use Rattle.cal_table.specs.Snapshots.{StandsFor};
+ghost use Rattle.cal_table.specs.Tables.{Same, TableValue, merged_tables};
+ghost use Rattle.cal_table.specs.declared.key.TableKey.{TableKey};
+ghost use Rattle.cal_table_rows.specs.Meanings.{HasRows, MeanRowsOf, NamesAreApart, RowMeans};
+ghost use Rattle.cal_tree.specs.Seats.{IsTreeSeat};
+ghost use Rattle.cal_tree.specs.declared.tree.Tree.{Tree};
+ghost use Rattle.cal_value.specs.declared.attribute.Attribute.{Attribute};
+ghost use Rattle.cal_value.specs.declared.record.Rec.{Rec};
+ghost use Rattle.cal_words.specs.declared.sort.NodeSort.{NodeSort};
+
+/// The rows of a table of a channel's shape that counts records mean the rows of the channel's
+/// table of these records: each key once, and each record's.
+pub fn tables_have_the_rows_of_records()
+    ensures { (attributes : List Attribute) (script : Script) (tree : Tree)
+        (seat : RowSeat NodeSort) (channel : ChannelQuery) (hashers : Hashers)
+        (table : TableValue) (keys : List TableKey) (held : List AggRow) (recs : List Rec)
+        → IsTreeSeat tree seat → NamesAreApart attributes script
+        → table.shape ≡ shape_of hashers channel.keys channel.values attributes
+        → HasRows table keys held → Counts attributes script tree seat table recs
+        → MeanRowsOf attributes script tree seat channel recs table.rows }
+{}
+
+/// Rows mean one list of rows: who reads what each row means has read that list.
+pub fn rows_have_one_meaning()
+    ensures { (attributes : List Attribute) (script : Script) (tree : Tree)
+        (seat : RowSeat NodeSort) (rows : List Row) (one other : List KeyedRow)
+        → IsTreeSeat tree seat → NamesAreApart attributes script
+        → AllZip (RowMeans attributes script tree seat) rows one
+        → AllZip (RowMeans attributes script tree seat) rows other → one ≡ other }
+{}
+
+/// A table stands for its snapshots in any order, and counts its records in any order.
+pub fn tables_count_in_any_order()
+    ensures snapshots { (snaps others : List NumberedSnap) (table : TableValue)
+        → IsPermutation snaps others → StandsFor snaps table → StandsFor others table }
+    ensures records { (attributes : List Attribute) (script : Script) (tree : Tree)
+        (seat : RowSeat NodeSort) (table : TableValue) (recs others : List Rec)
+        → IsPermutation recs others → Counts attributes script tree seat table recs
+        → Counts attributes script tree seat table others }
+{}
+
+/// A merge of two tables counts the records of both; and what is the same as a table counts what
+/// that counts.
+pub fn merges_count_both()
+    ensures merged { (attributes : List Attribute) (script : Script) (tree : Tree)
+        (seat : RowSeat NodeSort) (one other merged : TableValue) (recs more : List Rec)
+        → Counts attributes script tree seat one recs
+        → Counts attributes script tree seat other more → other.shape ≡ one.shape
+        → Same merged (merged_tables one other)
+        → Counts attributes script tree seat merged (recs ++ more) }
+    ensures same { (attributes : List Attribute) (script : Script) (tree : Tree)
+        (seat : RowSeat NodeSort) (table other : TableValue) (recs : List Rec)
+        → Counts attributes script tree seat table recs → Same other table
+        → Counts attributes script tree seat other recs }
+{}
+
+/// The first parts of all threads and then the second ones are both parts of each thread, thread by
+/// thread, in another order.
+pub fn parts_in_any_order()
+    ensures { (parts : List (List Rec × List Rec))
+        → IsPermutation (flat_map (λ p. p.0 ++ p.1) parts)
+        (flat_map (λ p. p.0) parts ++ flat_map (λ p. p.1) parts) }
+{}
+
+/// Where all names of a run are apart, so are those of its script, whose attributes stand in front.
+pub fn names_of_runs_are_apart()
+    ensures { (attributes : List Attribute) (script : Script)
+        → IsFront script.attributes attributes → IsDistinct is_same (attribute_names attributes)
+        → NamesAreApart attributes script }
+{}
