@@ -1,5 +1,6 @@
 -- The threads of a run that have ended keep what a lawful journal asks of all of them.
-use Rattle.std.proofs.Common.{◌≡◌, ◌≢◌, ℕ, zero, suc, ◌+◌, ◌<◌, List, [], ◌∷◌, length, get_or, map}
+use Rattle.std.proofs.Common.{◌≡◌, ◌≢◌, ℕ, zero, suc, ◌+◌, ◌<◌, List, [], ◌∷◌, length, get_or}
+use Rattle.std.proofs.Common.{map}
 use Rattle.std.proofs.Common.{◌⊎◌, inl, inr, refl, sym, ap, ◌∙◌, subst, arith}
 use Rattle.std.specs.Prelude.{Any, Option, Some, None, IsSomeAnd, option_map, slice_get, zip}
 use Rattle.std.specs.List.{All, AllZip, Contains}
@@ -58,7 +59,8 @@ module _ {A : Type 0} where
   some-of None is = absurd is
 
 -- what stands at a place of a list that was mapped
-mapped-at : {A B : Type 0} (f : A → B) (xs : List A) (k : ℕ) (y : B) → slice_get (map f xs) k ≡ Some y
+mapped-at : {A B : Type 0} (f : A → B) (xs : List A) (k : ℕ) (y : B)
+    → slice_get (map f xs) k ≡ Some y
     → (x : A) × (slice_get xs k ≡ Some x) × (y ≡ f x)
 mapped-at f [] k y is = absurd cc
 mapped-at f (x ∷ xs) zero y is = (x, refl, sym (same_Some (f x) y is))
@@ -69,14 +71,16 @@ zipped-left : {A B : Type 0} (Q : A → B → Type 0) (xs : List A) (ys : List B
     → (k : ℕ) (x : A) → slice_get xs k ≡ Some x → (y : B) × (slice_get ys k ≡ Some y) × Q x y
 zipped-left Q [] ys all k z at = absurd cc
 zipped-left Q (x ∷ xs) [] all k z at = absurd all
-zipped-left Q (x ∷ xs) (y ∷ ys) all zero z at = (y, refl, subst (λ w. Q w y) (same_Some x z at) all.0)
+zipped-left Q (x ∷ xs) (y ∷ ys) all zero z at =
+    (y, refl, subst (λ w. Q w y) (same_Some x z at) all.0)
 zipped-left Q (x ∷ xs) (y ∷ ys) all (suc k) z at = zipped-left Q xs ys all.1 k z at
 
 zipped-right : {A B : Type 0} (Q : A → B → Type 0) (xs : List A) (ys : List B) → AllZip Q xs ys
     → (k : ℕ) (y : B) → slice_get ys k ≡ Some y → (x : A) × (slice_get xs k ≡ Some x) × Q x y
 zipped-right Q xs [] all k z at = absurd cc
 zipped-right Q [] (y ∷ ys) all k z at = absurd all
-zipped-right Q (x ∷ xs) (y ∷ ys) all zero z at = (x, refl, subst (λ w. Q x w) (same_Some y z at) all.0)
+zipped-right Q (x ∷ xs) (y ∷ ys) all zero z at =
+    (x, refl, subst (λ w. Q x w) (same_Some y z at) all.0)
 zipped-right Q (x ∷ xs) (y ∷ ys) all (suc k) z at = zipped-right Q xs ys all.1 k z at
 
 -- an item of two lists that go together, one behind the other
@@ -166,7 +170,8 @@ module _ {P : Type 0} (shared : Shared) (runners : List (Runner P)) (history : L
       → slice_get script.threads thread ≡ Some ls → Contains ls (line.Flush channel)
       → channel < length script.channels
   flushed-channel thread ls channel at has =
-      let all = is_shared.common.runnable.places thread [] (slice_get_within script.threads thread ls at) in
+      let all = is_shared.common.runnable.places thread []
+          (slice_get_within script.threads thread ls at) in
       let placed : All (IsPlaced script.attributes script.channels script.values) ls =
       subst (All (IsPlaced script.attributes script.channels script.values))
       (get_or_from_slice_get script.threads thread ls [] at) all in

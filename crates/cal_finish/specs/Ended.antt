@@ -18,7 +18,8 @@ use Rattle.cal_table.specs.Tables.{TableValue}
 use Rattle.cal_words.specs.declared.op.OpRec.{OpRec}
 
 -- what a thread has done at the book of the channel at a place
-pub record HasAccount {P : Type 0} (place : ℕ) (r : Runner P) (account : Account TableValue) : Type 0 where
+pub record HasAccount {P : Type 0} (place : ℕ) (r : Runner P) (account : Account TableValue)
+    : Type 0 where
   pub seat : SeatOf
   pub seat_at : slice_get r.channels.seats.items place ≡ Some seat
   pub account_is : (view seat).account ≡ account
