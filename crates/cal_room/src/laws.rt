@@ -1,6 +1,6 @@
 //! Laws of the room in a run's history. Nothing here is ever run.
 
-ghost use Rattle.std.specs.Prelude.{◌≡◌, ℕ, ◌<◌, List, [], ◌∷◌, ◌++◌, length, IsOk, Ok, Result};
+ghost use Rattle.std.specs.Prelude.{◌≡◌, ℕ, ◌+◌, ◌<◌, List, [], ◌∷◌, ◌++◌, length, IsOk, Ok, Result};
 ghost use Rattle.cal_once.specs.Seats.{view};
 ghost use Rattle.cal_once.specs.Views.{Learns, first_seat, joined, new_seat, noting, split_off};
 ghost use Rattle.cal_once.specs.declared.seat.RowSeat.{RowSeat};
@@ -11,7 +11,7 @@ ghost use Rattle.cal_plog.specs.History.{HasSeen};
 ghost use Rattle.cal_plog.specs.Seats.{IsLogSeat, plan_of, slots_of};
 ghost use Rattle.cal_plog.specs.declared.append.LogFull.{LogFull};
 ghost use Rattle.cal_process.specs.Replicas.{HasTaken};
-ghost use Rattle.cal_process.specs.Takings.{TakesAll};
+ghost use Rattle.cal_process.specs.Takings.{OnlyLearns, TakesAll};
 ghost use Rattle.cal_process.specs.declared.common.Common.{Common};
 ghost use Rattle.cal_process.specs.declared.replica.Replica.{Replica};
 ghost use Rattle.cal_room.specs.Rooms.{HasHistory, MayAppend, UsesSevenEach};
@@ -38,16 +38,19 @@ pub fn history_never_full_law()
 {}
 
 /// The law of the words in use. A seat has seven in use for each operation that it appended: so it
-/// is at the first seat and at each new one, and so it stays as the seat learns, notes an empty
-/// slot, appends, and as other seats are split off and joined.
+/// is at the first seat and at each new one, and so it stays as the seat learns, takes operations
+/// in, notes an empty slot or appends, and as other seats are split off and joined.
 pub fn words_in_use_law()
     ensures first { (plan : Plan OpSort) → UsesSevenEach (first_seat plan) }
     ensures new { (v : View OpSort) → UsesSevenEach (new_seat v) }
     ensures learns { (v w : View OpSort) → Learns v w → UsesSevenEach v → UsesSevenEach w }
+    ensures taken { (v w : View OpSort) → OnlyLearns v w → UsesSevenEach v → UsesSevenEach w }
     ensures noted { (place : ℕ) (v : View OpSort) → UsesSevenEach v
         → UsesSevenEach (noting place v) }
     ensures split { (v : View OpSort) → UsesSevenEach v → UsesSevenEach (split_off v) }
     ensures joined { (v w : View OpSort) → UsesSevenEach v → UsesSevenEach (joined v w) }
+    ensures placed { (place : ℕ) (v w : View OpSort) → w.published ≡ v.published ++ place ∷ []
+        → w.used ≡ v.used + 7 → UsesSevenEach v → UsesSevenEach w }
     ensures appended { (plan : Plan OpSort) (op : OpRec) (v w : View OpSort) (place : ℕ)
         → Appends plan op v w (Ok place) → UsesSevenEach v → UsesSevenEach w }
 {}
