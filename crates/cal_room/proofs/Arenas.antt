@@ -1,24 +1,20 @@
 -- A seat's arena has room for the operations of its thread's process lines.
-use Rattle.std.proofs.Common.{◌≡◌, ◌⊎◌, ℕ, zero, suc, ◌+◌, ◌*◌, ◌<◌, ◌≤◌, List, [], ◌∷◌, ◌++◌, length}
+use Rattle.std.proofs.Common.{◌≡◌, ℕ, zero, suc, ◌+◌, ◌<◌, ◌≤◌, List, [], ◌∷◌, length}
 use Rattle.std.proofs.Common.{get_or, refl, sym, ap, ◌∙◌, subst, ⊎_elim, arith}
 use mathlib.Core.Logic.{dite}
 use native.Mathlib.Decide.{ℕ_discrete}
-use Rattle.std.specs.Prelude.{Ok, Err, IsOk, Option, Result, Some}
-use Rattle.std.specs.List.{All, Contains}
+use Rattle.std.specs.Prelude.{Ok, Err, IsOk, Result, Some}
+use Rattle.std.specs.List.{Contains}
 use Rattle.std.proofs.lemmas.Bool.{cases_lt, eq-eqb}
 use Rattle.std.proofs.lemmas.List.Elements.{All-contains}
-use Rattle.cal_once.proofs.Seen.{times-append}
 use Rattle.cal_once.specs.Layout.{times}
-use Rattle.cal_once.specs.Seats.{view}
 use Rattle.cal_once.specs.Sound.{IsSound}
 use Rattle.cal_once.specs.Views.{Holds}
-use Rattle.cal_once.specs.declared.seat.RowSeat.{RowSeat}
-use Rattle.cal_once.specs.declared.view.Plan.{Plan}
 use Rattle.cal_once.specs.declared.view.View.{View}
 use Rattle.cal_plog.proofs.Reading.{is_among, is_own, is_once}
 use Rattle.cal_plog.specs.Answers.{Appends}
-use Rattle.cal_plog.specs.History.{HasOp, IsOwn}
-use Rattle.cal_plog.specs.Seats.{IsLogSeat, ops_of, op_law, plan_of, slots_of}
+use Rattle.cal_plog.specs.History.{IsOwn}
+use Rattle.cal_plog.specs.Seats.{ops_of, op_law, plan_of, slots_of}
 use Rattle.cal_plog.specs.declared.append.LogFull.{LogFull}
 use Rattle.cal_plog.specs.declared.append.LogFull.TheVariants as full
 use Rattle.cal_process.specs.Operations.{IsOpOf, operation_in, placed_as}
@@ -26,11 +22,11 @@ use Rattle.cal_process.specs.declared.common.Common.{Common}
 use Rattle.cal_room.proofs.Apart.{few-apart}
 use Rattle.cal_room.proofs.Ranks.{rank, rank-inside, rank-rises}
 use Rattle.cal_room.proofs.Slots.{not-all-known}
-use Rattle.cal_room.specs.Rooms.{HasHistory, MayAppend, UsesSevenEach}
+use Rattle.cal_room.specs.Rooms.{HasHistory, MayAppend}
 use Rattle.cal_run.specs.History.{placed_operation}
 use Rattle.cal_run.specs.Lawful.{IsKnown}
 use Rattle.cal_run.specs.declared.operation.Operation.{Operation}
-use Rattle.cal_script.specs.Shapes.{greatest, history_shape, process_lines}
+use Rattle.cal_script.specs.Shapes.{greatest, process_lines}
 use Rattle.cal_script.specs.declared.script.Script.{Script}
 use Rattle.cal_words.specs.Words.{op_words}
 use Rattle.cal_words.specs.declared.op.OpRec.{OpRec}

@@ -1,18 +1,16 @@
 -- The process lines of a thread, counted in line order.
-use Rattle.std.proofs.Common.{◌≡◌, ◌⊎◌, ℕ, zero, suc, ◌+◌, ◌-◌, ◌<◌, ◌≤◌, ◌==◌, max, Bool, true, false}
-use Rattle.std.proofs.Common.{if◌then◌else◌, List, [], ◌∷◌, length, take, refl, sym, ap, ◌∙◌, subst}
+use Rattle.std.proofs.Common.{◌≡◌, ℕ, zero, suc, ◌+◌, ◌-◌, ◌<◌, ◌≤◌, ◌==◌, max, Bool, true, false}
+use Rattle.std.proofs.Common.{if◌then◌else◌, List, [], ◌∷◌, take, refl, ap, ◌∙◌}
 use Rattle.std.proofs.Common.{arith}
 use Rattle.std.specs.Prelude.{Option, Some, None, count_by, fold, slice_get, slice_index_or}
 use Rattle.std.proofs.lemmas.List.Sums.{sum_by-cons}
 use Rattle.cal_context.specs.Tree.{no_attribute}
-use Rattle.cal_run.specs.Lawful as lawful
 use Rattle.cal_run.specs.Lawful.{IsKnown, names_process_line}
 use Rattle.cal_run.specs.Lines as run
 use Rattle.cal_run.specs.Lines.{line_at}
 use Rattle.cal_script.specs.Counts as counts
 use Rattle.cal_script.specs.Counts.{is_process}
 use Rattle.cal_script.specs.Shapes.{greatest, process_lines}
-use Rattle.cal_script.specs.declared.journal.Placed.{Placed}
 use Rattle.cal_script.specs.declared.script.Line as lines
 use Rattle.cal_script.specs.declared.script.Line.TheVariants as line
 use Rattle.cal_script.specs.declared.script.Script.{Script}

@@ -1,11 +1,11 @@
 -- No seat knows all slots of a run's history: their records wouldn't fit into its arenas.
-use Rattle.std.proofs.Common.{◌≡◌, ◌⊎◌, ℕ, ◌+◌, ◌-◌, ◌*◌, ◌/◌, ◌<◌, ◌≤◌, List, length, get_or, ap}
+use Rattle.std.proofs.Common.{◌≡◌, ℕ, ◌+◌, ◌-◌, ◌*◌, ◌/◌, ◌<◌, ◌≤◌, List, length, ap}
 use Rattle.std.proofs.Common.{⊎_elim, arith}
 use mathlib.Core.Logic.{dite}
 use native.Mathlib.Decide.{ℕ_discrete}
 use Rattle.std.proofs.lemmas.Bool.{cases_lt}
 use Rattle.std.proofs.lemmas.Nat.{mul-le}
-use Rattle.cal_once.specs.Layout.{AreApart, arena_start, size_in, start_in}
+use Rattle.cal_once.specs.Layout.{size_in, start_in}
 use Rattle.cal_once.specs.Sound.{IsSound}
 use Rattle.cal_once.specs.Views.{Saw}
 use Rattle.cal_once.specs.declared.view.Plan.{Plan}

@@ -1,5 +1,5 @@
 -- The room that a run's history has, and what a seat must keep so that no append is refused.
-use Rattle.std.specs.Prelude.{◌≡◌, ℕ, ◌+◌, ◌*◌, length}
+use Rattle.std.specs.Prelude.{◌≡◌, ◌+◌, ◌*◌, length}
 use Rattle.std.specs.List.{Contains}
 use Rattle.cal_once.specs.declared.view.View.{View}
 use Rattle.cal_plog.specs.History.{OwnBefore}

@@ -1,6 +1,7 @@
 //! Laws of the room in a run's history. Nothing here is ever run.
 
-ghost use Rattle.std.specs.Prelude.{◌≡◌, ℕ, ◌+◌, ◌<◌, List, [], ◌∷◌, ◌++◌, length, IsOk, Ok, Result};
+ghost use Rattle.std.specs.Prelude.{◌≡◌, ℕ, ◌+◌, ◌<◌, List, [], ◌∷◌, ◌++◌, length, IsOk, Ok};
+ghost use Rattle.std.specs.Prelude.{Result};
 ghost use Rattle.cal_once.specs.Seats.{view};
 ghost use Rattle.cal_once.specs.Views.{Learns, first_seat, joined, new_seat, noting, split_off};
 ghost use Rattle.cal_once.specs.declared.seat.RowSeat.{RowSeat};

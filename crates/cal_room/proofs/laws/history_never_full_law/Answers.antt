@@ -1,4 +1,4 @@
-use Rattle.std.proofs.Common.{◌≡◌, ℕ, ◌<◌, List, [], ◌∷◌, ◌++◌, length, arith, ⊎_elim}
+use Rattle.std.proofs.Common.{◌≡◌, ◌<◌, List, [], ◌∷◌, ◌++◌, length, arith, ⊎_elim}
 use Rattle.cal_once.specs.Seats.{view}
 use Rattle.cal_plog.specs.Seats.{plan_of, slots_of}
 use Rattle.cal_process.specs.Replicas.{HasTaken}
