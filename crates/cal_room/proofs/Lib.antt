@@ -1,0 +1,4 @@
+pub mod Apart
+pub mod Slots
+pub mod Ranks
+pub mod Arenas
