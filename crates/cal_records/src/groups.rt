@@ -87,7 +87,7 @@ fn take_query<T: Taker>(
     ensures grows { Grows context.old context.new }
 {
     let (rows, refused) = group_rows(alloc, script, journal, channel, query, numbers, context)?;
-    take_sorted(alloc, &rows, query.aggs.as_slice(), context, taker)?;
+    take_grouped_rows(alloc, &rows, query.aggs.as_slice(), context, taker)?;
     Ok(refused)
 }
 
@@ -150,8 +150,10 @@ fn fold_snapshots(
     Ok(refused)
 }
 
-/// Hands the rows of groups to a taker, in the order of groups.
-fn take_sorted<T: Taker>(
+/// Hands the rows of groups to a taker, in the order of groups, each made as it comes. `aggs` are
+/// the kernels of the query that made them. It takes memory for the order of the rows, and n log n
+/// comparisons of groups at most. After an `Err` nothing is said of the taker.
+pub fn take_grouped_rows<T: Taker>(
     alloc: Global,
     rows: &GroupedRows,
     aggs: &[Agg],

@@ -18,5 +18,7 @@ mod same;
 mod sorting;
 
 pub use globals::put_globals;
+pub use groups::take_grouped_rows;
 pub use query::channel_query;
 pub use run::{run_records, take_plain_run, take_run};
+pub use same::same_query;

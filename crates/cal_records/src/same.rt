@@ -4,9 +4,10 @@ ghost use Rattle.cal_profile.specs.Groups.{grouping};
 use cal_ql::{Agg, Format, KernelName, Query};
 use cal_value::{Seq, Text, same};
 
-/// Whether two queries that only group are the same. Of another query it says no.
+/// Whether two queries that only group are the same, as those of channels do. Of another query it
+/// says no.
 #[tactic(auto, using(crate::proofs::SameLemmas::grouping_same))]
-pub(crate) fn same_query(one: &Query, other: &Query) -> bool
+pub fn same_query(one: &Query, other: &Query) -> bool
     ensures { result ≡ true → one.now ≡ other.now }
 {
     if !only_groups(one) || !only_groups(other) {

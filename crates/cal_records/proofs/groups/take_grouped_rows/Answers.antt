@@ -2,7 +2,7 @@ use Rattle.std.proofs.Common.{ℕ, List, ◌++◌, map, ap, subst, ◌∙◌}
 use Rattle.std.proofs.lemmas.Result.{on_ok_weaker}
 use Rattle.cal_rowset.specs.Answers.{nth_row}
 use Rattle.cal_value.specs.declared.record.Rec.{Rec}
-use Rattle.cal_records.proofs.groups.take_sorted.Goals as goal
+use Rattle.cal_records.proofs.groups.take_grouped_rows.Goals as goal
 
 pub returns : goal.returns
 returns g c =
