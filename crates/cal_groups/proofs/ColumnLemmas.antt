@@ -1,5 +1,5 @@
 -- The attributes of results stay while the context grows.
-use Rattle.std.proofs.Common.{◌≡◌, ℕ, ◌+◌, ◌<◌, List, [], ◌∷◌, ◌++◌, length, get_or, take, subst, sym, ◌∙◌}
+use Rattle.std.proofs.Common.{◌≡◌, ℕ, ◌+◌, ◌<◌, List, [], ◌∷◌, ◌++◌, length, get_or, take, ◌∙◌}
 use Rattle.std.specs.List.{AllZip}
 use Rattle.cal_context.proofs.CallerLemmas.{attribute_at-Grows, within_attributes}
 use Rattle.cal_context.specs.Tree.{Grows, Tree}

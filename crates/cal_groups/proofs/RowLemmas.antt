@@ -1,23 +1,24 @@
 -- The rows of a table in a context.
-use Rattle.std.proofs.Common.{◌≡◌, ℕ, zero, suc, ◌<◌, List, [], ◌∷◌, ◌++◌, length, map, get_or, ap, subst, sym, ◌∙◌, refl, arith}
+use Rattle.std.proofs.Common.{◌≡◌, ℕ, zero, suc, ◌<◌, List, [], ◌∷◌, ◌++◌, length, map, get_or, ap}
+use Rattle.std.proofs.Common.{subst, sym, ◌∙◌, refl, arith}
 use Rattle.std.proofs.Common.{Option}
 use Rattle.std.specs.Prelude.{unwrap_or}
 use Rattle.std.specs.List.{All, AllByRecursion, AllZip}
 use Rattle.std.proofs.lemmas.List.{map-append}
-use Rattle.std.proofs.lemmas.List.Elements.{All-append, All-from_recursion, All-weaker, recursion_from_All}
+use Rattle.std.proofs.lemmas.List.Elements.{All-append, All-from_recursion, All-weaker}
+use Rattle.std.proofs.lemmas.List.Elements.{recursion_from_All}
 use Rattle.cal_agg.specs.declared.row.AggRow.{AggRow}
-use Rattle.cal_context.proofs.CallerLemmas.{attribute_at-Grows, path_at-Grows, within_attributes, within_paths}
+use Rattle.cal_context.proofs.CallerLemmas.{attribute_at-Grows, path_at-Grows, within_attributes}
+use Rattle.cal_context.proofs.CallerLemmas.{within_paths}
 use Rattle.cal_context.proofs.ListLemmas.{map-alike}
-use Rattle.cal_context.specs.Snapshots.{IsBelowRoot, IsIn, meaning}
+use Rattle.cal_context.specs.Snapshots.{IsBelowRoot}
 use Rattle.cal_context.specs.Snapshots.{entry_of as entry_in}
 use Rattle.cal_context.specs.Tree.{Grows, Tree, path_at}
 use Rattle.cal_context.specs.declared.numbers.NodeNumber.{NodeNumber}
 use Rattle.cal_context.specs.declared.snapshot.Immediate.{Immediate}
-use Rattle.cal_context.specs.declared.snapshot.Snapshot.{Snapshot}
 use Rattle.cal_filter.proofs.Zips.{zip_at, zip_length, zip_weaker}
-use Rattle.cal_filter.specs.Named.{HasSmallNumbers}
 use Rattle.cal_groups.specs.Appended.{Appends, record_of}
-use Rattle.cal_groups.specs.ContextRows.{HasPath, HasRoom, MayTake, MayTakeRow, RowMeans}
+use Rattle.cal_groups.specs.ContextRows.{HasPath, MayTake, MayTakeRow, RowMeans}
 use Rattle.cal_groups.specs.Keys.{immediate_of, number_at}
 use Rattle.cal_nodes.specs.Numbers.{IsNumbered}
 use Rattle.cal_profile.specs.TableRows.{KeyedRow, row_entries, row_record}
@@ -27,7 +28,6 @@ use Rattle.cal_snap.specs.declared.numbered.NumberedEntry.{NumberedEntry}
 use Rattle.cal_table.specs.Rows.{Row, rows_of}
 use Rattle.cal_table.specs.declared.key.TableKey.{TableKey}
 use Rattle.cal_value.specs.declared.attribute.Entry.{Entry}
-use Rattle.cal_value.specs.declared.record.Rec.{Rec}
 use Rattle.cal_words.specs.declared.node.NodeId.{NodeId}
 
 -- ---- a key

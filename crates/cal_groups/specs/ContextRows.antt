@@ -1,5 +1,5 @@
 -- The rows of a table in a context: its nodes have numbers there, and so have its attributes.
-use Rattle.std.specs.Prelude.{◌≡◌, ◌<◌, List, length, map, All, Option, Some}
+use Rattle.std.specs.Prelude.{◌≡◌, List, map, All, Option, Some}
 use Rattle.std.specs.List.{AllZip}
 use Rattle.cal_agg.specs.Numbers.{IsWithin}
 use Rattle.cal_context.specs.Snapshots.{IsBelowRoot}
@@ -9,7 +9,6 @@ use Rattle.cal_filter.specs.Named.{HasSmallNumbers}
 use Rattle.cal_nodes.specs.Numbers.{number_in}
 use Rattle.cal_profile.specs.TableRows.{KeyedRow}
 use Rattle.cal_snap.specs.Numbered.{IsKnown, entry_of}
-use Rattle.cal_snap.specs.declared.numbered.NumberedEntry.{NumberedEntry}
 use Rattle.cal_table.specs.Rows.{Row}
 use Rattle.cal_value.specs.declared.attribute.Entry.{Entry}
 use Rattle.cal_words.specs.declared.node.NodeId.{NodeId}

@@ -72,7 +72,9 @@ impl ResultColumns {
         requires small { HasSmallNumbers (record_of context.now nodes.now imms.old.items) }
         ensures { OnOk result (Appends context.now imms.old.items imms.new.items
             (row_entries channel.now (record {
-            key = record_of context.now nodes.now imms.old.items; held = held.now }))) }
+              key = record_of context.now nodes.now imms.old.items;
+              held = held.now;
+            }))) }
     {
         let before = imms.as_slice();
         let own = before.len();
@@ -92,7 +94,9 @@ impl ResultColumns {
 
     fn push_count(&self, count: i128, imms: &mut Vec<Immediate>) -> Result<(), OutOfMemory>
         ensures { OnOk result (imms.new.items ≡ imms.old.items ++ record {
-            attribute = self.now.count; value = Variant.Int count } ∷ []) }
+          attribute = self.now.count;
+          value = Variant.Int count;
+        } ∷ []) }
     {
         let attribute = self.count;
         imms.push(Immediate {
@@ -136,11 +140,7 @@ fn columns_of(
 }
 
 /// Who finds the last number of each value attribute, in their order.
-fn seekers_of(
-    alloc: Global,
-    values: &[Text],
-    context: &Context,
-) -> Result<Vec<Seeker>, OutOfMemory>
+fn seekers_of(alloc: Global, values: &[Text], context: &Context) -> Result<Vec<Seeker>, OutOfMemory>
     ensures { IfOk result (λ seekers. AllZip (Finds context.now) values.now seekers.items) }
 {
     let mut seekers = Vec::with_capacity(alloc, values.len())?;

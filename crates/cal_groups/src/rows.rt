@@ -77,12 +77,6 @@ fn fill(
         → meaning context.now snapshot.new ≡ row_record channel.now keyed) }
 {
     put_key(alloc, nodes, key, snapshot)?;
-    columns.push_results(
-        channel,
-        context,
-        held,
-        &snapshot.nodes,
-        &mut snapshot.imms,
-    )?;
+    columns.push_results(channel, context, held, &snapshot.nodes, &mut snapshot.imms)?;
     Ok(())
 }

@@ -1,8 +1,6 @@
-use Rattle.std.proofs.Common.{sym, ap, ◌∙◌}
-use Rattle.std.specs.Prelude.{option_and_then}
+use Rattle.std.proofs.Common.{sym}
 use Rattle.cal_filter.proofs.OperandLemmas.{sought_small}
 use Rattle.cal_filter.specs.Known.{sought}
-use Rattle.cal_filter.specs.Numbers.{number_in}
 use Rattle.cal_groups.proofs.columns.known_number.Goals as goal
 use Rattle.cal_groups.specs.Appended.{record_of}
 

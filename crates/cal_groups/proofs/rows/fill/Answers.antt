@@ -29,7 +29,9 @@ pub push_results-requires-clause-imms : goal.push_results-requires-clause-imms
 push_results-requires-clause-imms c =
     let row = c.requires.row in
     let put = c.in_ok-put_key.ensures in
-    (key_put c.args.nodes.now c.args.context.now _ row.keyed _ _ row.means put.nodes put.imms).within
+    let key = key_put c.args.nodes.now c.args.context.now _ row.keyed _ _ row.means put.nodes
+    put.imms in
+    key.within
 
 pub push_results-requires-clause-small : goal.push_results-requires-clause-small
 push_results-requires-clause-small c =

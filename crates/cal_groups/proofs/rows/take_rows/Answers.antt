@@ -1,4 +1,4 @@
-use Rattle.std.proofs.Common.{List, [], ◌∷◌, ◌<◌, length, get_or, map, subst, sym, ap, ◌∙◌, arith}
+use Rattle.std.proofs.Common.{List, [], ◌∷◌, ◌<◌, length, map, subst, sym, arith}
 use Rattle.std.proofs.lemmas.List.{map_more, take_all}
 use Rattle.cal_context.proofs.CallerLemmas.{TakesMore-trans}
 use Rattle.cal_context.specs.Taking.{TakesMore}

@@ -1,5 +1,6 @@
-use Rattle.std.proofs.Common.{◌≡◌, ◌+◌, ◌<◌, ◌≤◌, List, ℕ, [], ◌∷◌, length, get_or, min, take, ap, subst, sym, ◌∙◌, arith}
-use Rattle.std.specs.List.{All, AllZip, flat_map, zip}
+use Rattle.std.proofs.Common.{◌<◌, List, ℕ, [], ◌∷◌, length, get_or, take, ap, subst, sym, ◌∙◌}
+use Rattle.std.proofs.Common.{arith}
+use Rattle.std.specs.List.{All, AllZip, flat_map}
 use Rattle.std.specs.Prelude.{codes}
 use Rattle.cal_agg.specs.Numbers.{IsWithin}
 use Rattle.cal_agg.specs.declared.cell.Cell.{Cell}
