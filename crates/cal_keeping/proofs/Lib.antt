@@ -1,0 +1,5 @@
+pub mod FlushedLines
+pub mod KeptLines
+pub mod KeptPlaces
+pub mod SteppedRunners
+pub mod StartedRunners

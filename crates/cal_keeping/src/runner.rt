@@ -9,7 +9,7 @@ ghost use Rattle.cal_words.specs.declared.op.OpRec as words;
 
 use crate::Channels;
 use cal_base::{Clock, Gate};
-use cal_replay::{Shared, Worker};
+use cal_replay::{Shared, Worker, shown_at_start_law, shown_lines_law, told_step_law};
 use cal_value::OutOfMemory;
 use std::alloc::Global;
 
@@ -33,6 +33,7 @@ impl<'a> Runner<'a> {
         ensures asked { Asked K.given clock.old clock.new
             (off_clock shared.now.real self.new.worker.note.start) }
     {
+        shown_at_start_law();
         self.worker.start(shared, clock);
         let reading = self.worker.note.start.unwrap_or(0);
         self.channels.start(reading);
@@ -58,6 +59,8 @@ impl<'a> Runner<'a> {
         ensures more { IfOk result (λ more. more ≡ nat_lt (length self.new.worker.note.lines)
             (length (lines_of (script_of shared.now) self.old.worker.thread.number))) }
     {
+        told_step_law();
+        shown_lines_law();
         let more = self
             .worker
             .step(alloc, shared, clock, gate, &mut self.channels)?;

@@ -28,6 +28,7 @@ use Rattle.cal_run.specs.Lawful.{IsRead}
 use Rattle.cal_run.specs.Lines.{is_process_line, takes}
 use Rattle.cal_run.specs.Steps.{ThreadState, changed, found_reply, is_accepted, looks}
 use Rattle.cal_run.specs.Steps.{reading_of, reply_to_line, state_after}
+use Rattle.cal_script.specs.Valid.{IsFlushed, IsPlaced}
 use Rattle.cal_script.specs.declared.journal.LineNote.{LineNote}
 use Rattle.cal_script.specs.declared.journal.Placed.{Placed}
 use Rattle.cal_script.specs.declared.journal.Reply as replies
@@ -108,6 +109,19 @@ module _ {F : Type 0} (flushed : F → F → ℕ → replies.Reply → Type 0) (
   flush-flushes new (line.Flush c) there channel is given done =
       subst (λ (n : ℕ). flushed old new n given) (is c refl) done
   flush-flushes new (line.Tick n) there channel is given done = absurd cc
+
+-- and the channel of a flush line, as it is placed, is what a flush may ask for
+pub flush-placed : (script : Script) (l : lines.Line) → HasReply l None → (channel : ℕ)
+    → ((c : ℕ) → l ≡ line.Flush c → channel ≡ c)
+    → IsPlaced script.attributes script.channels script.values l
+    → IsFlushed script.channels channel
+flush-placed script (line.Begin a v) there channel is placed = absurd cc
+flush-placed script (line.End a) there channel is placed = absurd cc
+flush-placed script (line.Set a v) there channel is placed = absurd cc
+flush-placed script line.Snapshot there channel is placed = absurd cc
+flush-placed script (line.Flush c) there channel is placed =
+    subst (IsFlushed script.channels) (sym (is c refl)) placed
+flush-placed script (line.Tick n) there channel is placed = absurd cc
 
 -- the reply that was given is noted
 pub given-noted : (script : Script) (history : List Placed) (t : Thread) (done seen : ℕ)

@@ -1,14 +1,16 @@
--- What a channel has taken, with a line more, a part less, and a seat that has learned.
+-- What a channel has taken: before the first line, with a line more, a part less, and a seat that
+-- has learned.
 use Rattle.std.proofs.Common.{◌≡◌, ℕ, Bool, List, [], ◌∷◌, ◌++◌, sym, ap, ◌∙◌, subst}
-use Rattle.std.proofs.Common.{append_assoc, arith, if◌then◌else◌}
-use Rattle.std.specs.Prelude.{Some, ◌&&◌}
+use Rattle.std.proofs.Common.{append_assoc, arith, if◌then◌else◌, refl}
+use Rattle.std.specs.Prelude.{Option, Some, ◌&&◌, unwrap_or}
 use Rattle.std.proofs.lemmas.List.{append-nil, length-map, map-append}
 use Rattle.std.proofs.lemmas.Slice.Zip.{all_zipped_more}
 use Rattle.cal_board.proofs.StandingLemmas.{AllZip-weaken}
 use Rattle.cal_board.specs.Blackboard.{Blackboard}
-use Rattle.cal_channel.proofs.LawLemmas.{counts-later, part-counts, part-left, taken-later}
+use Rattle.cal_channel.proofs.LawLemmas.{counts-later, nothing-taken, part-counts, part-left}
+use Rattle.cal_channel.proofs.LawLemmas.{started-taken, taken-later}
 use Rattle.cal_channel.specs.Channels.{Counts, HasTaken}
-use Rattle.cal_channel.specs.Values.{ChannelValue, with_table}
+use Rattle.cal_channel.specs.Values.{ChannelValue, new_channel, started_at, with_table}
 use Rattle.cal_notes.proofs.Taken.{previous-next, taken-next}
 use Rattle.cal_notes.specs.Notes.{KeepsRules}
 use Rattle.cal_notes.specs.Running.{previous_behind, state_behind, with_line}
@@ -35,6 +37,7 @@ use Rattle.cal_script.specs.declared.script.Channel.{Channel}
 use Rattle.cal_script.specs.declared.script.Line.{Line}
 use Rattle.cal_script.specs.declared.script.Script.{Script}
 use Rattle.cal_table.specs.Tables.{TableValue, empty_table}
+use Rattle.cal_table.specs.declared.shape.TableShape.{TableShape}
 use Rattle.cal_thread.specs.declared.thread.Thread.{Thread}
 use Rattle.cal_value.specs.declared.attribute.Attribute.{Attribute}
 use Rattle.cal_value.specs.declared.record.Rec.{Rec}
@@ -51,6 +54,22 @@ joined-more (p ∷ ps) part =
     ∙ sym (append_assoc p (joined ps) part)
 
 module _ (common : Common) (attributes : List Attribute) where
+  -- before the first line
+  pub shown-at-start : (seat : RowSeat NodeSort) (note : ThreadNote) (channel : Channel)
+      (has_trace : Bool) (shape : Option TableShape)
+      → HasShownLines common attributes seat [] [] note channel
+      (started_at (new_channel has_trace shape) (unwrap_or note.start 0)) []
+  shown-at-start seat note channel has_trace shape = record {
+    flushed = [];
+    unflushed = [];
+    whole = refl;
+    parts = tt;
+    taken = started-taken attributes common.script.now common.tree seat
+        (new_channel has_trace shape) (unwrap_or note.start 0) [] []
+        (nothing-taken attributes common.script.now common.tree seat has_trace shape);
+    previous = refl;
+  }
+
   -- a part that was merged
   pub shown-merged : (seat : RowSeat NodeSort) (c : ChannelValue) (part : TableValue)
       (given : List TableValue) (all : List Rec) (last : ℕ) → c.table ≡ Some part

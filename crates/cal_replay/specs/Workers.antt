@@ -1,7 +1,7 @@
 -- What a worker keeps between two lines: its thread, as the plain meaning of a run has it, and
 -- notes that keep the rules of journals.
-use Rattle.std.specs.Prelude.{◌≡◌, ℕ, List, [], length, take, slice_index_or}
-use Rattle.cal_notes.specs.Running.{HasNoted, state_behind}
+use Rattle.std.specs.Prelude.{◌≡◌, ℕ, List, [], None, length, take, slice_index_or}
+use Rattle.cal_notes.specs.Running.{HasNoted, started, state_behind}
 use Rattle.cal_process.specs.Operations.{history_of}
 use Rattle.cal_process.specs.Replicas.{IsCommon}
 use Rattle.cal_replay.specs.declared.shared.Shared.{Shared}
@@ -40,7 +40,7 @@ module _ (shared : Shared) where
   pub record IsHired (w : Worker) : Type 0 where
     pub thread : IsThread shared.common w.thread 0 [] at_start
     pub timed : w.thread.timed ≡ shared.timers.some
-    pub noted : w.note.lines ≡ []
+    pub noted : w.note ≡ started None
 
   -- A worker between two lines: its thread has seen exactly these operations, with which the
   -- history begins, and has the state that the plain meaning of a run gives it by them; and its

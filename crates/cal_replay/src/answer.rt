@@ -1,6 +1,7 @@
 //! What a line is answered.
 ghost use Rattle.std.specs.Prelude.{◌≡◌, ℕ, Bool, IfOk, OnOk};
 ghost use Rattle.cal_replay.specs.Steps.{Flushes, HasReply, IsGiven};
+ghost use Rattle.cal_script.specs.Valid.{IsPlaced};
 ghost use Rattle.cal_script.specs.declared.script.Line.TheVariants as line_is;
 ghost use Rattle.cal_script.specs.declared.script.Script as scripts;
 
@@ -21,7 +22,10 @@ pub(crate) fn reply_or_flush<F: Keeper>(
     found: Option<Reply>,
     keeper: &mut F,
 ) -> Result<Reply, OutOfMemory>
-    requires { HasReply line found }
+    requires found { HasReply line found }
+    requires ready { (script : scripts.Script) × (timed : Bool) × (left : ℕ)
+        × F.ready script keeper.old timed left
+        × IsPlaced script.attributes script.channels script.values line }
     ensures reply { IfOk result (IsGiven (F.thread keeper.old) found) }
     ensures flushes { IfOk result (Flushes F.flushed keeper.old keeper.new line) }
     ensures ready { OnOk result ((script : scripts.Script) (timed : Bool) (left : ℕ)

@@ -16,7 +16,7 @@ pub trait Keeper {
     ghost use Rattle.cal_replay.specs.Showing.{IsSaid, OnlyReads};
     ghost use Rattle.cal_replay.specs.declared.showing.ShownLine as shown_lines;
     ghost use Rattle.cal_run.specs.Steps.{ThreadState};
-    ghost use Rattle.cal_script.specs.Valid.{IsPlaced};
+    ghost use Rattle.cal_script.specs.Valid.{IsFlushed, IsPlaced};
     ghost use Rattle.cal_script.specs.declared.journal.Reply as replies;
     ghost use Rattle.cal_script.specs.declared.script.Script as scripts;
     ghost use Rattle.cal_thread.specs.Threads.{HasState};
@@ -61,8 +61,11 @@ pub trait Keeper {
         ensures thread { OnOk result (thread self.new ≡ thread self.old) };
 
     /// Flushes what a channel holds, by its number in the script, and says whether it was merged,
-    /// or with which other thread the book was busy. An `Err` is want of memory.
+    /// or with which other thread the book was busy. The channel aggregates, in a script whose lines
+    /// may be shown. An `Err` is want of memory.
     fn flush(&mut self, channel: u32) -> Result<Reply, OutOfMemory>
+        requires ready { (script : scripts.Script) × (timed : Bool) × (left : ℕ)
+            × ready script self.old timed left × IsFlushed script.channels channel }
         ensures reply { IfOk result (IsFlushNote (thread self.old)) }
         ensures flushed { IfOk result (flushed self.old self.new channel) }
         ensures ready { OnOk result ((script : scripts.Script) (timed : Bool) (left : ℕ)

@@ -1,5 +1,7 @@
 //! The running threads of a replay: a worker is a running thread with the notes of its lines.
 //!
+//!     while worker.has_more(&shared) { worker.step(..)?; }
+//!
 //! `step` runs a worker's next line, over the tree and the history that all workers share. The
 //! layer above uses that each line with its note keeps the rules of journals by what its thread has
 //! seen of the history, whatever other threads append meanwhile, that a clock was asked for just the
@@ -27,5 +29,5 @@ pub use flushing::flush;
 pub use keeper::Keeper;
 pub use shared::Shared;
 pub use showing::{ShownLine, show};
-pub use shown_laws::{shown_as_noted_law, shown_lines_law, told_step_law};
+pub use shown_laws::{shown_as_noted_law, shown_at_start_law, shown_lines_law, told_step_law};
 pub use worker::Worker;

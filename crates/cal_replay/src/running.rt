@@ -39,8 +39,9 @@ impl Worker {
         Ok(())
     }
 
-    /// Whether lines remain.
-    fn has_more(&self, shared: &Shared<'_>) -> bool
+    /// Whether lines remain, so that the worker may be stepped; a thread may have no line at all.
+    /// It takes no memory.
+    pub fn has_more(&self, shared: &Shared<'_>) -> bool
         ensures { result ≡ nat_lt (length self.now.note.lines)
             (length (lines_of (script_of shared.now) self.now.thread.number)) }
     {

@@ -1,7 +1,7 @@
 //! The laws of what channels have taken. Nothing here is ever run.
 ghost use Rattle.std.specs.Prelude.{◌≡◌, ℕ, ◌+◌, Bool, true, false, List, [], ◌∷◌, ◌++◌};
-ghost use Rattle.std.specs.Prelude.{Option, Some, length};
-ghost use Rattle.cal_channel.specs.Values.{ChannelValue, with_table};
+ghost use Rattle.std.specs.Prelude.{Option, Some, length, unwrap_or};
+ghost use Rattle.cal_channel.specs.Values.{ChannelValue, new_channel, started_at, with_table};
 ghost use Rattle.cal_notes.specs.Notes.{KeepsRules};
 ghost use Rattle.cal_notes.specs.Running.{state_behind, with_line};
 ghost use Rattle.cal_once.specs.Seats.{view};
@@ -26,6 +26,7 @@ ghost use Rattle.cal_script.specs.declared.journal.Reply.{Reply};
 ghost use Rattle.cal_script.specs.declared.script.Channel.{Channel};
 ghost use Rattle.cal_script.specs.declared.script.Line.{Line};
 ghost use Rattle.cal_table.specs.Tables.{TableValue, empty_table};
+ghost use Rattle.cal_table.specs.declared.shape.TableShape.{TableShape};
 ghost use Rattle.cal_thread.specs.Lines.{MeetsOwn, MeetsShared};
 ghost use Rattle.cal_thread.specs.Threads.{HasState};
 ghost use Rattle.cal_thread.specs.declared.looking.Met.{Met};
@@ -34,6 +35,16 @@ ghost use Rattle.cal_value.specs.declared.attribute.Attribute.{Attribute};
 ghost use Rattle.cal_value.specs.declared.record.Rec.{Rec};
 ghost use Rattle.cal_words.specs.declared.op.OpRec.{OpRec};
 ghost use Rattle.cal_words.specs.declared.sort.NodeSort.{NodeSort};
+
+/// The law of the start: before a thread's first line a channel that was made, and started with the
+/// thread's start reading, has taken what the plain meaning of a run takes of no lines, and nothing
+/// of it was given.
+pub fn shown_at_start_law()
+    ensures { (common : Common) (attributes : List Attribute) (seat : RowSeat NodeSort)
+        (note : ThreadNote) (channel : Channel) (has_trace : Bool) (shape : Option TableShape)
+        → HasShownLines common attributes seat [] [] note channel
+        (started_at (new_channel has_trace shape) (unwrap_or note.start 0)) [] }
+{}
 
 /// The law of shown lines: a channel that was shown a line more has taken what the plain meaning of
 /// a run takes of the lines with that one, by all that the thread has seen then; a part that is

@@ -18,8 +18,8 @@ use cal_value::OutOfMemory;
 use std::alloc::Global;
 
 impl Worker {
-    /// Runs the next line and notes it, when the gate has let it pass, and answers whether lines
-    /// remain. Behind an `Err` the worker may not be stepped again.
+    /// Runs the next line and notes it, and answers whether lines remain. It passes the gate first,
+    /// of which no clause speaks. Behind an `Err` the worker may not be stepped again.
     pub fn step<K: Clock, G: Gate, F: Keeper>(
         &mut self,
         alloc: Global,

@@ -45,7 +45,7 @@ impl Worker {
         requires worker { IsHired shared.now self.old }
         ensures worker { IsWorker shared.now self.new [] }
         ensures noted { self.new.note.lines ≡ [] }
-        ensures number { self.new.thread.number ≡ self.old.thread.number }
+        ensures thread { self.new.thread ≡ self.old.thread }
         ensures asked { Asked K.given clock.old clock.new
             (off_clock shared.now.real self.new.note.start) }
     {

@@ -40,8 +40,8 @@ show-requires-clause-ready g c =
           (r.0 + 1)) (sym c.in_ok-met.ensures.timed) r.1,
     )
 
-pub reply_or_flush-requires : goal.reply_or_flush-requires
-reply_or_flush-requires g c =
+pub reply_or_flush-requires-clause-found : goal.reply_or_flush-requires-clause-found
+reply_or_flush-requires-clause-found g c =
     let t = c.requires.thread in
     let m = c.in_ok-met.ensures.meets t.0 t.1 t.2 t.3 in
     let script = script_of c.args.shared.now in
@@ -49,6 +49,18 @@ reply_or_flush-requires g c =
     let note : LineNote = record { reply = reply.Done; seen = 0; reading = None } in
     subst (HasReply line) (m.found note)
     (replies-there script (acted_on script (history_of (t.1 ++ m.ops)) line note t.2) line)
+
+pub reply_or_flush-requires-clause-ready : goal.reply_or_flush-requires-clause-ready
+reply_or_flush-requires-clause-ready g c =
+    let r = c.requires.ready in
+    let ready = subst (λ (b : Bool). g.F.Keeper.ready (script_of c.args.shared.now)
+    c.args.keeper.now b (r.0 + 1)) (sym c.in_ok-met.ensures.timed) r.1 in (
+      script_of c.args.shared.now,
+      c.look.new.self.timed,
+      r.0,
+      c.in_ok-show.ensures.ready r.0 ready,
+      c.requires.placed,
+    )
 
 pub returns-clause-runs : goal.returns-clause-runs
 returns-clause-runs g c = (

@@ -1,0 +1,175 @@
+-- A runner that was started: nothing is taken, nothing flushed.
+use Rattle.std.proofs.Common.{◌≡◌, ℕ, ◌<◌, List, [], ◌++◌, Bool, length, map, take}
+use Rattle.std.proofs.Common.{◌-◌, ⊥, ap, ◌∙◌, sym, subst, arith}
+use Rattle.std.specs.Prelude.{Option, Some, IfSome, is_some, slice_get, unwrap_or}
+use Rattle.std.proofs.lemmas.List.{length-map}
+use Rattle.cal_book.proofs.Lists.{at_map}
+use Rattle.cal_book.specs.Accounts.{blank}
+use Rattle.cal_book.specs.Seats.{view}
+use Rattle.cal_book.specs.declared.view.Account.{Account}
+use Rattle.cal_channel.specs.Values.{ChannelValue, new_channel, started_at}
+use Rattle.cal_keeping.specs.Kept.{AreFresh, AreReady, IsFresh, IsReady}
+use Rattle.cal_keeping.specs.Runners.{HasKept, HaveKept, IsHiredRunner, IsRunner, SameServices}
+use Rattle.cal_keeping.specs.Runners.{lines_left}
+use Rattle.cal_keeping.specs.declared.channels.Channels.{Channels}
+use Rattle.cal_keeping.specs.declared.runner.Runner.{Runner}
+use Rattle.cal_notes.specs.Together.{HasFlushed, WasFlushed}
+use Rattle.cal_once.specs.declared.seat.RowSeat.{RowSeat}
+use Rattle.cal_process.specs.declared.common.Common.{Common}
+use Rattle.cal_replay.specs.Channels.{HasShownLines}
+use Rattle.cal_replay.specs.Flushing.{BookOf, SeatOf}
+use Rattle.cal_replay.specs.Workers.{IsWorker, lines_done, lines_of, script_of}
+use Rattle.cal_replay.specs.declared.shared.Shared.{Shared}
+use Rattle.cal_replay.specs.declared.worker.Worker.{Worker}
+use Rattle.cal_run.specs.Numbers.{AreNamedInSome}
+use Rattle.cal_script.specs.declared.journal.LineNote.{LineNote}
+use Rattle.cal_script.specs.declared.journal.Reply as replies
+use Rattle.cal_script.specs.declared.journal.Reply.TheVariants as reply
+use Rattle.cal_script.specs.declared.journal.ThreadNote.{ThreadNote}
+use Rattle.cal_script.specs.declared.script.Channel.{Channel}
+use Rattle.cal_script.specs.declared.script.Line.{Line}
+use Rattle.cal_script.specs.declared.script.Script.{Script}
+use Rattle.cal_table.specs.Tables.{TableValue}
+use Rattle.cal_table.specs.declared.shape.TableShape.{TableShape}
+use Rattle.cal_thread.specs.declared.thread.Thread.{Thread}
+use Rattle.cal_value.specs.declared.attribute.Attribute.{Attribute}
+use Rattle.cal_words.specs.declared.op.OpRec.{OpRec}
+use Rattle.cal_words.specs.declared.sort.NodeSort.{NodeSort}
+
+-- what the law of the start says, of `cal_replay`
+abbrev pub StartLaw : Type 0
+StartLaw = (common : Common) (attributes : List Attribute) (seat : RowSeat NodeSort)
+    (note : ThreadNote) (channel : Channel) (has_trace : Bool) (shape : Option TableShape)
+    → HasShownLines common attributes seat [] [] note channel
+    (started_at (new_channel has_trace shape) (unwrap_or note.start 0)) []
+
+-- no line is done where none is noted
+pub none-done : (script : Script) (w : Worker) → w.note.lines ≡ [] → lines_done script w ≡ []
+none-done script w none =
+    ap (λ (ns : List LineNote). take (length ns) (lines_of script w.thread.number)) none
+
+module _ (shared : Shared) (old new : Runner) (reading : ℕ) (law : StartLaw)
+    (hired : IsHiredRunner shared old)
+    (worker : IsWorker shared new.worker [])
+    (noted : new.worker.note.lines ≡ [])
+    (thread : new.worker.thread ≡ old.worker.thread)
+    (reading_is : reading ≡ unwrap_or new.worker.note.start 0)
+    (started : new.channels.channels.items
+    ≡ map (λ (c : ChannelValue). started_at c reading) old.channels.channels.items)
+    (same : new.channels ≡ record old.channels { channels = new.channels.channels }) where
+  abbrev script : Script
+  script = script_of shared
+
+  abbrev done : List Line
+  done = lines_done script new.worker
+
+  done-none : done ≡ []
+  done-none = none-done script new.worker noted
+
+  -- ---- each channel
+
+  module _ (place : ℕ) (c : ChannelValue) (seat : SeatOf)
+      (channel_at : slice_get new.channels.channels.items place ≡ Some c)
+      (seat_at : slice_get new.channels.seats.items place ≡ Some seat) where
+    was : (b : ChannelValue) × (slice_get old.channels.channels.items place ≡ Some b)
+        × (started_at b reading ≡ c)
+    was = at_map (λ (b : ChannelValue). started_at b reading) old.channels.channels.items place c
+        (subst (λ (cs : List ChannelValue). slice_get cs place ≡ Some c) started channel_at)
+
+    seat-was : slice_get old.channels.seats.items place ≡ Some seat
+    seat-was = subst (λ (k : Channels). slice_get k.seats.items place ≡ Some seat) same seat_at
+
+    module _ (channel : Channel) (at : slice_get script.channels place ≡ Some channel) where
+      fresh : IsFresh channel was.0 seat
+      fresh = hired.fresh place channel was.0 seat at was.1 seat-was
+
+      channel-is : started_at (new_channel channel.trace fresh.shape)
+          (unwrap_or new.worker.note.start 0) ≡ c
+      channel-is = ap (started_at (new_channel channel.trace fresh.shape)) (sym reading_is)
+          ∙ ap (λ (b : ChannelValue). started_at b reading) (sym fresh.made) ∙ was.2
+
+      nothing-given : (view seat).account.given ≡ []
+      nothing-given = ap (λ (a : Account TableValue). a.given) fresh.nothing
+
+      nothing-flushed : (answer : replies.Reply) → HasFlushed place answer done new.worker.note → ⊥
+      nothing-flushed answer f =
+          let g = subst (λ (ls : List Line). HasFlushed place answer ls new.worker.note) done-none f
+          in omega (arith, g.2)
+
+      shown : (attributes : List Attribute) → HasShownLines shared.common attributes
+          new.worker.thread.tree [] done new.worker.note channel c (view seat).account.given
+      shown attributes =
+          let common = shared.common in
+          let tree = new.worker.thread.tree in
+          let note = new.worker.note in
+          subst (λ (ls : List Line). HasShownLines common attributes tree [] ls note channel c
+          (view seat).account.given) (sym done-none)
+          (subst (λ (ts : List TableValue). HasShownLines common attributes tree [] [] note channel
+          c ts) (sym nothing-given)
+          (subst (λ (b : ChannelValue). HasShownLines common attributes tree [] [] note channel b [])
+          channel-is (law common attributes tree note channel channel.trace fresh.shape)))
+
+      kept : (attributes : List Attribute)
+          → HasKept shared attributes new.worker [] place channel c (view seat)
+      kept attributes = record {
+        shown = shown attributes;
+        busy = λ holder f. absurd (nothing-flushed (reply.Busy holder) f);
+        merged = λ some.
+            let none = ap (λ (ts : List TableValue). length ts) nothing-given in
+            absurd (omega (arith, some, none));
+        turns = ap (λ (a : Account TableValue). a.given_up) fresh.nothing;
+      }
+
+      ready-each : (left : ℕ) (book : BookOf)
+          → AreReady script old.channels shared.timers.some left
+          → slice_get new.channels.books.now place ≡ Some book
+          → IsReady new.channels.thread left channel book c seat
+      ready-each left book r book_at =
+          let was-ready = r.each place channel book was.0 seat at
+          (subst (λ (k : Channels). slice_get k.books.now place ≡ Some book) same book_at)
+          was.1 seat-was in
+          subst (λ (t : ℕ). IsReady t left channel book c seat)
+          (λ i. (sym same i).thread)
+          (subst (λ (b : ChannelValue). IsReady old.channels.thread left channel book b seat) was.2
+          (record {
+            seat_is = was-ready.seat_is;
+            own = was-ready.own;
+            traces = was-ready.traces;
+            aggregates = was-ready.aggregates;
+            made = was-ready.made;
+            few = was-ready.few;
+          }))
+
+  -- ---- all of them
+
+  left-same : lines_left shared old.worker ≡ lines_left shared new.worker
+  left-same =
+      let none = ap (λ (n : ThreadNote). n.lines) hired.worker.noted in
+      ap (λ (t : Thread). length (lines_of script t.number) - length old.worker.note.lines)
+      (sym thread)
+      ∙ ap (λ (ns : List LineNote). length (lines_of script new.worker.thread.number) - length ns)
+      (none ∙ sym noted)
+
+  are-ready : (left : ℕ) → AreReady script old.channels shared.timers.some left
+      → AreReady script new.channels shared.timers.some left
+  are-ready left r = record {
+    named = subst (λ (k : Channels). AreNamedInSome script k.numbers.now) (sym same) r.named;
+    many = ap (λ (cs : List ChannelValue). length cs) started
+        ∙ length-map old.channels.channels.items (λ (c : ChannelValue). started_at c reading)
+        ∙ r.many;
+    seats = (λ i. length (same i).seats.items) ∙ r.seats;
+    books = (λ i. length (same i).books.now) ∙ r.books;
+    timed_is = r.timed_is;
+    each = λ place channel book c seat at book_at channel_at seat_at.
+        ready-each place c seat channel_at seat_at channel at left book r book_at;
+  }
+
+  pub runner-started : IsRunner shared new []
+  runner-started = record {
+    worker = worker;
+    kept = λ attributes named place channel c seat at channel_at seat_at.
+        kept place c seat channel_at seat_at channel at attributes;
+    thread = (λ i. (same i).thread) ∙ hired.thread ∙ (λ i. (sym thread i).number);
+    ready = subst (AreReady script new.channels shared.timers.some) left-same
+        (are-ready (lines_left shared old.worker) hired.ready);
+  }
