@@ -1,5 +1,5 @@
 //! All of a run before its threads.
-ghost use Rattle.std.specs.Prelude.{◌≡◌, ◌×◌, ◌≤◌, IfOk, length};
+ghost use Rattle.std.specs.Prelude.{◌≤◌, ◌≡◌, IfOk, length};
 ghost use Rattle.cal_script.specs.Valid.{IsRunnable};
 ghost use Rattle.cal_start.specs.FirstSeats.{AreFirstSeats, HaveHired};
 ghost use Rattle.cal_start.specs.Runs.{AreBooks, IsRunOf, shapes_for};

@@ -1,0 +1,3 @@
+mod PlacedSeats
+mod ManyRunners
+mod ScriptLimits
