@@ -1,7 +1,7 @@
 -- What a line leaves at each place of a thread's channels: of a flush one place is another, and of
 -- another line none.
 use Rattle.std.proofs.Common.{◌≡◌, ◌≢◌, ◌⊎◌, ℕ, List, inl, inr, ⊎_elim}
-use Rattle.std.proofs.Common.{⊥, ap, ◌∙◌, sym, subst}
+use Rattle.std.proofs.Common.{ap, ◌∙◌, sym, subst}
 use Rattle.std.specs.Prelude.{Some, slice_get, slice_set}
 use Rattle.cal_book.proofs.Lists.{at_set}
 use Rattle.cal_book.specs.Seats.{view}
@@ -15,7 +15,7 @@ use Rattle.cal_script.specs.declared.script.Line as lines
 use Rattle.cal_script.specs.declared.script.Line.TheVariants as line
 use Rattle.cal_table.specs.Tables.{TableValue}
 
-module _ (had : Channels) (l : lines.Line) (place : ℕ) (c : ChannelValue) (seat : SeatOf) where
+module _ {P : Type 0} (had : Channels P) (l : lines.Line) (place : ℕ) (c : ChannelValue) (seat : SeatOf) where
   -- the line was no flush of the channel, which was so before
   pub record IsLeft : Type 0 where
     pub other : l ≡ line.Flush place → ⊥
@@ -33,15 +33,15 @@ module _ (had : Channels) (l : lines.Line) (place : ℕ) (c : ChannelValue) (sea
     pub part_is : was.table ≡ Some part
     pub flushed : Flushed (view seat_was) (view seat) was c part answer
 
-module _ (had has : Channels) (place : ℕ) (c : ChannelValue) (seat : SeatOf)
+module _ {P : Type 0} (had has : Channels P) (place : ℕ) (c : ChannelValue) (seat : SeatOf)
     (channel_at : slice_get has.channels.items place ≡ Some c)
     (seat_at : slice_get has.seats.items place ≡ Some seat) where
   untouched : (l : lines.Line) → (l ≡ line.Flush place → ⊥) → has ≡ had
       → IsLeft had l place c seat
   untouched l other same = record {
     other = other;
-    channel_at = subst (λ (k : Channels). slice_get k.channels.items place ≡ Some c) same channel_at;
-    seat_at = subst (λ (k : Channels). slice_get k.seats.items place ≡ Some seat) same seat_at;
+    channel_at = subst (λ (k : Channels P). slice_get k.channels.items place ≡ Some c) same channel_at;
+    seat_at = subst (λ (k : Channels P). slice_get k.seats.items place ≡ Some seat) same seat_at;
   }
 
   module _ (flushed : ℕ) (answer : replies.Reply) (f : IsFlushedAt had has flushed answer) where

@@ -1,3 +1,5 @@
+mod FreshChannels
+mod KeptChannels
 pub mod FlushedLines
 pub mod KeptLines
 pub mod KeptPlaces

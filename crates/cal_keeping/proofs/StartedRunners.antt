@@ -1,6 +1,6 @@
 -- A runner that was started: nothing is taken, nothing flushed.
 use Rattle.std.proofs.Common.{◌≡◌, ℕ, ◌<◌, List, [], ◌++◌, Bool, length, map, take}
-use Rattle.std.proofs.Common.{◌-◌, ⊥, ap, ◌∙◌, sym, subst, arith}
+use Rattle.std.proofs.Common.{◌-◌, ap, ◌∙◌, sym, subst, arith}
 use Rattle.std.specs.Prelude.{Option, Some, IfSome, is_some, slice_get, unwrap_or}
 use Rattle.std.proofs.lemmas.List.{length-map}
 use Rattle.cal_book.proofs.Lists.{at_map}
@@ -48,7 +48,15 @@ pub none-done : (script : Script) (w : Worker) → w.note.lines ≡ [] → lines
 none-done script w none =
     ap (λ (ns : List LineNote). take (length ns) (lines_of script w.thread.number)) none
 
-module _ (shared : Shared) (old new : Runner) (reading : ℕ) (law : StartLaw)
+pub started-same : {P : Type 0} (old new : Channels P)
+    → new ≡ record old { channels = new.channels } → SameServices old new
+started-same old new same = record {
+  thread = λ i. (same i).thread;
+  numbers = λ i. (same i).numbers;
+  books = λ i. (same i).books;
+}
+
+module _ {P : Type 0} (shared : Shared) (old new : Runner P) (reading : ℕ) (law : StartLaw)
     (hired : IsHiredRunner shared old)
     (worker : IsWorker shared new.worker [])
     (noted : new.worker.note.lines ≡ [])
@@ -77,7 +85,7 @@ module _ (shared : Shared) (old new : Runner) (reading : ℕ) (law : StartLaw)
         (subst (λ (cs : List ChannelValue). slice_get cs place ≡ Some c) started channel_at)
 
     seat-was : slice_get old.channels.seats.items place ≡ Some seat
-    seat-was = subst (λ (k : Channels). slice_get k.seats.items place ≡ Some seat) same seat_at
+    seat-was = subst (λ (k : Channels P). slice_get k.seats.items place ≡ Some seat) same seat_at
 
     module _ (channel : Channel) (at : slice_get script.channels place ≡ Some channel) where
       fresh : IsFresh channel was.0 seat
@@ -126,10 +134,10 @@ module _ (shared : Shared) (old new : Runner) (reading : ℕ) (law : StartLaw)
           → IsReady new.channels.thread left channel book c seat
       ready-each left book r book_at =
           let was-ready = r.each place channel book was.0 seat at
-          (subst (λ (k : Channels). slice_get k.books.now place ≡ Some book) same book_at)
+          (subst (λ (k : Channels P). slice_get k.books.now place ≡ Some book) same book_at)
           was.1 seat-was in
           subst (λ (t : ℕ). IsReady t left channel book c seat)
-          (λ i. (sym same i).thread)
+          (ap (λ (k : Channels P). k.thread) (sym same))
           (subst (λ (b : ChannelValue). IsReady old.channels.thread left channel book b seat) was.2
           (record {
             seat_is = was-ready.seat_is;
@@ -153,12 +161,12 @@ module _ (shared : Shared) (old new : Runner) (reading : ℕ) (law : StartLaw)
   are-ready : (left : ℕ) → AreReady script old.channels shared.timers.some left
       → AreReady script new.channels shared.timers.some left
   are-ready left r = record {
-    named = subst (λ (k : Channels). AreNamedInSome script k.numbers.now) (sym same) r.named;
+    named = subst (λ (k : Channels P). AreNamedInSome script k.numbers.now) (sym same) r.named;
     many = ap (λ (cs : List ChannelValue). length cs) started
         ∙ length-map old.channels.channels.items (λ (c : ChannelValue). started_at c reading)
         ∙ r.many;
-    seats = (λ i. length (same i).seats.items) ∙ r.seats;
-    books = (λ i. length (same i).books.now) ∙ r.books;
+    seats = ap (λ (k : Channels P). length k.seats.items) same ∙ r.seats;
+    books = ap (λ (k : Channels P). length k.books.now) same ∙ r.books;
     timed_is = r.timed_is;
     each = λ place channel book c seat at book_at channel_at seat_at.
         ready-each place c seat channel_at seat_at channel at left book r book_at;
@@ -169,7 +177,8 @@ module _ (shared : Shared) (old new : Runner) (reading : ℕ) (law : StartLaw)
     worker = worker;
     kept = λ attributes named place channel c seat at channel_at seat_at.
         kept place c seat channel_at seat_at channel at attributes;
-    thread = (λ i. (same i).thread) ∙ hired.thread ∙ (λ i. (sym thread i).number);
+    thread = ap (λ (k : Channels P). k.thread) same ∙ hired.thread
+        ∙ ap (λ (t : Thread). t.number) (sym thread);
     ready = subst (AreReady script new.channels shared.timers.some) left-same
         (are-ready (lines_left shared old.worker) hired.ready);
   }

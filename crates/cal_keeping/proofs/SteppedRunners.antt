@@ -6,7 +6,7 @@ use Rattle.std.proofs.lemmas.Option.{slice_get-get_or, slice_get_within}
 use Rattle.cal_book.specs.Seats.{view}
 use Rattle.cal_channel.specs.Values.{ChannelValue, with_table}
 use Rattle.cal_keeping.proofs.KeptLines.{kept-flushed, kept-left}
-use Rattle.cal_keeping.proofs.KeptPlaces.{places-after}
+use Rattle.cal_keeping.proofs.KeptPlaces.{IsLeft, IsTurned, places-after}
 use Rattle.cal_keeping.specs.Kept.{AreReady, AreToldOf, IsFlushedAt}
 use Rattle.cal_keeping.specs.Runners.{HasKept, HaveKept, IsRunner, SameServices, StepsOn, lines_left}
 use Rattle.cal_keeping.specs.declared.channels.Channels.{Channels}
@@ -64,14 +64,14 @@ MergedLaw = (common : Common) (attributes : List Attribute) (seat : RowSeat Node
 
 -- ---- what stays
 
-left-same : (had has : Channels) → has ≡ had → SameServices had has
+left-same : {P : Type 0} (had has : Channels P) → has ≡ had → SameServices had has
 left-same had has same = record {
   thread = λ i. (same i).thread;
   numbers = λ i. (same i).numbers;
   books = λ i. (same i).books;
 }
 
-flushes-same : (had has : Channels) (l : lines.Line) (answer : replies.Reply)
+flushes-same : {P : Type 0} (had has : Channels P) (l : lines.Line) (answer : replies.Reply)
     → Flushes IsFlushedAt had has l answer → SameServices had has
 flushes-same had has (line.Begin a v) answer same = left-same had has same
 flushes-same had has (line.End a) answer same = left-same had has same
@@ -84,7 +84,7 @@ flushes-same had has (line.Flush k) answer f = record {
 }
 flushes-same had has (line.Tick t) answer same = left-same had has same
 
-module _ (a b c : Channels) where
+module _ {P : Type 0} (a b c : Channels P) where
   pub same-then : SameServices a b → SameServices b c → SameServices a c
   same-then p q = record {
     thread = q.thread ∙ p.thread;
@@ -92,15 +92,15 @@ module _ (a b c : Channels) where
     books = q.books ∙ p.books;
   }
 
-pub same-already : (a : Channels) → SameServices a a
+pub same-already : {P : Type 0} (a : Channels P) → SameServices a a
 same-already a = record { thread = refl; numbers = refl; books = refl }
 
-module _ {K : Type 0} (given : K → Option (List ℕ)) (shared : Shared) (was is : K)
-    (old new : Runner) (s : StepsOn shared given was is old new) where
+module _ {K P : Type 0} (given : K → Option (List ℕ)) (shared : Shared) (was is : K)
+    (old new : Runner P) (s : StepsOn shared given was is old new) where
   abbrev script : Script
   script = script_of shared
 
-  abbrev between : Channels
+  abbrev between : Channels P
   between = s.tells.between
 
   told-same : SameServices old.channels between
@@ -156,7 +156,7 @@ module _ {K : Type 0} (given : K → Option (List ℕ)) (shared : Shared) (was i
 
         kept-before : HasKept shared attributes old.worker h place channel before (view seat)
         kept-before = r.kept attributes named-old place channel before seat at before-at
-            (subst (λ (k : Channels). slice_get k.seats.items place ≡ Some seat)
+            (subst (λ (k : Channels P). slice_get k.seats.items place ≡ Some seat)
             s.tells.shown.same seat_at)
 
         shown-between : HasShownLines shared.common attributes new.worker.thread.tree all
@@ -175,12 +175,12 @@ module _ {K : Type 0} (given : K → Option (List ℕ)) (shared : Shared) (was i
           → slice_get new.channels.seats.items place ≡ Some seat
           → HasKept shared attributes new.worker all place channel c (view seat)
       kept-behind c seat channel_at seat_at = ⊎_elim
-          (λ t. kept-left shared attributes old.worker new.worker h all s.ran s.note place channel
+          (λ (t : IsLeft between s.ran place c seat). kept-left shared attributes old.worker new.worker h all s.ran s.note place channel
           r.worker.noted.rules.long lines-are s.noted
           (before c seat t.channel_at t.seat_at) c (view seat)
           (kept-before c seat t.channel_at t.seat_at) t.other
           (shown-between c seat t.channel_at t.seat_at))
-          (λ t. kept-flushed shared attributes old.worker new.worker h all s.ran s.note place channel
+          (λ (t : IsTurned between s.ran place c seat s.note.reply). kept-flushed shared attributes old.worker new.worker h all s.ran s.note place channel
           r.worker.noted.rules.long lines-are s.noted
           (before t.was t.seat_was t.channel_at t.seat_at) t.was (view t.seat_was)
           (kept-before t.was t.seat_was t.channel_at t.seat_at) t.part c (view seat) s.note.reply

@@ -55,36 +55,42 @@ pub record IsFresh (channel : Channel) (c : ChannelValue) (seat : SeatOf) : Type
   pub made : c ≡ new_channel channel.trace shape
   pub nothing : (view seat).account ≡ blank
 
-abbrev pub AreFresh : Script → Channels → Type 0
+abbrev pub AreFresh : {P : Type 0} → Script → Channels P → Type 0
 AreFresh script kept = (place : ℕ) (channel : Channel) (c : ChannelValue) (seat : SeatOf)
     → slice_get script.channels place ≡ Some channel
     → slice_get kept.channels.items place ≡ Some c
     → slice_get kept.seats.items place ≡ Some seat
     → IsFresh channel c seat
 
--- And so may each of a thread's channels, of which there is one for each of the script's; where one
--- of these has the timer, readings are kept.
-pub record AreReady (script : Script) (kept : Channels) (timed : Bool) (left : ℕ) : Type 0 where
+-- and so may each of these, place by place
+abbrev pub AreEachReady : (thread left : ℕ) → List Channel → List BookOf → List ChannelValue
+    → List SeatOf → Type 0
+AreEachReady thread left channels books cs seats = (place : ℕ) (channel : Channel) (book : BookOf)
+    (c : ChannelValue) (seat : SeatOf) → slice_get channels place ≡ Some channel
+    → slice_get books place ≡ Some book → slice_get cs place ≡ Some c
+    → slice_get seats place ≡ Some seat → IsReady thread left channel book c seat
+
+-- All channels of a thread are ready, of which there is one for each of the script's; where one of
+-- these has the timer, readings are kept.
+pub record AreReady {P : Type 0} (script : Script) (kept : Channels P) (timed : Bool) (left : ℕ)
+    : Type 0 where
   pub named : AreNamedInSome script kept.numbers.now
   pub many : length kept.channels.items ≡ length script.channels
   pub seats : length kept.seats.items ≡ length script.channels
   pub books : length kept.books.now ≡ length script.channels
   pub timed_is : All (λ (channel : Channel). channel.timer ≡ true → timed ≡ true) script.channels
-  pub each : (place : ℕ) (channel : Channel) (book : BookOf) (c : ChannelValue) (seat : SeatOf)
-      → slice_get script.channels place ≡ Some channel
-      → slice_get kept.books.now place ≡ Some book
-      → slice_get kept.channels.items place ≡ Some c
-      → slice_get kept.seats.items place ≡ Some seat
-      → IsReady kept.thread left channel book c seat
+  pub each : AreEachReady kept.thread left script.channels kept.books.now kept.channels.items
+      kept.seats.items
 
 -- Each channel was shown a line, and nothing else is changed.
-pub record AreToldOf (common : Common) (old new : Channels) (thread : Thread) (shown : ShownLine)
-    : Type 0 where
-  pub shown : AreShown common old.numbers.now thread shown old.channels.items new.channels.items
+pub record AreToldOf {P : Type 0} (common : Common) (old new : Channels P) (thread : Thread)
+    (told : ShownLine) : Type 0 where
+  pub shown : AreShown common old.numbers.now thread told old.channels.items new.channels.items
   pub same : new ≡ record old { channels = new.channels }
 
 -- A flush of the channel at a place was replied to so, and nothing else is changed.
-pub record IsFlushedAt (old new : Channels) (place : ℕ) (reply : replies.Reply) : Type 0 where
+pub record IsFlushedAt {P : Type 0} (old new : Channels P) (place : ℕ) (reply : replies.Reply)
+    : Type 0 where
   pub was : ChannelValue
   pub is : ChannelValue
   pub seat_was : SeatOf

@@ -41,7 +41,7 @@ module _ (shared : Shared) where
     pub turns : v.account.given_up ≡ 0
 
   -- and so has each of its channels
-  abbrev pub HaveKept : List Attribute → Worker → List OpRec → Channels → Type 0
+  abbrev pub HaveKept : {P : Type 0} → List Attribute → Worker → List OpRec → Channels P → Type 0
   HaveKept attributes w h kept = (place : ℕ) (channel : Channel) (c : ChannelValue) (seat : SeatOf)
       → slice_get (script_of shared).channels place ≡ Some channel
       → slice_get kept.channels.items place ≡ Some c
@@ -49,7 +49,7 @@ module _ (shared : Shared) where
       → HasKept attributes w h place channel c (view seat)
 
   -- A running thread that wasn't started: nothing is noted, and nothing kept.
-  pub record IsHiredRunner (r : Runner) : Type 0 where
+  pub record IsHiredRunner {P : Type 0} (r : Runner P) : Type 0 where
     pub worker : IsHired shared r.worker
     pub fresh : AreFresh (script_of shared) r.channels
     pub thread : r.channels.thread ≡ r.worker.thread.number
@@ -58,7 +58,7 @@ module _ (shared : Shared) where
 
   -- A running thread between two lines: its worker has seen exactly these operations, its channels
   -- have kept what they should, and they are ready for the lines that are left.
-  pub record IsRunner (r : Runner) (h : List OpRec) : Type 0 where
+  pub record IsRunner {P : Type 0} (r : Runner P) (h : List OpRec) : Type 0 where
     pub worker : IsWorker shared r.worker h
     pub kept : (attributes : List Attribute)
         → AreNamed attributes (script_of shared) r.channels.numbers.now
@@ -68,24 +68,24 @@ module _ (shared : Shared) where
         (lines_left shared r.worker)
 
   -- for some operations
-  abbrev pub IsSomeRunner : Runner → Type 0
+  abbrev pub IsSomeRunner : {P : Type 0} → Runner P → Type 0
   IsSomeRunner r = (h : List OpRec) × IsRunner r h
 
   -- It has done all its lines, and has seen these operations more.
-  pub record RanAll (r : Runner) (h : List OpRec) : Type 0 where
+  pub record RanAll {P : Type 0} (r : Runner P) (h : List OpRec) : Type 0 where
     pub ops : List OpRec
     pub kept : IsRunner r (h ++ ops)
     pub all : lines_done (script_of shared) r.worker
         ≡ lines_of (script_of shared) r.worker.thread.number
 
 -- of its channels what all threads share is the same, and the thread
-pub record SameServices (old new : Channels) : Type 0 where
+pub record SameServices {P : Type 0} (old new : Channels P) : Type 0 where
   pub thread : new.thread ≡ old.thread
   pub numbers : new.numbers ≡ old.numbers
   pub books : new.books ≡ old.books
 
 -- A step of a runner is one of its worker, whose channels are told of the line.
-abbrev pub StepsOn : (shared : Shared) → {K : Type 0} → (given : K → Option (List ℕ))
-    → (was is : K) → (old new : Runner) → Type 0
+abbrev pub StepsOn : {K P : Type 0} → (shared : Shared) → (given : K → Option (List ℕ))
+    → (was is : K) → (old new : Runner P) → Type 0
 StepsOn shared given was is old new = StepsOver shared given AreToldOf IsFlushedAt was is
     old.channels new.channels old.worker new.worker

@@ -9,10 +9,9 @@ ghost use Rattle.cal_run.specs.Numbers.{AreNamedInSome};
 ghost use Rattle.cal_script.specs.declared.script.Channel as channels_of;
 
 use cal_channel::ThreadChannel;
-use cal_probe::Probes;
 use cal_process::Common;
 use cal_replay::{Keeper, ShownLine, flush, show};
-use cal_run::Numbers;
+use cal_run::{Numbers, Prober};
 use cal_script::{Channel, Reply, Script};
 use cal_table::{Book, BookSeat, TableShape};
 use cal_thread::Thread;
@@ -23,18 +22,19 @@ use std::alloc::Global;
 /// has taken, and the thread's seat at its book. The numbers of attributes, the books and the probes
 /// are those of all threads.
 #[derive(Drop)]
-pub struct Channels<'a> {
+pub struct Channels<'a, P> {
     pub thread: u32,
     pub numbers: &'a Numbers,
     pub books: &'a [Book],
-    pub probes: &'a Probes,
+    pub probes: &'a P,
     pub channels: Vec<ThreadChannel>,
     pub seats: Vec<BookSeat>,
 }
 
-impl<'a> Channels<'a> {
+impl<'a, P: Prober> Channels<'a, P> {
     /// What a thread keeps before its first line, with these seats, one for each channel. A channel
     /// that aggregates has a table of the shape at its place. It takes memory for copies of shapes.
+    /// An `Err` is want of it, and drops the seats.
     pub fn new(
         alloc: Global,
         script: &Script,
@@ -42,9 +42,9 @@ impl<'a> Channels<'a> {
         numbers: &'a Numbers,
         books: &'a [Book],
         shapes: &[TableShape],
-        probes: &'a Probes,
+        probes: &'a P,
         seats: Vec<BookSeat>,
-    ) -> Result<Channels<'a>, OutOfMemory>
+    ) -> Result<Channels<'a, P>, OutOfMemory>
         requires named { AreNamedInSome script.now numbers.now }
         requires books { map shape_of books.now ≡ shapes.now }
         requires many { length shapes.now ≡ length script.now.channels }
@@ -59,6 +59,7 @@ impl<'a> Channels<'a> {
         ensures thread { IfOk result (λ kept. kept.thread ≡ thread) }
         ensures numbers { IfOk result (λ kept. kept.numbers ≡ numbers.entry) }
         ensures books { IfOk result (λ kept. kept.books ≡ books.entry) }
+        ensures probes { IfOk result (λ kept. kept.probes ≡ probes.entry) }
         ensures seats { IfOk result (λ kept. kept.seats ≡ seats) }
     {
         let channels = new_channels(alloc, script.channels.as_slice(), shapes)?;
@@ -78,9 +79,7 @@ impl<'a> Channels<'a> {
             ≡ map (λ (c : ChannelValue). started_at c reading) self.old.channels.items }
         ensures same { self.new ≡ record self.old { channels = self.new.channels } }
     {
-        for place in 0..self.channels.len() {
-            self.channels[place].start(reading);
-        }
+        start_all(self.channels.as_mut_slice(), reading);
     }
 }
 
@@ -115,7 +114,17 @@ fn new_channel(
     }
 }
 
-impl<'a> Keeper for Channels<'a> {
+/// Keeps the start reading in each channel.
+fn start_all(channels: &mut [ThreadChannel], reading: u64)
+    ensures { channels.new ≡ map (λ (c : ChannelValue). started_at c reading) channels.old }
+{
+    for channel in channels.iter_mut() {
+        channel.start(reading);
+    }
+}
+
+/// A line is shown to each channel, and a flush takes a turn at the book of the channel's place.
+impl<'a, P: Prober> Keeper for Channels<'a, P> {
     ghost use Rattle.cal_keeping.specs.Kept.{AreReady, AreToldOf, IsFlushedAt};
 
     ghost thread = { λ kept. kept.thread };

@@ -1,5 +1,5 @@
 //! A worker with its channels.
-ghost use Rattle.std.specs.Prelude.{◌≡◌, ◌<◌, [], List, IfOk, OnOk, length, nat_lt};
+ghost use Rattle.std.specs.Prelude.{◌≡◌, ◌<◌, ◌++◌, [], List, IfOk, OnOk, length, nat_lt};
 ghost use Rattle.cal_keeping.specs.Runners.{IsHiredRunner, IsRunner, IsSomeRunner, RanAll, StepsOn};
 ghost use Rattle.cal_keeping.specs.Runners.{SameServices};
 ghost use Rattle.cal_replay.specs.Readings.{Asked, off_clock};
@@ -10,17 +10,18 @@ ghost use Rattle.cal_words.specs.declared.op.OpRec as words;
 use crate::Channels;
 use cal_base::{Clock, Gate};
 use cal_replay::{Shared, Worker, shown_at_start_law, shown_lines_law, told_step_law};
+use cal_run::Prober;
 use cal_value::OutOfMemory;
 use std::alloc::Global;
 
 /// A running thread: the worker of its lines, and what it keeps for its channels.
 #[derive(Drop)]
-pub struct Runner<'a> {
+pub struct Runner<'a, P> {
     pub worker: Worker,
-    pub channels: Channels<'a>,
+    pub channels: Channels<'a, P>,
 }
 
-impl<'a> Runner<'a> {
+impl<'a, P: Prober> Runner<'a, P> {
     /// Takes the start reading, where some channel has the timer, as `Worker::start` does, and
     /// keeps it in each channel. It is called once, before the first `step`.
     pub fn start<K: Clock>(&mut self, shared: &Shared<'_>, clock: &mut K)

@@ -60,9 +60,9 @@ pub trait Keeper {
             → HasState common.now runner.old h state → HasState common.now runner.new h state) }
         ensures thread { OnOk result (thread self.new ≡ thread self.old) };
 
-    /// Flushes what a channel holds, by its number in the script, and says whether it was merged,
-    /// or with which other thread the book was busy. The channel aggregates, in a script whose lines
-    /// may be shown. An `Err` is want of memory.
+    /// Flushes what a channel holds, by its number in a script for whose lines they are ready and in
+    /// which it aggregates. It says whether that was merged, or with which other thread the book was
+    /// busy. An `Err` is want of memory.
     fn flush(&mut self, channel: u32) -> Result<Reply, OutOfMemory>
         requires ready { (script : scripts.Script) × (timed : Bool) × (left : ℕ)
             × ready script self.old timed left × IsFlushed script.channels channel }

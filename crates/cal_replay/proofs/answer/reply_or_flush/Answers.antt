@@ -3,8 +3,8 @@ use Rattle.cal_replay.proofs.OwnLines.{board-flushes, flush-flushes, flush-place
 use Rattle.cal_replay.specs.Steps.{HasReply}
 use Rattle.cal_replay.proofs.answer.reply_or_flush.Goals as goal
 
-pub flush-requires-clause-ready : goal.flush-requires-clause-ready
-flush-requires-clause-ready g c =
+pub flush-requires : goal.flush-requires
+flush-requires g c =
     let r = c.requires.ready in (
       r.0,
       r.1,

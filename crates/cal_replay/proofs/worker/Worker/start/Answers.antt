@@ -8,3 +8,6 @@ returns-clause-worker g c =
     let h = c.requires.worker in
     starts-worker c.args.shared.now _ h.thread h.timed (ap (λ (n : ThreadNote). n.lines) h.noted)
     (c.read_start-self.ensures.read [])
+
+pub returns-clause-noted : goal.returns-clause-noted
+returns-clause-noted g c = ap (λ (n : ThreadNote). n.lines) c.requires.worker.noted
