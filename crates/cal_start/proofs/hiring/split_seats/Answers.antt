@@ -1,7 +1,7 @@
-use Rattle.std.proofs.Common.{◌≡◌, ◌+◌, ◌<◌, ◌≤◌, ℕ, List, Some, None, length, refl, sym, ap, ◌∙◌}
-use Rattle.std.proofs.Common.{subst, arith}
+use Rattle.std.proofs.Common.{◌≡◌, ◌+◌, ◌<◌, ◌≤◌, ℕ, List, Some, None, length, get_or, refl, sym, ap, ◌∙◌, subst}
+use Rattle.std.proofs.Common.{arith}
 use Rattle.std.proofs.lemmas.List.{length_push}
-use Rattle.std.proofs.lemmas.Option.{slice_get_read}
+use Rattle.std.proofs.lemmas.Option.{slice_get-get_or, slice_get_read}
 use Rattle.cal_book.specs.Seats.{view}
 use Rattle.cal_keeping.specs.Kept.{IsNewSeat}
 use Rattle.cal_replay.specs.Flushing.{BookView, SeatOf}
@@ -15,13 +15,12 @@ loop-place-preserved c =
     let books = c.args.books.now in
     let p = c.loop-place.place in
     let book = c.index-books-place.result in
-    let old = c.index-first-place.result in
+    let old = get_or c.loop-place.first p c.index-first-place.result in
     let many = c.loop-place.invariant.first.many in
     let less : p < length books = omega arith in
     let within : p < length c.loop-place.first = omega (arith, less, many) in
     let at = slice_get_read books (length books) p book refl less c.index-books-place.is in
-    let seat_at = slice_get_read c.loop-place.first (length c.loop-place.first) p old refl within
-        c.index-first-place.is in
+    let seat_at = slice_get-get_or c.loop-place.first p c.index-first-place.result within in
     let was = c.loop-place.invariant.first.behind p book old (omega arith) at seat_at in
     let split = c.split.ensures in
     record {
