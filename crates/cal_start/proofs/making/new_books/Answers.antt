@@ -1,4 +1,4 @@
-use Rattle.std.proofs.Common.{◌≡◌, ◌+◌, List, [], ◌∷◌, ◌++◌, length, take, sym, ap, subst, arith}
+use Rattle.std.proofs.Common.{◌+◌, List, [], ◌∷◌, ◌++◌, length, take, sym, ap, subst, arith}
 use Rattle.cal_replay.specs.Flushing.{BookOf, BookView, SeatOf}
 use Rattle.cal_start.proofs.ManyBooks.{books-push}
 use Rattle.cal_start.proofs.PlacedSeats.{seats-push}
