@@ -14,7 +14,9 @@ use Rattle.cal_replay.specs.declared.shared.Shared.{Shared}
 use Rattle.cal_run.specs.Lawful.{IsKnown}
 use Rattle.cal_script.specs.declared.journal.Journal.{Journal}
 use Rattle.cal_script.specs.declared.journal.Placed.{Placed}
+use Rattle.cal_script.specs.declared.journal.ThreadNote.{ThreadNote}
 use Rattle.cal_table.specs.Tables.{TableValue}
+use Rattle.cal_thread.specs.declared.thread.Thread.{Thread}
 use Rattle.cal_words.specs.declared.op.OpRec.{OpRec}
 
 -- what a thread has done at the book of the channel at a place
@@ -29,6 +31,13 @@ pub record AllMetAt {P : Type 0} (place : ℕ) (runners : List (Runner P)) : Typ
   pub accounts : List (Account TableValue)
   pub each : AllZip (HasAccount place) runners accounts
   pub met : AllMetHadTurns accounts
+
+-- the threads of runners, and their notes
+abbrev pub threads_of : {P : Type 0} → List (Runner P) → List Thread
+threads_of runners = map (λ r. r.worker.thread) runners
+
+abbrev pub notes_of : {P : Type 0} → List (Runner P) → List ThreadNote
+notes_of runners = map (λ r. r.worker.note) runners
 
 module _ {P : Type 0} (shared : Shared) where
   -- A thread has done all its lines, and what it has seen begins the whole history, which has no
@@ -53,5 +62,18 @@ module _ {P : Type 0} (shared : Shared) where
   journal_of runners history = record {
     real = shared.real;
     ops = history;
-    threads = map (λ (r : Runner P). r.worker.note) runners;
+    threads = notes_of runners;
   }
+
+  -- A thread has done all its lines, behind some operations that it has seen.
+  pub record HasRun (thread : ℕ) (r : Runner P) : Type 0 where
+    pub h : List OpRec
+    pub is : IsRunner shared r h
+    pub number : r.worker.thread.number ≡ thread
+    pub all : lines_done (script_of shared) r.worker ≡ lines_of (script_of shared) thread
+
+  -- So have all threads of the run; and whoever held the turn where a flush was busy had one.
+  pub record HaveAllRun (runners : List (Runner P)) : Type 0 where
+    pub many : length runners ≡ length (script_of shared).threads
+    pub ran : (thread : ℕ) (r : Runner P) → slice_get runners thread ≡ Some r → HasRun thread r
+    pub met : (place : ℕ) → place < length (script_of shared).channels → AllMetAt place runners
