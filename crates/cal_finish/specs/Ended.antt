@@ -40,32 +40,7 @@ abbrev pub notes_of : {P : Type 0} → List (Runner P) → List ThreadNote
 notes_of runners = map (λ r. r.worker.note) runners
 
 module _ {P : Type 0} (shared : Shared) where
-  -- A thread has done all its lines, and what it has seen begins the whole history, which has no
-  -- operation of it behind that.
-  pub record HasEnded (history : List Placed) (thread : ℕ) (r : Runner P) : Type 0 where
-    pub h : List OpRec
-    pub is : IsRunner shared r h
-    pub number : r.worker.thread.number ≡ thread
-    pub all : lines_done (script_of shared) r.worker ≡ lines_of (script_of shared) thread
-    pub begins : Begins thread (history_of h) history
-
-  -- So have all threads of the run; and whoever held the turn where a flush was busy had one.
-  pub record HaveAllEnded (runners : List (Runner P)) (history : List Placed) : Type 0 where
-    pub many : length runners ≡ length (script_of shared).threads
-    pub known : All (IsKnown (script_of shared)) history
-    pub ended : (thread : ℕ) (r : Runner P) → slice_get runners thread ≡ Some r
-        → HasEnded history thread r
-    pub met : (place : ℕ) → place < length (script_of shared).channels → AllMetAt place runners
-
-  -- the journal of a run: which clock was read, the whole history, and the notes of all threads
-  abbrev pub journal_of : List (Runner P) → List Placed → Journal
-  journal_of runners history = record {
-    real = shared.real;
-    ops = history;
-    threads = notes_of runners;
-  }
-
-  -- A thread has done all its lines, behind some operations that it has seen.
+  -- A thread has done all its lines, and has seen these operations.
   pub record HasRun (thread : ℕ) (r : Runner P) : Type 0 where
     pub h : List OpRec
     pub is : IsRunner shared r h
@@ -77,3 +52,24 @@ module _ {P : Type 0} (shared : Shared) where
     pub many : length runners ≡ length (script_of shared).threads
     pub ran : (thread : ℕ) (r : Runner P) → slice_get runners thread ≡ Some r → HasRun thread r
     pub met : (place : ℕ) → place < length (script_of shared).channels → AllMetAt place runners
+
+  -- What a thread that has run has seen begins the whole history, which has no operation of it
+  -- behind that.
+  pub record HasEnded (history : List Placed) (thread : ℕ) (r : Runner P) : Type 0 where
+    pub run : HasRun thread r
+    pub begins : Begins thread (history_of run.h) history
+
+  -- So it is with all threads of the run, and the history is of process lines of the script.
+  pub record HaveAllEnded (runners : List (Runner P)) (history : List Placed) : Type 0 where
+    pub run : HaveAllRun runners
+    pub known : All (IsKnown (script_of shared)) history
+    pub ended : (thread : ℕ) (r : Runner P) → slice_get runners thread ≡ Some r
+        → HasEnded history thread r
+
+  -- the journal of a run: which clock was read, the whole history, and the notes of all threads
+  abbrev pub journal_of : List (Runner P) → List Placed → Journal
+  journal_of runners history = record {
+    real = shared.real;
+    ops = history;
+    threads = notes_of runners;
+  }

@@ -11,4 +11,4 @@ mod journal;
 mod laws;
 
 pub use journal::end_threads;
-pub use laws::{ended_runners_law, lawful_run_law};
+pub use laws::{ended_runners_law, ended_threads_law, lawful_run_law};
