@@ -1,16 +1,14 @@
 -- The threads of a run that have ended keep what a lawful journal asks of all of them.
-use Rattle.std.proofs.Common.{◌≡◌, ◌≢◌, ℕ, zero, suc, ◌+◌, ◌<◌, List, [], ◌∷◌, length, get_or}
+use Rattle.std.proofs.Common.{◌≡◌, ◌≢◌, ℕ, zero, suc, ◌<◌, List, [], ◌∷◌, length, get_or}
 use Rattle.std.proofs.Common.{map}
 use Rattle.std.proofs.Common.{◌⊎◌, inl, inr, refl, sym, ap, ◌∙◌, subst, arith}
-use Rattle.std.specs.Prelude.{Any, Option, Some, None, IsSomeAnd, option_map, slice_get, zip}
+use Rattle.std.specs.Prelude.{Option, Some, None, IsSomeAnd, option_map, slice_get, zip}
 use Rattle.std.specs.List.{All, AllZip, Contains}
 use Rattle.std.proofs.lemmas.List.{length-map}
-use Rattle.std.proofs.lemmas.List.Elements.{All-contains, Contains-get_or}
-use Rattle.std.proofs.lemmas.Option.{get_or_from_slice_get, slice_get-get_or, slice_get-map}
+use Rattle.std.proofs.lemmas.List.Elements.{All-contains}
+use Rattle.std.proofs.lemmas.Option.{get_or_from_slice_get, slice_get-map}
 use Rattle.std.proofs.lemmas.Option.{same_Some, slice_get_within}
-use Rattle.std.proofs.lemmas.Slice.Zip.{AllZip-left, AllZip-right}
 use Rattle.cal_book.specs.Accounts.{HadTurn, ThreadHadTurn}
-use Rattle.cal_book.specs.Closing.{AllMetHadTurns}
 use Rattle.cal_book.specs.Seats.{view}
 use Rattle.cal_book.specs.declared.view.Account.{Account}
 use Rattle.cal_channel.specs.Values.{ChannelValue}
@@ -22,12 +20,10 @@ use Rattle.cal_notes.specs.Together as notes
 use Rattle.cal_notes.specs.Together.{HasFlushed, HasMerged, HaveEnded, RanLines}
 use Rattle.cal_process.specs.Operations.{history_of}
 use Rattle.cal_replay.specs.Flushing.{SeatOf}
-use Rattle.cal_replay.specs.Workers.{IsShared, lines_done, lines_of, script_of}
+use Rattle.cal_replay.specs.Workers.{IsShared, lines_done, script_of}
 use Rattle.cal_replay.specs.declared.shared.Shared.{Shared}
-use Rattle.cal_run.specs.Numbers.{AreNamed}
 use Rattle.cal_script.specs.Valid.{IsFlushed, IsPlaced}
 use Rattle.cal_script.specs.declared.journal.Journal.{Journal}
-use Rattle.cal_script.specs.declared.journal.LineNote.{LineNote}
 use Rattle.cal_script.specs.declared.journal.Placed.{Placed}
 use Rattle.cal_script.specs.declared.journal.Reply as replies
 use Rattle.cal_script.specs.declared.journal.Reply.TheVariants as reply
@@ -171,7 +167,7 @@ module _ {P : Type 0} (shared : Shared) (runners : List (Runner P)) (history : L
       → channel < length script.channels
   flushed-channel thread ls channel at has =
       let all = is_shared.common.runnable.places thread []
-          (slice_get_within script.threads thread ls at) in
+      (slice_get_within script.threads thread ls at) in
       let placed : All (IsPlaced script.attributes script.channels script.values) ls =
       subst (All (IsPlaced script.attributes script.channels script.values))
       (get_or_from_slice_get script.threads thread ls [] at) all in
