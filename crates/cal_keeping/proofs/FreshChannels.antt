@@ -1,11 +1,11 @@
 -- What a thread keeps before its first line is ready for all of them.
-use Rattle.std.proofs.Common.{◌≡◌, ℕ, zero, suc, ◌+◌, ◌<◌, ◌≤◌, ◌^◌, List, [], ◌∷◌, length, map}
-use Rattle.std.proofs.Common.{◌++◌, take, Bool, true, false, if◌then◌else◌, refl, sym, ap, ◌∙◌, subst, arith}
-use Rattle.std.specs.Prelude.{Option, Some, None, IfSome, is_some, option_map, slice_get, zip}
+use Rattle.std.proofs.Common.{◌≡◌, ℕ, zero, suc, ◌+◌, ◌<◌, ◌≤◌, ◌^◌}
+use Rattle.std.proofs.Common.{List, [], ◌∷◌, ◌++◌, length, map, take}
+use Rattle.std.proofs.Common.{Bool, true, false, if◌then◌else◌, refl, sym, ap, ◌∙◌, subst, arith}
+use Rattle.std.specs.Prelude.{Some, None, IfSome, is_some, option_map, slice_get}
 use Rattle.std.proofs.lemmas.List.{take_more}
 use Rattle.std.proofs.lemmas.Option.{get_or_from_slice_get, same_Some, slice_get-map}
 use Rattle.std.proofs.lemmas.Option.{slice_get_within}
-use Rattle.cal_book.specs.Accounts.{blank}
 use Rattle.cal_book.specs.Seats.{shape_of, view}
 use Rattle.cal_book.specs.declared.view.Account.{Account}
 use Rattle.cal_channel.specs.Values.{ChannelValue, unflushed_of}
@@ -50,7 +50,7 @@ none-taken-if false shape = refl
 -- ---- one channel
 
 -- a new channel is ready for as many lines as a run has
-pub fresh-ready : (thread left : ℕ) (channel : Channel) (shape : TableShape) (book : BookOf)
+fresh-ready : (thread left : ℕ) (channel : Channel) (shape : TableShape) (book : BookOf)
     (seat : SeatOf) → left ≤ 2 ^ 20 → IsNewSeat thread book seat → shape ≡ shape_of book
     → IsReady thread left channel book (new_of channel shape) seat
 fresh-ready thread left channel shape book seat few new made = record {
@@ -77,13 +77,13 @@ length-new_for (c ∷ channels) (s ∷ shapes) same =
     ap suc (length-new_for channels shapes (omega (arith, same)))
 
 -- What stands at a place of them.
-pub record IsMadeAt (shapes : List TableShape) (place : ℕ) (channel : Channel) (c : ChannelValue)
+record IsMadeAt (shapes : List TableShape) (place : ℕ) (channel : Channel) (c : ChannelValue)
     : Type 0 where
-  pub shape : TableShape
-  pub shape_at : slice_get shapes place ≡ Some shape
-  pub made : c ≡ new_of channel shape
+  shape : TableShape
+  shape_at : slice_get shapes place ≡ Some shape
+  made : c ≡ new_of channel shape
 
-pub made-at : (channels : List Channel) (shapes : List TableShape) (place : ℕ)
+made-at : (channels : List Channel) (shapes : List TableShape) (place : ℕ)
     (channel : Channel) (c : ChannelValue) → slice_get channels place ≡ Some channel
     → slice_get (new_for channels shapes) place ≡ Some c → IsMadeAt shapes place channel c
 made-at [] shapes place channel c at had = absurd cc

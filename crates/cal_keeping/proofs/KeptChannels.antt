@@ -1,16 +1,15 @@
 -- Channels stay ready while lines are shown to them and while they are flushed.
-use Rattle.std.proofs.Common.{◌≡◌, ◌≢◌, ◌⊎◌, ℕ, ◌+◌, ◌<◌, ◌≤◌, ◌^◌, List, [], ◌∷◌, ◌++◌, length}
+use Rattle.std.proofs.Common.{◌≡◌, ◌≢◌, ◌⊎◌, ℕ, ◌+◌, ◌<◌, ◌≤◌, ◌^◌, List, ◌++◌, length}
 use Rattle.std.proofs.Common.{Bool, true, refl, sym, ap, ◌∙◌, subst, inl, inr, arith, get_or}
 use Rattle.std.proofs.Common.{drop, slice_set, take}
-use Rattle.std.specs.List.{All, sum_by}
 use Rattle.std.specs.Prelude.{Option, Some, None, IfSome, is_some, option_map, slice_get}
-use Rattle.std.proofs.lemmas.List.{append-nil, drop_all, length-set, take_all}
+use Rattle.std.proofs.lemmas.List.{append-nil, drop_all, take_all}
 use Rattle.std.proofs.lemmas.List.Sums.{sum_by_push}
 use Rattle.std.proofs.lemmas.Option.{same_Some, slice_get-get_or, slice_get_read}
 use Rattle.std.proofs.lemmas.Option.{slice_get_within}
 use Rattle.cal_book.proofs.Lists.{at_set}
 use Rattle.cal_book.specs.Seats.{IsSeatOf, shape_of, view}
-use Rattle.cal_channel.specs.Values.{ChannelValue, HasRoom, KeepsServices, unflushed_of}
+use Rattle.cal_channel.specs.Values.{ChannelValue, KeepsServices, unflushed_of}
 use Rattle.cal_keeping.proofs.FreshChannels.{there}
 use Rattle.cal_keeping.specs.Kept.{AreEachReady, AreReady, IsReady, given_by}
 use Rattle.cal_keeping.specs.declared.channels.Channels.{Channels}
@@ -30,7 +29,6 @@ use Rattle.cal_table.specs.declared.shape.TableShape.{TableShape}
 use Rattle.cal_thread.specs.declared.thread.Thread.{Thread}
 
 -- ---- tables that may be there
-
 
 same-there : (one other : Option TableValue)
     → option_map (λ (t : TableValue). t.shape) one ≡ option_map (λ (t : TableValue). t.shape) other

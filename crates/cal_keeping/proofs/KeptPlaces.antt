@@ -15,7 +15,8 @@ use Rattle.cal_script.specs.declared.script.Line as lines
 use Rattle.cal_script.specs.declared.script.Line.TheVariants as line
 use Rattle.cal_table.specs.Tables.{TableValue}
 
-module _ {P : Type 0} (had : Channels P) (l : lines.Line) (place : ℕ) (c : ChannelValue) (seat : SeatOf) where
+module _ {P : Type 0} (had : Channels P) (l : lines.Line) (place : ℕ) (c : ChannelValue)
+    (seat : SeatOf) where
   -- the line was no flush of the channel, which was so before
   pub record IsLeft : Type 0 where
     pub other : l ≡ line.Flush place → ⊥
@@ -40,7 +41,8 @@ module _ {P : Type 0} (had has : Channels P) (place : ℕ) (c : ChannelValue) (s
       → IsLeft had l place c seat
   untouched l other same = record {
     other = other;
-    channel_at = subst (λ (k : Channels P). slice_get k.channels.items place ≡ Some c) same channel_at;
+    channel_at = subst (λ (k : Channels P). slice_get k.channels.items place ≡ Some c) same
+        channel_at;
     seat_at = subst (λ (k : Channels P). slice_get k.seats.items place ≡ Some seat) same seat_at;
   }
 

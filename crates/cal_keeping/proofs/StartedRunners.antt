@@ -114,8 +114,8 @@ module _ {P : Type 0} (shared : Shared) (old new : Runner P) (reading : ℕ) (la
           (view seat).account.given) (sym done-none)
           (subst (λ (ts : List TableValue). HasShownLines common attributes tree [] [] note channel
           c ts) (sym nothing-given)
-          (subst (λ (b : ChannelValue). HasShownLines common attributes tree [] [] note channel b [])
-          channel-is (law common attributes tree note channel channel.trace fresh.shape)))
+          (subst (λ (b : ChannelValue). HasShownLines common attributes tree [] [] note channel b
+          []) channel-is (law common attributes tree note channel channel.trace fresh.shape)))
 
       kept : (attributes : List Attribute)
           → HasKept shared attributes new.worker [] place channel c (view seat)

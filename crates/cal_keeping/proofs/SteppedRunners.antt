@@ -8,7 +8,7 @@ use Rattle.cal_channel.specs.Values.{ChannelValue, with_table}
 use Rattle.cal_keeping.proofs.KeptLines.{kept-flushed, kept-left}
 use Rattle.cal_keeping.proofs.KeptPlaces.{IsLeft, IsTurned, places-after}
 use Rattle.cal_keeping.specs.Kept.{AreReady, AreToldOf, IsFlushedAt}
-use Rattle.cal_keeping.specs.Runners.{HasKept, HaveKept, IsRunner, SameServices, StepsOn, lines_left}
+use Rattle.cal_keeping.specs.Runners.{HasKept, IsRunner, SameServices, StepsOn, lines_left}
 use Rattle.cal_keeping.specs.declared.channels.Channels.{Channels}
 use Rattle.cal_keeping.specs.declared.runner.Runner.{Runner}
 use Rattle.cal_notes.specs.Running.{with_line}
@@ -170,25 +170,32 @@ module _ {K P : Type 0} (given : K → Option (List ℕ)) (shared : Shared) (was
       lines-are : lines_done script new.worker ≡ lines_done script old.worker ++ s.ran ∷ []
       lines-are = lines-more script old.worker new.worker s.ran s.note s.next s.noted s.number
 
+      kept-if-left : (c : ChannelValue) (seat : SeatOf) → IsLeft between s.ran place c seat
+          → HasKept shared attributes new.worker all place channel c (view seat)
+      kept-if-left c seat t = kept-left shared attributes old.worker new.worker h all s.ran s.note
+          place channel r.worker.noted.rules.long lines-are s.noted
+          (before c seat t.channel_at t.seat_at) c (view seat)
+          (kept-before c seat t.channel_at t.seat_at) t.other
+          (shown-between c seat t.channel_at t.seat_at)
+
+      kept-if-turned : (c : ChannelValue) (seat : SeatOf)
+          → IsTurned between s.ran place c seat s.note.reply
+          → HasKept shared attributes new.worker all place channel c (view seat)
+      kept-if-turned c seat t =
+          let shown = shown-between t.was t.seat_was t.channel_at t.seat_at in
+          kept-flushed shared attributes old.worker new.worker h all s.ran s.note
+          place channel r.worker.noted.rules.long lines-are s.noted
+          (before t.was t.seat_was t.channel_at t.seat_at) t.was (view t.seat_was)
+          (kept-before t.was t.seat_was t.channel_at t.seat_at) t.part c (view seat) s.note.reply
+          t.here refl t.flushed shown
+          (merged-law shared.common attributes new.worker.thread.tree t.was t.part
+          (view t.seat_was).account.given _ _ t.part_is shown)
+
       pub kept-behind : (c : ChannelValue) (seat : SeatOf)
           → slice_get new.channels.channels.items place ≡ Some c
           → slice_get new.channels.seats.items place ≡ Some seat
           → HasKept shared attributes new.worker all place channel c (view seat)
-      kept-behind c seat channel_at seat_at = ⊎_elim
-          (λ (t : IsLeft between s.ran place c seat). kept-left shared attributes old.worker new.worker h all s.ran s.note place channel
-          r.worker.noted.rules.long lines-are s.noted
-          (before c seat t.channel_at t.seat_at) c (view seat)
-          (kept-before c seat t.channel_at t.seat_at) t.other
-          (shown-between c seat t.channel_at t.seat_at))
-          (λ (t : IsTurned between s.ran place c seat s.note.reply). kept-flushed shared attributes old.worker new.worker h all s.ran s.note place channel
-          r.worker.noted.rules.long lines-are s.noted
-          (before t.was t.seat_was t.channel_at t.seat_at) t.was (view t.seat_was)
-          (kept-before t.was t.seat_was t.channel_at t.seat_at) t.part c (view seat) s.note.reply
-          t.here refl t.flushed
-          (shown-between t.was t.seat_was t.channel_at t.seat_at)
-          (merged-law shared.common attributes new.worker.thread.tree t.was t.part
-          (view t.seat_was).account.given _ _ t.part_is
-          (shown-between t.was t.seat_was t.channel_at t.seat_at)))
+      kept-behind c seat channel_at seat_at = ⊎_elim (kept-if-left c seat) (kept-if-turned c seat)
           (places-after between new.channels place c seat channel_at seat_at s.ran s.note.reply
           s.tells.flushes)
 

@@ -1,5 +1,6 @@
 -- What a thread keeps for its channels, and what a line and a flush do to it.
-use Rattle.std.specs.Prelude.{◌≡◌, ℕ, ◌+◌, ◌≤◌, ◌^◌, Bool, true, if◌then◌else◌, List, All, length, map, zip}
+use Rattle.std.specs.Prelude.{◌≡◌, ℕ, ◌+◌, ◌≤◌, ◌^◌, Bool, true, if◌then◌else◌}
+use Rattle.std.specs.Prelude.{List, All, length, map, zip}
 use Rattle.std.specs.Prelude.{Option, Some, None, IfSome, is_some, slice_get, slice_set, sum_by}
 use Rattle.cal_book.specs.Accounts.{blank}
 use Rattle.cal_book.specs.Seats.{IsSeatOf, shape_of, view}
@@ -16,23 +17,6 @@ use Rattle.cal_script.specs.declared.script.Script.{Script}
 use Rattle.cal_table.specs.Tables.{TableValue}
 use Rattle.cal_table.specs.declared.shape.TableShape.{TableShape}
 use Rattle.cal_thread.specs.declared.thread.Thread.{Thread}
-
--- how many snapshots the parts stand for that a seat has given
-abbrev pub given_by : BookView → ℕ
-given_by v = sum_by (λ (part : TableValue). part.snapshots) v.account.given
-
--- A channel of a thread may be shown so many lines more, and flushed: the thread has a seat at the
--- channel's book; it has a trace and a table exactly where the channel has, the table made for the
--- book; and what it has given, what its table stands for and what may come are 2^20 snapshots at
--- most.
-pub record IsReady (thread left : ℕ) (channel : Channel) (book : BookOf) (c : ChannelValue)
-    (seat : SeatOf) : Type 0 where
-  pub seat_is : IsSeatOf book seat
-  pub own : (view seat).thread ≡ Some thread
-  pub traces : is_some c.trace ≡ channel.trace
-  pub aggregates : is_some c.table ≡ channel.aggregate
-  pub made : IfSome c.table (λ table. table.shape ≡ shape_of book)
-  pub few : given_by (view seat) + unflushed_of c.table + left ≤ 2 ^ 20
 
 -- a thread's channel before its first line, with a table of a shape where the channel aggregates
 abbrev pub new_of : Channel → TableShape → ChannelValue
@@ -55,6 +39,7 @@ pub record IsFresh (channel : Channel) (c : ChannelValue) (seat : SeatOf) : Type
   pub made : c ≡ new_channel channel.trace shape
   pub nothing : (view seat).account ≡ blank
 
+-- and so of each
 abbrev pub AreFresh : {P : Type 0} → Script → Channels P → Type 0
 AreFresh script kept = (place : ℕ) (channel : Channel) (c : ChannelValue) (seat : SeatOf)
     → slice_get script.channels place ≡ Some channel
@@ -62,7 +47,24 @@ AreFresh script kept = (place : ℕ) (channel : Channel) (c : ChannelValue) (sea
     → slice_get kept.seats.items place ≡ Some seat
     → IsFresh channel c seat
 
--- and so may each of these, place by place
+-- how many snapshots the parts stand for that a seat has given
+abbrev pub given_by : BookView → ℕ
+given_by v = sum_by (λ (part : TableValue). part.snapshots) v.account.given
+
+-- A channel of a thread may be shown so many lines more, and flushed: the thread has a seat at the
+-- channel's book; it has a trace and a table exactly where the channel has, the table made for the
+-- book; and what it has given, what its table stands for and what may come are 2^20 snapshots at
+-- most.
+pub record IsReady (thread left : ℕ) (channel : Channel) (book : BookOf) (c : ChannelValue)
+    (seat : SeatOf) : Type 0 where
+  pub seat_is : IsSeatOf book seat
+  pub own : (view seat).thread ≡ Some thread
+  pub traces : is_some c.trace ≡ channel.trace
+  pub aggregates : is_some c.table ≡ channel.aggregate
+  pub made : IfSome c.table (λ table. table.shape ≡ shape_of book)
+  pub few : given_by (view seat) + unflushed_of c.table + left ≤ 2 ^ 20
+
+-- and so may each of some, place by place
 abbrev pub AreEachReady : (thread left : ℕ) → List Channel → List BookOf → List ChannelValue
     → List SeatOf → Type 0
 AreEachReady thread left channels books cs seats = (place : ℕ) (channel : Channel) (book : BookOf)

@@ -26,9 +26,9 @@ lines_left shared w =
     length (lines_of (script_of shared) w.thread.number) - length w.note.lines
 
 module _ (shared : Shared) where
-  -- Over a worker's lines a channel has taken what the plain meaning of a run takes, part by part as
-  -- its seat has given them. Whom a flush was busy with the seat has met; where it has given a part a
-  -- flush was merged; and it gave no turn up.
+  -- Over a worker's lines a channel has taken what the plain meaning of a run takes, part by part
+  -- as its seat has given them. Whom a flush was busy with the seat has met; where it has given a
+  -- part a flush was merged; and it gave no turn up.
   pub record HasKept (attributes : List Attribute) (w : Worker) (h : List OpRec) (place : ℕ)
       (channel : Channel) (c : ChannelValue) (v : BookView) : Type 0 where
     pub shown : HasShownLines shared.common attributes w.thread.tree h

@@ -18,9 +18,9 @@ use cal_thread::Thread;
 use cal_value::OutOfMemory;
 use std::alloc::Global;
 
-/// What a thread keeps for the channels of its script, one for each in their order: what the channel
-/// has taken, and the thread's seat at its book. The numbers of attributes, the books and the probes
-/// are those of all threads.
+/// What a thread keeps for the channels of its script, one for each in their order: what the
+/// channel has taken, and the thread's seat at its book. The numbers of attributes, the books and
+/// the probes are those of all threads.
 #[derive(Drop)]
 pub struct Channels<'a, P> {
     pub thread: u32,
@@ -159,7 +159,11 @@ impl<'a, P: Prober> Keeper for Channels<'a, P> {
     fn flush(&mut self, channel: u32) -> Result<Reply, OutOfMemory> {
         let place = channel as usize;
         let books = self.books;
-        let reply = flush(&books[place], &mut self.seats[place], &mut self.channels[place])?;
+        let reply = flush(
+            &books[place],
+            &mut self.seats[place],
+            &mut self.channels[place],
+        )?;
         Ok(reply)
     }
 }

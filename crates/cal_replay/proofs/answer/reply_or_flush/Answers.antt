@@ -5,15 +5,18 @@ use Rattle.cal_replay.proofs.answer.reply_or_flush.Goals as goal
 
 pub flush-requires : goal.flush-requires
 flush-requires g c =
-    let r = c.requires.ready in (
-      r.0,
-      r.1,
-      r.2,
-      r.3,
-      flush-placed r.0 c.args.line
-          (subst (HasReply c.args.line) c.in-None.is c.requires.found) c.flushed.result
-          c.flushed.ensures r.4,
-    )
+    let r = c.requires.ready in
+    record {
+      ready = (
+        r.0,
+        r.1,
+        r.2,
+        r.3,
+        flush-placed r.0 c.args.line
+            (subst (HasReply c.args.line) c.in-None.is c.requires.found) c.flushed.result
+            c.flushed.ensures r.4,
+      );
+    }
 
 pub returns-in-Some-clause-flushes : goal.returns-in-Some-clause-flushes
 returns-in-Some-clause-flushes g c =

@@ -1,4 +1,4 @@
-use Rattle.std.proofs.Common.{◌≡◌, ◌∙◌, List, ap, length, sym}
+use Rattle.std.proofs.Common.{◌∙◌, List, ap, length, sym}
 use Rattle.std.proofs.lemmas.List.{length-map}
 use Rattle.cal_book.specs.Seats.{shape_of}
 use Rattle.cal_keeping.specs.Kept.{new_for}
