@@ -83,6 +83,8 @@ impl<'a, P: Prober> Runner<'a, P> {
         ensures number { OnOk result
             (self.new.worker.thread.number ≡ self.old.worker.thread.number) }
         ensures services { OnOk result (SameServices self.old.channels self.new.channels) }
+        ensures start { OnOk result
+            (self.new.worker.note.start ≡ self.old.worker.note.start) }
         ensures read { OnOk result
             (HasRead shared.now K.given clock.old clock.new self.old.worker self.new.worker) }
     {
