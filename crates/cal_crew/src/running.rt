@@ -1,11 +1,8 @@
 //! All runners, each with its clock in a thread of its own.
-ghost use Rattle.std.specs.Prelude.{◌≡◌, ℕ, ◌≤◌, ◌<◌, ◌++◌, true, All, IfOk, OnOk, length, map};
-ghost use Rattle.std.specs.Prelude.{reverse, slice_index_or};
+ghost use Rattle.std.specs.Prelude.{◌≡◌, ◌≤◌, ◌++◌, true, All, IfOk, OnOk, length, reverse};
 ghost use Rattle.cal_crew.specs.Ran.{HaveRun};
 ghost use Rattle.cal_crew.specs.Shifts.{HaveShifted, clocks_of, runners_of};
 ghost use Rattle.cal_keeping.specs.Runners.{IsHiredRunner};
-ghost use Rattle.cal_keeping.specs.declared.runner.Runner as runners;
-ghost use Rattle.cal_crew.specs.declared.shift.Shift as shifts_of;
 ghost use Rattle.cal_replay.specs.Workers.{IsShared};
 
 use crate::shift::{Shift, run_one};
@@ -55,7 +52,7 @@ pub fn run_threads<
 /// that a clock is taken and given back at the end. Behind an `Err` the clocks taken are dropped.
 fn pair<'a, P: Prober, K: Drop>(
     alloc: Global,
-    runners: Vec<Runner<'a, P>>,
+    mut runners: Vec<Runner<'a, P>>,
     clocks: &mut Vec<K>,
 ) -> Result<Vec<Shift<'a, P, K>>, OutOfMemory>
     requires enough { length runners.items ≤ length clocks.old.items }
@@ -64,8 +61,9 @@ fn pair<'a, P: Prober, K: Drop>(
         (λ made. clocks_of made.items ++ reverse clocks.new.items ≡ clocks.old.items) }
 {
     let mut shifts = Vec::with_capacity(alloc, runners.len())?;
+    runners.reverse();
     clocks.reverse();
-    for runner in runners {
+    while let Some(runner) = runners.pop() {
         let clock = clocks.pop().unwrap();
         let ran = false;
         shifts.push(Shift { runner, clock, ran })?;
@@ -111,14 +109,13 @@ fn have_all_run<'a, P: Prober, K>(shifts: &[Shift<'a, P, K>]) -> bool
 /// which stand in turned order.
 fn part<'a, P: Prober, K: Drop>(
     alloc: Global,
-    shifts: Vec<Shift<'a, P, K>>,
+    mut shifts: Vec<Shift<'a, P, K>>,
     clocks: &mut Vec<K>,
 ) -> Result<Vec<Runner<'a, P>>, OutOfMemory>
     ensures runners { IfOk result (λ done. done.items ≡ runners_of shifts.entry.items) }
     ensures clocks { OnOk result (clocks.new.items
         ≡ clocks_of shifts.entry.items ++ reverse clocks.old.items) }
 {
-    let mut shifts = shifts;
     let mut done = Vec::with_capacity(alloc, shifts.len())?;
     while let Some(shift) = shifts.pop() {
         let Shift { runner, clock, ran: _ } = shift;
