@@ -1,7 +1,7 @@
 -- What a channel has kept behind one line more of its worker.
-use Rattle.std.proofs.Common.{◌≡◌, ◌⊎◌, ℕ, ◌<◌, List, [], ◌∷◌, ◌++◌, length, ⊎_elim}
-use Rattle.std.proofs.Common.{ap, ◌∙◌, sym, subst}
-use Rattle.std.specs.Prelude.{Contains, Some}
+use Rattle.std.proofs.Common.{◌≡◌, ◌⊎◌, ℕ, List, [], ◌∷◌, ◌++◌, length, ⊎_elim}
+use Rattle.std.proofs.Common.{◌∙◌, sym, subst}
+use Rattle.std.specs.Prelude.{Contains}
 use Rattle.std.proofs.lemmas.List.Elements.{Contains-append_left, Contains-push}
 use Rattle.cal_book.specs.Views.{giving, meeting}
 use Rattle.cal_channel.specs.Values.{ChannelValue, with_table}

@@ -1,8 +1,8 @@
 -- What a line leaves at each place of a thread's channels: of a flush one place is another, and of
 -- another line none.
 use Rattle.std.proofs.Common.{◌≡◌, ◌≢◌, ◌⊎◌, ℕ, List, inl, inr, ⊎_elim}
-use Rattle.std.proofs.Common.{ap, ◌∙◌, sym, subst}
-use Rattle.std.specs.Prelude.{Some, slice_get, slice_set}
+use Rattle.std.proofs.Common.{ap, sym, subst}
+use Rattle.std.specs.Prelude.{Some, slice_get}
 use Rattle.cal_book.proofs.Lists.{at_set}
 use Rattle.cal_book.specs.Seats.{view}
 use Rattle.cal_channel.specs.Values.{ChannelValue}

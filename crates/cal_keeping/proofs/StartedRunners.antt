@@ -1,19 +1,18 @@
 -- A runner that was started: nothing is taken, nothing flushed.
-use Rattle.std.proofs.Common.{◌≡◌, ℕ, ◌<◌, List, [], ◌++◌, Bool, length, map, take}
+use Rattle.std.proofs.Common.{◌≡◌, ℕ, List, [], Bool, length, map, take}
 use Rattle.std.proofs.Common.{◌-◌, ap, ◌∙◌, sym, subst, arith}
-use Rattle.std.specs.Prelude.{Option, Some, IfSome, is_some, slice_get, unwrap_or}
+use Rattle.std.specs.Prelude.{Option, Some, slice_get, unwrap_or}
 use Rattle.std.proofs.lemmas.List.{length-map}
 use Rattle.cal_book.proofs.Lists.{at_map}
-use Rattle.cal_book.specs.Accounts.{blank}
 use Rattle.cal_book.specs.Seats.{view}
 use Rattle.cal_book.specs.declared.view.Account.{Account}
 use Rattle.cal_channel.specs.Values.{ChannelValue, new_channel, started_at}
-use Rattle.cal_keeping.specs.Kept.{AreFresh, AreReady, IsFresh, IsReady}
-use Rattle.cal_keeping.specs.Runners.{HasKept, HaveKept, IsHiredRunner, IsRunner, SameServices}
+use Rattle.cal_keeping.specs.Kept.{AreReady, IsFresh, IsReady}
+use Rattle.cal_keeping.specs.Runners.{HasKept, IsHiredRunner, IsRunner, SameServices}
 use Rattle.cal_keeping.specs.Runners.{lines_left}
 use Rattle.cal_keeping.specs.declared.channels.Channels.{Channels}
 use Rattle.cal_keeping.specs.declared.runner.Runner.{Runner}
-use Rattle.cal_notes.specs.Together.{HasFlushed, WasFlushed}
+use Rattle.cal_notes.specs.Together.{HasFlushed}
 use Rattle.cal_once.specs.declared.seat.RowSeat.{RowSeat}
 use Rattle.cal_process.specs.declared.common.Common.{Common}
 use Rattle.cal_replay.specs.Channels.{HasShownLines}
@@ -33,7 +32,6 @@ use Rattle.cal_table.specs.Tables.{TableValue}
 use Rattle.cal_table.specs.declared.shape.TableShape.{TableShape}
 use Rattle.cal_thread.specs.declared.thread.Thread.{Thread}
 use Rattle.cal_value.specs.declared.attribute.Attribute.{Attribute}
-use Rattle.cal_words.specs.declared.op.OpRec.{OpRec}
 use Rattle.cal_words.specs.declared.sort.NodeSort.{NodeSort}
 
 -- what the law of the start says, of `cal_replay`
@@ -54,6 +52,7 @@ started-same old new same = record {
   thread = λ i. (same i).thread;
   numbers = λ i. (same i).numbers;
   books = λ i. (same i).books;
+  probes = λ i. (same i).probes;
 }
 
 module _ {P : Type 0} (shared : Shared) (old new : Runner P) (reading : ℕ) (law : StartLaw)

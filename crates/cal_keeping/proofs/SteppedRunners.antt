@@ -1,7 +1,9 @@
 -- A runner behind a step: what it keeps, and what stays.
-use Rattle.std.proofs.Common.{◌≡◌, ℕ, ◌+◌, ◌-◌, ◌<◌, List, ◌∷◌, [], ◌++◌, length, get_or, ⊎_elim}
-use Rattle.std.proofs.Common.{ap, ◌∙◌, sym, subst, refl, arith}
-use Rattle.std.specs.Prelude.{Option, Some, slice_get}
+use Rattle.std.proofs.Common.{◌≡◌, ℕ, ◌+◌, ◌<◌, List, ◌∷◌, [], ◌++◌, length, get_or, ⊎_elim}
+use Rattle.std.proofs.Common.{Bool, true, false, ap, ◌∙◌, sym, subst, refl, arith}
+use Rattle.std.specs.Prelude.{Option, Some, nat_lt, slice_get}
+use Rattle.std.proofs.lemmas.Bool.{ltb-false, ltb-true}
+use Rattle.std.proofs.lemmas.List.{take_all}
 use Rattle.std.proofs.lemmas.Option.{slice_get-get_or, slice_get_within}
 use Rattle.cal_book.specs.Seats.{view}
 use Rattle.cal_channel.specs.Values.{ChannelValue, with_table}
@@ -62,6 +64,19 @@ MergedLaw = (common : Common) (attributes : List Attribute) (seat : RowSeat Node
     → HasShown common attributes seat (with_table c (empty_table part.shape))
     (given ++ part ∷ []) all last
 
+-- ---- whether lines remain
+
+module _ (script : Script) (w : Worker) (more : Bool)
+    (is : more ≡ nat_lt (length w.note.lines) (length (lines_of script w.thread.number))) where
+  pub lines-remain : more ≡ true
+      → length w.note.lines < length (lines_of script w.thread.number)
+  lines-remain there = ltb-true (length w.note.lines) (length (lines_of script w.thread.number))
+      (sym is ∙ there)
+
+  pub all-done : more ≡ false → lines_done script w ≡ lines_of script w.thread.number
+  all-done none = take_all (length w.note.lines) (lines_of script w.thread.number)
+      (ltb-false (length w.note.lines) (length (lines_of script w.thread.number)) (sym is ∙ none))
+
 -- ---- what stays
 
 left-same : {P : Type 0} (had has : Channels P) → has ≡ had → SameServices had has
@@ -69,6 +84,7 @@ left-same had has same = record {
   thread = λ i. (same i).thread;
   numbers = λ i. (same i).numbers;
   books = λ i. (same i).books;
+  probes = λ i. (same i).probes;
 }
 
 flushes-same : {P : Type 0} (had has : Channels P) (l : lines.Line) (answer : replies.Reply)
@@ -81,6 +97,7 @@ flushes-same had has (line.Flush k) answer f = record {
   thread = λ i. (f.same i).thread;
   numbers = λ i. (f.same i).numbers;
   books = λ i. (f.same i).books;
+  probes = λ i. (f.same i).probes;
 }
 flushes-same had has (line.Tick t) answer same = left-same had has same
 
@@ -90,10 +107,11 @@ module _ {P : Type 0} (a b c : Channels P) where
     thread = q.thread ∙ p.thread;
     numbers = q.numbers ∙ p.numbers;
     books = q.books ∙ p.books;
+    probes = q.probes ∙ p.probes;
   }
 
 pub same-already : {P : Type 0} (a : Channels P) → SameServices a a
-same-already a = record { thread = refl; numbers = refl; books = refl }
+same-already a = record { thread = refl; numbers = refl; books = refl; probes = refl }
 
 module _ {K P : Type 0} (given : K → Option (List ℕ)) (shared : Shared) (was is : K)
     (old new : Runner P) (s : StepsOn shared given was is old new) where
@@ -108,6 +126,7 @@ module _ {K P : Type 0} (given : K → Option (List ℕ)) (shared : Shared) (was
     thread = λ i. (s.tells.shown.same i).thread;
     numbers = λ i. (s.tells.shown.same i).numbers;
     books = λ i. (s.tells.shown.same i).books;
+    probes = λ i. (s.tells.shown.same i).probes;
   }
 
   pub step-same : SameServices old.channels new.channels

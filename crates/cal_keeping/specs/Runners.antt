@@ -83,6 +83,7 @@ pub record SameServices {P : Type 0} (old new : Channels P) : Type 0 where
   pub thread : new.thread ≡ old.thread
   pub numbers : new.numbers ≡ old.numbers
   pub books : new.books ≡ old.books
+  pub probes : new.probes ≡ old.probes
 
 -- A step of a runner is one of its worker, whose channels are told of the line.
 abbrev pub StepsOn : {K P : Type 0} → (shared : Shared) → (given : K → Option (List ℕ))

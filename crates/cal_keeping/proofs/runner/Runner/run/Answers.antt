@@ -1,12 +1,11 @@
-use Rattle.std.proofs.Common.{◌≡◌, ◌∙◌, ◌+◌, ◌<◌, ◌++◌, List, [], length, ℕ, refl, sym, ap, subst}
+use Rattle.std.proofs.Common.{◌∙◌, ◌+◌, ◌++◌, List, [], refl, sym, subst}
 use Rattle.std.proofs.Common.{append-nil, append_assoc, arith}
-use Rattle.std.proofs.lemmas.Bool.{ltb-false, ltb-true}
-use Rattle.std.proofs.lemmas.List.{take_all}
-use Rattle.cal_keeping.proofs.SteppedRunners.{one-less, same-already, same-then, step-same}
+use Rattle.cal_keeping.proofs.SteppedRunners.{all-done, lines-remain, one-less, same-already}
+use Rattle.cal_keeping.proofs.SteppedRunners.{same-then, step-same}
 use Rattle.cal_keeping.specs.Kept.{AreToldOf, IsFlushedAt}
 use Rattle.cal_keeping.specs.Runners.{IsRunner}
 use Rattle.cal_replay.proofs.ManyLines.{asked-none, readings-then}
-use Rattle.cal_replay.specs.Workers.{lines_of, script_of}
+use Rattle.cal_replay.specs.Workers.{script_of}
 use Rattle.cal_words.specs.declared.op.OpRec.{OpRec}
 use Rattle.cal_keeping.proofs.runner.Runner.run.Goals as goal
 
@@ -33,13 +32,13 @@ step-requires-clause-runner g c = c.loop-alloc.invariant.some
 
 pub step-requires-clause-remains : goal.step-requires-clause-remains
 step-requires-clause-remains g c =
-    ltb-true _ _ (sym c.has_more.ensures ∙ c.loop-alloc-test.true)
+    lines-remain (script_of c.args.shared.now) c.loop-alloc.self.worker c.has_more.result
+    c.has_more.ensures c.loop-alloc-test.true
 
 pub loop-alloc-smaller : goal.loop-alloc-smaller
 loop-alloc-smaller g c =
-    let below = ltb-true (length c.loop-alloc.self.worker.note.lines)
-    (length (lines_of (script_of c.args.shared.now) c.loop-alloc.self.worker.thread.number))
-    (sym c.has_more.ensures ∙ c.loop-alloc-test.true) in
+    let below = lines-remain (script_of c.args.shared.now) c.loop-alloc.self.worker
+    c.has_more.result c.has_more.ensures c.loop-alloc-test.true in
     let one = one-less _ c.args.shared.now c.loop-alloc.clock c.step.new.clock c.loop-alloc.self
     c.step.new.self c.in_ok-_more.ensures.steps below in
     omega (arith, one)
@@ -72,14 +71,11 @@ loop-alloc-preserved g c =
 pub returns-clause-runs : goal.returns-clause-runs
 returns-clause-runs g c h r =
     let m = c.loop-alloc.invariant.more h r in
-    let worker = c.loop-alloc.self.worker in
-    let lines = lines_of (script_of c.args.shared.now) worker.thread.number in
     record {
       ops = m.0;
       kept = m.1;
-      all = take_all (length worker.note.lines) lines
-          (ltb-false (length worker.note.lines) (length lines)
-          (sym c.has_more.ensures ∙ c.loop-alloc-test.false));
+      all = all-done (script_of c.args.shared.now) c.loop-alloc.self.worker c.has_more.result
+          c.has_more.ensures c.loop-alloc-test.false;
     }
 
 pub returns-clause-number : goal.returns-clause-number
