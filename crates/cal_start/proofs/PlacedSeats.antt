@@ -1,18 +1,14 @@
 -- Seats at books, place by place: with one book more, and while seats are split off.
-use Rattle.std.proofs.Common.{◌≡◌, ◌≢◌, ◌⊎◌, ℕ, ◌+◌, ◌<◌, ◌≤◌, List, [], ◌∷◌, ◌++◌, length, set}
-use Rattle.std.proofs.Common.{refl, sym, ap, ◌∙◌, subst, arith, inl, inr, ⊎_elim}
+use Rattle.std.proofs.Common.{◌≡◌, ℕ, ◌+◌, ◌<◌, ◌≤◌, List, [], ◌∷◌, ◌++◌, length, set}
+use Rattle.std.proofs.Common.{sym, ap, ◌∙◌, subst, arith, ⊎_elim}
 use Rattle.std.specs.Prelude.{Some, slice_get}
 use Rattle.std.proofs.lemmas.List.{length-set, length_push}
-use Rattle.std.proofs.lemmas.Option.{get_or_from_slice_get, slice_get_within}
+use Rattle.std.proofs.lemmas.Option.{slice_get_within}
 use Rattle.cal_book.proofs.Lists.{at_end, at_set}
 use Rattle.cal_replay.specs.Flushing.{BookOf, SeatOf}
 use Rattle.cal_start.specs.FirstSeats.{HaveSeats}
 
 module _ (fact : BookOf → SeatOf → Type 0) where
-  -- no book has no seat
-  pub seats-none : HaveSeats fact [] []
-  seats-none = record { many = refl; each = λ place book seat at_book at_seat. absurd cc }
-
   -- one book more, with its seat
   pub seats-push : (books : List BookOf) (seats : List SeatOf) (book : BookOf) (seat : SeatOf)
       → HaveSeats fact books seats → fact book seat
@@ -49,15 +45,6 @@ pub record AreSplit (done left : BookOf → SeatOf → Type 0) (books : List Boo
       → slice_get books k ≡ Some book → slice_get seats k ≡ Some seat → left book seat
 
 module _ (done left : BookOf → SeatOf → Type 0) (books : List BookOf) where
-  -- before the first place
-  pub split-none : (seats : List SeatOf) → HaveSeats left books seats
-      → AreSplit done left books seats 0
-  split-none seats have = record {
-    many = have.many;
-    before = λ k book seat less at_book at_seat. absurd (omega (arith, less));
-    behind = λ k book seat from at_book at_seat. have.each k book seat at_book at_seat;
-  }
-
   -- one place more
   pub split-more : (seats : List SeatOf) (place : ℕ) (book : BookOf) (seat : SeatOf)
       → AreSplit done left books seats place → slice_get books place ≡ Some book
@@ -97,9 +84,6 @@ pub record AreMade (fact : BookOf → SeatOf → Type 0) (books : List BookOf) (
       → slice_get seats k ≡ Some seat → fact book seat
 
 module _ (fact : BookOf → SeatOf → Type 0) (books : List BookOf) where
-  pub made-none : AreMade fact books [] 0
-  made-none = record { many = refl; each = λ k book seat at_book at_seat. absurd cc }
-
   -- one more
   pub made-more : (seats : List SeatOf) (place : ℕ) (book : BookOf) (seat : SeatOf)
       → AreMade fact books seats place → slice_get books place ≡ Some book → fact book seat
@@ -115,7 +99,3 @@ module _ (fact : BookOf → SeatOf → Type 0) (books : List BookOf) where
             subst (λ (x : SeatOf). fact b x) end.0 (subst (λ (x : BookOf). fact x seat) one here))
         (at_end seats seat s k at_seat);
   }
-
-  pub made-all : (seats : List SeatOf) (place : ℕ) → place ≡ length books
-      → AreMade fact books seats place → HaveSeats fact books seats
-  made-all seats place all made = record { many = made.many ∙ all; each = made.each }

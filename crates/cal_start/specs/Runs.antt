@@ -26,8 +26,8 @@ shapes_for hashers attributes script = map (shape_for hashers attributes) script
 
 -- Books are made for so many threads, and their tables have these shapes, one for each book.
 pub record AreBooks (threads : ℕ) (shapes : List TableShape) (books : List BookOf) : Type 0 where
-  pub shapes : map shape_of_book books ≡ shapes
-  pub threads : All (λ (book : BookOf). threads_of book ≡ threads) books
+  pub made : map shape_of_book books ≡ shapes
+  pub room : All (λ (book : BookOf). threads_of book ≡ threads) books
 
 -- Workers share what is a run's; the tree and the history have the layouts of the script; the
 -- attributes and values of the script, and the attributes that services add, have their numbers in
@@ -46,6 +46,6 @@ pub record IsRun (run : Run) : Type 0 where
 
 -- the run of a script, with readings off real clocks or by the script's
 pub record IsRunOf (script : Script) (real : Bool) (run : Run) : Type 0 where
-  pub run : IsRun run
+  pub is : IsRun run
   pub script_is : script_of run.shared ≡ script
   pub real_is : run.shared.real ≡ real

@@ -9,8 +9,8 @@ ghost use Rattle.cal_start.specs.Runs.{IsRun};
 
 use crate::{FirstSeats, Run};
 use cal_keeping::{Channels, Runner};
-use cal_probe::Probes;
 use cal_replay::Worker;
+use cal_run::Prober;
 use cal_table::{Book, BookSeat};
 use cal_thread::Thread;
 use cal_value::OutOfMemory;
@@ -21,12 +21,12 @@ impl<'a> Run<'a> {
     /// started. It is called once, behind `new`. It takes memory for a copy of each shape for each
     /// thread. Behind an `Err`, which is want of memory, some seats may have been split off, and
     /// nobody is hired any more.
-    pub fn hire<'r>(
+    pub fn hire<'r, P: Prober>(
         &'r self,
         alloc: Global,
-        probes: &'r Probes,
+        probes: &'r P,
         first: &mut FirstSeats,
-    ) -> Result<Vec<Runner<'r>>, OutOfMemory>
+    ) -> Result<Vec<Runner<'r, P>>, OutOfMemory>
         requires run { IsRun self.now }
         requires first { HaveHired self.now first.old 0 }
         ensures hired { IfOk result (λ runners. AreHired self.now runners.items) }
@@ -43,13 +43,13 @@ impl<'a> Run<'a> {
     }
 
     /// The running thread of a number. Those before it are hired.
-    fn hire_one<'r>(
+    fn hire_one<'r, P: Prober>(
         &'r self,
         alloc: Global,
         number: u32,
-        probes: &'r Probes,
+        probes: &'r P,
         first: &mut FirstSeats,
-    ) -> Result<Runner<'r>, OutOfMemory>
+    ) -> Result<Runner<'r, P>, OutOfMemory>
         requires run { IsRun self.now }
         requires thread { number < length (script_of self.now.shared).threads }
         requires first { HaveHired self.now first.old number }
