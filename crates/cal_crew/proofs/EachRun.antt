@@ -1,10 +1,11 @@
 -- All runners with their clocks have run, as their shifts say.
 use Rattle.std.proofs.Common.{◌≡◌, ℕ, ◌+◌, ◌<◌, List, ◌++◌, true, length, map, drop, take, arith}
+use Rattle.std.proofs.Common.{get_or}
 use Rattle.std.proofs.Common.{refl, sym, ap, ◌∙◌, subst, append-nil}
 use Rattle.std.specs.Prelude.{All, Option, Some, slice_get, slice_index_or}
 use Rattle.std.proofs.lemmas.List.{drop_all, drop_at, length-append, length-map, take_all}
-use Rattle.std.proofs.lemmas.Option.{get_or_from_slice_get, slice_get_within}
-use Rattle.cal_book.proofs.Lists.{at_longer, at_map, at_mapped}
+use Rattle.std.proofs.lemmas.Option.{get_or_from_slice_get, slice_get-get_or, slice_get_within}
+use Rattle.cal_book.proofs.Lists.{All-at, at_longer, at_map, at_mapped}
 use Rattle.cal_crew.specs.Ran.{HasRun, HaveRun}
 use Rattle.cal_crew.specs.Shifts.{HaveShifted, clocks_of, runners_of}
 use Rattle.cal_crew.specs.declared.shift.Shift.{Shift}
@@ -21,6 +22,14 @@ lent-back old lent new long all many same =
         (drop_all (length new) old (omega (arith, same, short)))
     ∙ ap (take long) (append-nil new)
     ∙ take_all long new (omega (arith, many, same, short))
+
+-- what holds of all that are made of others
+pub of-all : {X Y : Type 0} → (F : Y → Type 0) (f : X → Y) (xs : List X) (ys : List Y)
+    → map f xs ≡ ys → All F ys → All (λ (x : X). F (f x)) xs
+of-all F f xs ys is all k d less =
+    let here = at_mapped f xs k (get_or xs k d) (slice_get-get_or xs k d less) in
+    All-at F ys k (f (get_or xs k d)) all
+    (subst (λ l. slice_get l k ≡ Some (f (get_or xs k d))) is here)
 
 module _ {P K : Type 0} (shared : Shared) (given : K → Option (List ℕ)) where
   moved : (a b : Runner P) (c d : K) (had has : Runner P) (before behind : K)

@@ -1,2 +1,1 @@
 pub mod EachRun
-pub mod Turning
