@@ -21,6 +21,6 @@ module _ {P : Type 0} (run : Run) where
     many = length_push runners r ∙ ap (λ (n : ℕ). n + 1) below.many;
     each = λ k s at. ⊎_elim (λ was. below.each k s was)
         (λ end. subst (λ (n : ℕ). IsHiredFor run n s) (sym (end.1 ∙ below.many))
-            (subst (λ (x : Runner P). IsHiredFor run number x) end.0 here))
+        (subst (λ (x : Runner P). IsHiredFor run number x) end.0 here))
         (at_end runners r s k at);
   }

@@ -25,8 +25,8 @@ module _ (run : Run) (is : IsRun run) (number : ℕ)
       → r.channels.books.now ≡ run.books.items → IsHiredFor run number r
   hired-for r hired own fresh ready thread numbers books =
       let few : length (lines_of (script_of run.shared) r.worker.thread.number) ≤ 2 ^ 20 =
-          subst (λ (n : ℕ). length (lines_of (script_of run.shared) n) ≤ 2 ^ 20) (sym own)
-          (few-lines (script_of run.shared) number is.shared.common.runnable within) in
+      subst (λ (n : ℕ). length (lines_of (script_of run.shared) n) ≤ 2 ^ 20) (sym own)
+      (few-lines (script_of run.shared) number is.shared.common.runnable within) in
       record {
         hired = record {
           worker = hired;

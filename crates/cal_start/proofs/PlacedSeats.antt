@@ -18,18 +18,18 @@ module _ (fact : BookOf → SeatOf → Type 0) where
     each = λ place b s at_book at_seat. ⊎_elim
         (λ was. ⊎_elim (λ too. have.each place b s was too)
         (λ end.
-            let less = slice_get_within books place b was in
-            let at = end.1 in
-            let many = have.many in
-            absurd (omega (arith, less, at, many)))
+        let less = slice_get_within books place b was in
+        let at = end.1 in
+        let many = have.many in
+        absurd (omega (arith, less, at, many)))
         (at_end seats seat s place at_seat))
         (λ new. ⊎_elim (λ too.
-            let less = slice_get_within seats place s too in
-            let at = new.1 in
-            let many = have.many in
-            absurd (omega (arith, less, at, many)))
+        let less = slice_get_within seats place s too in
+        let at = new.1 in
+        let many = have.many in
+        absurd (omega (arith, less, at, many)))
         (λ end. subst (λ (x : SeatOf). fact b x) end.0
-            (subst (λ (x : BookOf). fact x seat) new.0 here))
+        (subst (λ (x : BookOf). fact x seat) new.0 here))
         (at_end seats seat s place at_seat))
         (at_end books book b place at_book);
   }
@@ -53,12 +53,12 @@ module _ (done left : BookOf → SeatOf → Type 0) (books : List BookOf) where
     many = length-set seats place seat ∙ split.many;
     before = λ k b s less at_book at_seat. ⊎_elim
         (λ same.
-            let one : book ≡ b =
-                let e = subst (λ (n : ℕ). slice_get books n ≡ Some b) same.0 at_book in cc in
-            subst (λ (x : SeatOf). done b x) same.1 (subst (λ (x : BookOf). done x seat) one here))
+        let one : book ≡ b =
+        let e = subst (λ (n : ℕ). slice_get books n ≡ Some b) same.0 at_book in cc in
+        subst (λ (x : SeatOf). done b x) same.1 (subst (λ (x : BookOf). done x seat) one here))
         (λ other.
-            let apart = other.0 in
-            split.before k b s (omega (arith, less, apart)) at_book other.1)
+        let apart = other.0 in
+        split.before k b s (omega (arith, less, apart)) at_book other.1)
         (at_set seats place k seat s at_seat);
     behind = λ k b s from at_book at_seat. ⊎_elim
         (λ same. let e = same.0 in absurd (omega (arith, from, e)))
@@ -93,9 +93,9 @@ module _ (fact : BookOf → SeatOf → Type 0) (books : List BookOf) where
     each = λ k b s at_book at_seat. ⊎_elim
         (λ was. made.each k b s at_book was)
         (λ end.
-            let one : book ≡ b =
-                let e = subst (λ (n : ℕ). slice_get books n ≡ Some b) (end.1 ∙ made.many) at_book in
-                cc in
-            subst (λ (x : SeatOf). fact b x) end.0 (subst (λ (x : BookOf). fact x seat) one here))
+        let one : book ≡ b =
+        let e = subst (λ (n : ℕ). slice_get books n ≡ Some b) (end.1 ∙ made.many) at_book in
+        cc in
+        subst (λ (x : SeatOf). fact b x) end.0 (subst (λ (x : BookOf). fact x seat) one here))
         (at_end seats seat s k at_seat);
   }

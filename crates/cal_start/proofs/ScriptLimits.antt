@@ -1,7 +1,7 @@
 -- What the limits of a script leave to its threads.
-use Rattle.std.proofs.Common.{◌≡◌, ℕ, ◌+◌, ◌-◌, ◌<◌, ◌≤◌, ◌^◌, Bool, true, List, [], length, get_or}
-use Rattle.std.proofs.Common.{refl, sym, ap, ◌∙◌, subst, arith}
-use Rattle.std.specs.Prelude.{All, sum_by}
+use Rattle.std.proofs.Common.{◌≡◌, ℕ, ◌<◌, ◌≤◌, ◌^◌, Bool, true, List, [], length, get_or}
+use Rattle.std.proofs.Common.{◌∙◌, arith}
+use Rattle.std.specs.Prelude.{All}
 use Rattle.std.specs.List.{list_any}
 use Rattle.std.proofs.lemmas.List.Folds.{list_any-from_Any}
 use Rattle.std.proofs.lemmas.List.Sums.{get_or-le-sum_by}
@@ -19,15 +19,16 @@ pub few-lines : (script : Script) (number : ℕ) → IsRunnable script
     → number < length script.threads → length (lines_of script number) ≤ 2 ^ 20
 few-lines script number runnable within =
     let one = get_or-le-sum_by (λ (lines : List Line). length lines) script.threads number []
-        within in
+    within in
     let all = runnable.few_lines in
     omega (arith, one, all)
 
--- what passes a test is some that passes
+-- where an item passes a test, some item does
 passes-any : {X : Type 0} (test : X → Bool) (b : Bool) (xs : List X) → b ≡ list_any test xs
     → All (λ (x : X). test x ≡ true → b ≡ true) xs
 passes-any test b xs is k d less passes =
-    is ∙ list_any-from_Any test xs (k, get_or xs k d, less, get_or_default xs k (get_or xs k d) d less, passes)
+    let same = get_or_default xs k (get_or xs k d) d less in
+    is ∙ list_any-from_Any test xs (k, get_or xs k d, less, same, passes)
 
 -- where some channel has the timer, the timers say so
 pub timed-channels : (script : Script) (t : Timers) → AreTimers script t

@@ -17,10 +17,10 @@ use cal_value::OutOfMemory;
 use std::alloc::Global;
 
 impl<'a> Run<'a> {
-    /// A running thread for each thread of the script, with seats of its own, of which none is
-    /// started. It is called once, behind `new`. It takes memory for a copy of each shape for each
-    /// thread. Behind an `Err`, which is want of memory, some seats may have been split off, and
-    /// nobody is hired any more.
+    /// A running thread for each thread of the script, in the order of their numbers, with seats of
+    /// its own; none is started. It is called once, behind `new`. It takes memory for a copy of
+    /// each shape for each thread. Behind an `Err`, which is want of memory, `first` may have split
+    /// some seats off, and nobody is hired from it again.
     pub fn hire<'r, P: Prober>(
         &'r self,
         alloc: Global,

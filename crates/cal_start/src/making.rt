@@ -18,9 +18,9 @@ use std::hash::RandomState;
 
 impl<'a> Run<'a> {
     /// What the threads of a script share, with readings off real clocks or by the script's, and
-    /// the first seats. It takes one pass over the script, the memory of the tree and the history,
-    /// a copy of each attribute, and for each channel a bit of each attribute for each name of its
-    /// query. It runs out of memory or succeeds.
+    /// the first seats. It takes a few passes over the script's lines, the memory of the tree and
+    /// the history, a copy of each attribute, and for each name of a channel's query a flag for
+    /// each attribute. An `Err` is want of memory.
     pub fn new(
         alloc: Global,
         hashers: RandomState,

@@ -1,4 +1,4 @@
-use Rattle.std.proofs.Common.{◌≡◌, ◌+◌, List, [], ◌∷◌, ◌++◌, length, take, sym, ap, subst, arith}
+use Rattle.std.proofs.Common.{◌+◌, List, [], ◌∷◌, ◌++◌, length, take, sym, ap, subst, arith}
 use Rattle.cal_replay.specs.Flushing.{BookOf, BookView, SeatOf}
 use Rattle.cal_start.proofs.ManyBooks.{books-push}
 use Rattle.cal_start.proofs.PlacedSeats.{seats-push}
@@ -21,7 +21,8 @@ loop-shape-preserved c =
           c.loop-shape.invariant.books (omega arith) c.shape-item.is made.0 made.1);
       first = subst (λ (xs : List BookOf). AreFirstSeats 0 xs c.push-in-loop-shape.new.self.items)
           (sym c.in_ok-push.ensures.items)
-          (subst (λ (ys : List SeatOf). AreFirstSeats 0 (books ++ book ∷ []) ys) (sym c.in_ok-push-2.ensures.items)
+          (subst (λ (ys : List SeatOf). AreFirstSeats 0 (books ++ book ∷ []) ys)
+          (sym c.in_ok-push-2.ensures.items)
           (seats-push (IsFirstSeat 0) books c.loop-shape.seats.items book c.in_ok-book.seat
           c.loop-shape.invariant.first (record {
             seat_is = seat.0;

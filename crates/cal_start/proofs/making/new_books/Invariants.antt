@@ -1,4 +1,4 @@
-use Rattle.std.proofs.Common.{◌≡◌, map, take}
+use Rattle.std.proofs.Common.{take}
 use Rattle.cal_start.specs.FirstSeats.{AreFirstSeats}
 use Rattle.cal_start.specs.Runs.{AreBooks}
 use Rattle.cal_start.proofs.making.new_books.Given as goal

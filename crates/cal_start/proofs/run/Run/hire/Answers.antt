@@ -20,6 +20,6 @@ pub returns-clause-first : goal.returns-clause-first
 returns-clause-first g c =
     let few = c.requires.run.shared.common.runnable.few_threads in
     let e : c.loop-number.number ≡ length (script_of c.args.self.now.shared).threads =
-        omega (arith, few, c.len-threads.ensures) in
+    omega (arith, few, c.len-threads.ensures) in
     subst (λ (n : ℕ). HaveHired c.args.self.now c.loop-number.first n) e
     c.loop-number.invariant.first

@@ -1,4 +1,4 @@
-use Rattle.std.proofs.Common.{◌≡◌, ◌+◌, List, Bor, sym, ap, ◌∙◌, subst}
+use Rattle.std.proofs.Common.{◌+◌, List, Bor, sym, ap, ◌∙◌, subst}
 use Rattle.std.proofs.lemmas.List.{with_items_is}
 use Rattle.cal_replay.specs.Flushing.{BookOf, SeatOf}
 use Rattle.cal_run.specs.declared.numbers.Numbers.{Numbers}
@@ -25,7 +25,7 @@ returns-clause-first g c =
     let seats = c.split_seats.new.first in
     let books = c.args.self.now.books.items in
     let first = subst (λ (xs : List BookOf). AreFirstSeats (c.args.number + 1) xs seats)
-        c.as_slice-books.ensures.value c.in_ok-seats.ensures.first in
+    c.as_slice-books.ensures.value c.in_ok-seats.ensures.first in
     let long = first.many ∙ sym c.requires.first.books.many ∙ sym had.ok.0 in
     record {
       hired = c.hire-thread.ensures.hired;
