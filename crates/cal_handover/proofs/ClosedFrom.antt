@@ -1,8 +1,7 @@
 -- The books from a place on are closed.
-use Rattle.std.proofs.Common.{◌≡◌, ℕ, zero, suc, ◌+◌, ◌<◌, List, [], ◌∷◌, Some}
-use Rattle.std.proofs.Common.{length, sym, subst, arith}
+use Rattle.std.proofs.Common.{◌≡◌, ℕ, zero, suc, ◌+◌, List, [], ◌∷◌, Some}
+use Rattle.std.proofs.Common.{length, subst, sym, arith}
 use Rattle.std.specs.Prelude.{slice_get}
-use Rattle.std.proofs.lemmas.Option.{slice_get_within}
 use Rattle.cal_channel.specs.Values.{ChannelValue}
 use Rattle.cal_handover.specs.Closing.{AreClosed, IsClosed}
 use Rattle.cal_handover.specs.Places.{at_place, tables_at}

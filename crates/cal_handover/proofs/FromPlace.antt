@@ -143,3 +143,9 @@ channels-within many n lists less long =
     (All-weaker (λ (own : List ChannelValue). length own ≡ many)
     (λ (own : List ChannelValue). n < length (emptied_from (suc n) own))
     (λ own e. let same = length-from (suc n) own in omega (arith, e, less, same)) lists long)
+
+-- all are emptied
+pub channels-all : (lists : List (List ChannelValue))
+    → map (emptied_from 0) lists ≡ map (map emptied) lists
+channels-all [] = refl
+channels-all (cs ∷ lists) = ap (λ rest. map emptied cs ∷ rest) (channels-all lists)

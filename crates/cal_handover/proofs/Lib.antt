@@ -1,4 +1,4 @@
 mod OnePlace
 mod FromPlace
 mod ClosedFrom
-mod Handings
+mod LeftBooks

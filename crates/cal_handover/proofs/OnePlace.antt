@@ -1,6 +1,6 @@
 -- What is taken from the lists of threads at one place, thread by thread.
 use Rattle.std.proofs.Common.{◌≡◌, ℕ, zero, suc, ◌+◌, ◌<◌, List, [], ◌∷◌, ◌++◌, Some}
-use Rattle.std.proofs.Common.{length, map, take, drop, set, refl, sym, ap, ◌∙◌, arith}
+use Rattle.std.proofs.Common.{length, map, take, drop, set, refl, sym, ap, ◌∙◌, arith, subst}
 use Rattle.std.specs.List.{All, cons_option, filter_map, remove}
 use Rattle.std.specs.Prelude.{Option, option_map, slice_get, slice_index_or}
 use Rattle.std.specs.declared.vec.Vec.{Vec}
@@ -16,12 +16,8 @@ module _ {A : Type 0} where
   -- a fact of each item, at a place
   pub All-at : (P : A → Type 0) (xs : List A) (k : ℕ) (x : A) → All P xs
       → slice_get xs k ≡ Some x → P x
-  All-at P xs k x all at =
-      subst_at (get_or_from_slice_get xs k x x at) (All-get_or P xs k x
-      (slice_get_within xs k x at) all)
-    where
-      subst_at : {a b : A} → a ≡ b → P a → P b
-      subst_at e h = coe (λ i. P (e i)) h
+  All-at P xs k x all at = subst P (get_or_from_slice_get xs k x x at)
+      (All-get_or P xs k x (slice_get_within xs k x at) all)
 
   -- the item at a place that wasn't reached
   pub slice_get-behind : (f : A → A) (n : ℕ) (xs : List A)
