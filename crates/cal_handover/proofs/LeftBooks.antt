@@ -156,13 +156,11 @@ module _ (books : List BookOf) (firsts : List SeatOf) (seats : List (List SeatOf
           is-closed;
     }
       where
-        for_seats : List SeatOf → Type 0
-        for_seats own = IsClosed book own (tables_at (length rest) channels) table
-
-        for_tables : List TableValue → Type 0
-        for_tables ts = IsClosed book (at_place place left_seats) ts table
-
         is-closed : IsClosed book (at_place (length rest) seats) (tables_at (length rest) channels)
             table
-        unfolding for_seats, for_tables
-        is-closed = subst for_seats seats-here (subst for_tables tables-here closed)
+        is-closed =
+            let for_seats : List SeatOf → Type 0 =
+            λ own. IsClosed book own (tables_at (length rest) channels) table in
+            let for_tables : List TableValue → Type 0 =
+            λ ts. IsClosed book (at_place place left_seats) ts table in
+            subst for_seats seats-here (subst for_tables tables-here closed)

@@ -1,10 +1,10 @@
 -- What is taken from the lists of threads at one place, thread by thread.
-use Rattle.std.proofs.Common.{◌≡◌, ℕ, zero, suc, ◌+◌, ◌<◌, List, [], ◌∷◌, ◌++◌, Some}
+use Rattle.std.proofs.Common.{◌≡◌, ℕ, zero, suc, ◌+◌, ◌<◌, ◌≤◌, List, [], ◌∷◌, ◌++◌, Some}
 use Rattle.std.proofs.Common.{length, map, take, drop, set, refl, sym, ap, ◌∙◌, arith, subst}
 use Rattle.std.specs.List.{All, cons_option, filter_map, remove}
 use Rattle.std.specs.Prelude.{Option, option_map, slice_get, slice_index_or}
 use Rattle.std.specs.declared.vec.Vec.{Vec}
-use Rattle.std.proofs.lemmas.List.{append-nil, drop_all, map-set, take_all, take_more}
+use Rattle.std.proofs.lemmas.List.{append-nil, drop_all, length-map, map-set, take_all, take_more}
 use Rattle.std.proofs.lemmas.List.Edits.{map_over_more}
 use Rattle.std.proofs.lemmas.List.Elements.{All-get_or, filter_map-append}
 use Rattle.std.proofs.lemmas.Option.{get_or_from_slice_get, slice_get-map, slice_get_within}
@@ -70,6 +70,13 @@ module _ {A Z : Type 0} (f : List A → List A) (lists : List (List A)) (now : L
       (sym (get_or_from_slice_get (lists_of now) n own.items own.items
       (slice_get-map (λ (list : Vec A Z). list.items) now n
       ∙ ap (option_map (λ (list : Vec A Z). list.items)) at)))
+
+-- as many threads have lists as before
+pub length-lists : {A Z : Type 0} (f : List A → List A) (new old : List (Vec A Z))
+    → lists_of new ≡ map f (lists_of old) → length new ≡ length old
+length-lists {A} {Z} f new old e =
+    sym (length-map new (λ (list : Vec A Z). list.items)) ∙ ap length e
+    ∙ length-map (lists_of old) f ∙ length-map old (λ (list : Vec A Z). list.items)
 
 -- the tables at a place, with one thread more
 pub tables_at-more : (place n : ℕ) (lists : List (List ChannelValue)) (own : List ChannelValue)
