@@ -1,4 +1,4 @@
-use Rattle.std.proofs.Common.{◌≡◌, ◌+◌, ◌++◌, ◌∙◌, [], ◌∷◌, List, length, map, reverse, take}
+use Rattle.std.proofs.Common.{◌≡◌, ◌+◌, ◌++◌, ◌∙◌, [], ◌∷◌, List, drop, length, map, reverse, take}
 use Rattle.std.proofs.Common.{ap, sym, arith, subst}
 use Rattle.std.specs.List.{All}
 use Rattle.std.proofs.lemmas.List.{reverse-append, take_at}
@@ -69,9 +69,11 @@ loop-book-preserved c =
     ∙ ap (λ seats. map (take c.len-place.result) (lists_of seats)) c.as_mut_slice.ensures.value in
     let many = length-lists (take c.len-place.result) new was left in
     let ok = c.loop-book.seats.ok in
+    let rest = drop (length new) was in
+    let seats = take c.loop-book.seats.len (new ++ rest) in
     subst (λ (tables : List TableValue). AreLeft c.args.books.items c.args.firsts.items (lists_of c.args.seats.items)
     (lists_of c.args.channels.now) c.pop.new.self.items
-    c.remove-first.new.self.items _ (lists_of c.close_book_at.new.channels) tables)
+    c.remove-first.new.self.items (lists_of seats) (lists_of c.close_book_at.new.channels) tables)
     (sym (ap reverse c.in_ok-push.ensures.items
     ∙ reverse-append c.loop-book.tables.items (c.in_ok-table.table ∷ [])))
     (one-closed c.args.books.items c.args.firsts.items (lists_of c.args.seats.items)
@@ -79,9 +81,9 @@ loop-book-preserved c =
     c.pop.new.self.items c.in-Some.book c.loop-book.firsts.items
     (lists_of c.loop-book.seats.items) (lists_of c.loop-book.channels)
     (reverse c.loop-book.tables.items) c.loop-book.invariant c.in-Some.ensures.items
-    c.len-place.result at c.remove-first.new.self.items _
+    c.len-place.result at c.remove-first.new.self.items (lists_of seats)
     (lists_of c.close_book_at.new.channels) c.in_ok-table.table c.remove-first.ensures.items
-    (ap lists_of (take_at new _ c.loop-book.seats.len (omega (arith, many, ok))) ∙ left)
+    (ap lists_of (take_at new rest c.loop-book.seats.len (omega (arith, many, ok))) ∙ left)
     c.in_ok-table.ensures.channels
     (subst (λ seats. IsClosed c.in-Some.book (at_place c.len-place.result (lists_of seats))
     (tables_at c.len-place.result (lists_of c.loop-book.channels)) c.in_ok-table.table)
