@@ -1,16 +1,14 @@
 -- The threads of a run that have ended keep what a lawful journal asks of all of them.
-use Rattle.std.proofs.Common.{◌≡◌, ◌≢◌, ℕ, zero, suc, ◌+◌, ◌<◌, List, [], ◌∷◌, length, get_or}
+use Rattle.std.proofs.Common.{◌≡◌, ◌≢◌, ℕ, zero, suc, ◌<◌, List, [], ◌∷◌, length, get_or}
 use Rattle.std.proofs.Common.{map}
 use Rattle.std.proofs.Common.{◌⊎◌, inl, inr, refl, sym, ap, ◌∙◌, subst, arith}
-use Rattle.std.specs.Prelude.{Any, Option, Some, None, IsSomeAnd, option_map, slice_get, zip}
+use Rattle.std.specs.Prelude.{Option, Some, None, IsSomeAnd, option_map, slice_get, zip}
 use Rattle.std.specs.List.{All, AllZip, Contains}
 use Rattle.std.proofs.lemmas.List.{length-map}
-use Rattle.std.proofs.lemmas.List.Elements.{All-contains, Contains-get_or}
-use Rattle.std.proofs.lemmas.Option.{get_or_from_slice_get, slice_get-get_or, slice_get-map}
+use Rattle.std.proofs.lemmas.List.Elements.{All-contains}
+use Rattle.std.proofs.lemmas.Option.{get_or_from_slice_get, slice_get-map}
 use Rattle.std.proofs.lemmas.Option.{same_Some, slice_get_within}
-use Rattle.std.proofs.lemmas.Slice.Zip.{AllZip-left, AllZip-right}
 use Rattle.cal_book.specs.Accounts.{HadTurn, ThreadHadTurn}
-use Rattle.cal_book.specs.Closing.{AllMetHadTurns}
 use Rattle.cal_book.specs.Seats.{view}
 use Rattle.cal_book.specs.declared.view.Account.{Account}
 use Rattle.cal_channel.specs.Values.{ChannelValue}
@@ -22,12 +20,10 @@ use Rattle.cal_notes.specs.Together as notes
 use Rattle.cal_notes.specs.Together.{HasFlushed, HasMerged, HaveEnded, RanLines}
 use Rattle.cal_process.specs.Operations.{history_of}
 use Rattle.cal_replay.specs.Flushing.{SeatOf}
-use Rattle.cal_replay.specs.Workers.{IsShared, lines_done, lines_of, script_of}
+use Rattle.cal_replay.specs.Workers.{IsShared, lines_done, script_of}
 use Rattle.cal_replay.specs.declared.shared.Shared.{Shared}
-use Rattle.cal_run.specs.Numbers.{AreNamed}
 use Rattle.cal_script.specs.Valid.{IsFlushed, IsPlaced}
 use Rattle.cal_script.specs.declared.journal.Journal.{Journal}
-use Rattle.cal_script.specs.declared.journal.LineNote.{LineNote}
 use Rattle.cal_script.specs.declared.journal.Placed.{Placed}
 use Rattle.cal_script.specs.declared.journal.Reply as replies
 use Rattle.cal_script.specs.declared.journal.Reply.TheVariants as reply
@@ -120,22 +116,22 @@ module _ {P : Type 0} (shared : Shared) (runners : List (Runner P)) (history : L
         there = at.1;
         note_is = at.2;
         end = end;
-        lines_are = end.all ∙ get_or_from_slice_get script.threads thread ls [] ran.ran;
+        lines_are = end.run.all ∙ get_or_from_slice_get script.threads thread ls [] ran.ran;
       }
 
   has-ended : (thread : ℕ) (ls : List lines.Line) (note : ThreadNote)
       → RanLines script journal thread ls note → notes.HasEnded script journal thread ls note
   has-ended thread ls note ran =
       let t = the-thread thread ls note ran in record {
-        known = history_of t.end.h;
+        known = history_of t.end.run.h;
         begins = t.end.begins;
-        keeps = subst (λ n. KeepsRules script shared.real (history_of t.end.h) thread ls n)
+        keeps = subst (λ n. KeepsRules script shared.real (history_of t.end.run.h) thread ls n)
             (sym t.note_is)
-            (subst (λ l. KeepsRules script shared.real (history_of t.end.h) thread l
+            (subst (λ l. KeepsRules script shared.real (history_of t.end.run.h) thread l
             t.r.worker.note) t.lines_are
-            (subst (λ k. KeepsRules script shared.real (history_of t.end.h) k
-            (lines_done script t.r.worker) t.r.worker.note) t.end.number
-            t.end.is.worker.noted.rules));
+            (subst (λ k. KeepsRules script shared.real (history_of t.end.run.h) k
+            (lines_done script t.r.worker) t.r.worker.note) t.end.run.number
+            t.end.run.is.worker.noted.rules));
       }
 
   -- what a thread has kept for the channel at a place
@@ -148,9 +144,9 @@ module _ {P : Type 0} (shared : Shared) (runners : List (Runner P)) (history : L
     pub kept : HasKept shared attributes r.worker h place channel c (view seat)
 
   kept-at : (thread : ℕ) (r : Runner P) (end : HasEnded shared history thread r) (place : ℕ)
-      → place < length script.channels → KeptAt r end.h place
+      → place < length script.channels → KeptAt r end.run.h place
   kept-at thread r end place below =
-      let ready = end.is.ready in
+      let ready = end.run.is.ready in
       let channel = at-below script.channels place below in
       let many = ready.many in let seats = ready.seats in
       let c = at-below r.channels.channels.items place (omega (arith, many, below)) in
@@ -161,7 +157,7 @@ module _ {P : Type 0} (shared : Shared) (runners : List (Runner P)) (history : L
         c = c.item;
         seat = seat.item;
         seat_at = seat.there;
-        kept = end.is.kept ready.named.0 ready.named.1 place channel.item c.item seat.item
+        kept = end.run.is.kept ready.named.0 ready.named.1 place channel.item c.item seat.item
             channel.there c.there seat.there;
       }
 
@@ -171,7 +167,7 @@ module _ {P : Type 0} (shared : Shared) (runners : List (Runner P)) (history : L
       → channel < length script.channels
   flushed-channel thread ls channel at has =
       let all = is_shared.common.runnable.places thread []
-          (slice_get_within script.threads thread ls at) in
+      (slice_get_within script.threads thread ls at) in
       let placed : All (IsPlaced script.attributes script.channels script.values) ls =
       subst (All (IsPlaced script.attributes script.channels script.values))
       (get_or_from_slice_get script.threads thread ls [] at) all in
@@ -210,11 +206,11 @@ module _ {P : Type 0} (shared : Shared) (runners : List (Runner P)) (history : L
     below = flushed-channel thread ls channel ran.ran
         (flush-among ls note channel (reply.Busy holder) flushed)
 
-    mine : KeptAt t.r t.end.h channel
+    mine : KeptAt t.r t.end.run.h channel
     mine = kept-at thread t.r t.end channel below
 
     met : AllMetAt channel runners
-    met = ended.met channel below
+    met = ended.run.met channel below
 
     own : (account : Account TableValue) × (slice_get met.accounts thread ≡ Some account)
         × HasAccount channel t.r account
@@ -251,7 +247,7 @@ module _ {P : Type 0} (shared : Shared) (runners : List (Runner P)) (history : L
     other-end : HasEnded shared history holder other.0
     other-end = ended.ended holder other.0 other.1
 
-    theirs : KeptAt other.0 other-end.h channel
+    theirs : KeptAt other.0 other-end.run.h channel
     theirs = kept-at holder other.0 other-end channel below
 
     has-flushed : HasFlushed channel reply.Merged (lines_done script other.0.worker)
@@ -265,7 +261,7 @@ module _ {P : Type 0} (shared : Shared) (runners : List (Runner P)) (history : L
 
     has-merged : HasMerged script journal holder channel
     has-merged =
-        let many = ended.many in
+        let many = ended.run.many in
         let within = slice_get_within runners holder other.0 other.1 in
         let ls = at-below script.threads holder (omega (arith, many, within)) in
         record {
@@ -277,13 +273,13 @@ module _ {P : Type 0} (shared : Shared) (runners : List (Runner P)) (history : L
                 ∙ ap (option_map (λ (r : Runner P). r.worker.note)) other.1;
           };
           merged = subst (λ l. HasFlushed channel reply.Merged l other.0.worker.note)
-              (other-end.all ∙ get_or_from_slice_get script.threads holder ls.item [] ls.there)
+              (other-end.run.all ∙ get_or_from_slice_get script.threads holder ls.item [] ls.there)
               has-flushed;
         }
 
   pub have-ended : HaveEnded script journal
   have-ended = record {
-    many = length-map runners (λ (r : Runner P). r.worker.note) ∙ ended.many;
+    many = length-map runners (λ (r : Runner P). r.worker.note) ∙ ended.run.many;
     known = ended.known;
     ended = has-ended;
     busy = has-merged;

@@ -1,1 +1,2 @@
 pub mod LawfulRuns
+pub mod RunThreads

@@ -78,7 +78,7 @@ module _ (shared : Shared) where
     pub all : lines_done (script_of shared) r.worker
         ≡ lines_of (script_of shared) r.worker.thread.number
 
--- of its channels what all threads share is the same, and the thread
+-- The thread's number is the same, and what its channels share with those of all threads.
 pub record SameServices {P : Type 0} (old new : Channels P) : Type 0 where
   pub thread : new.thread ≡ old.thread
   pub numbers : new.numbers ≡ old.numbers

@@ -73,7 +73,8 @@ impl<'a, P: Prober> Channels<'a, P> {
         })
     }
 
-    /// Keeps the thread's start reading in each channel, which is the first one before.
+    /// Keeps the thread's start reading in each channel, as that before its first snapshot. It
+    /// takes no memory, and time in the channels.
     pub fn start(&mut self, reading: u64)
         ensures started { self.new.channels.items
             ≡ map (λ (c : ChannelValue). started_at c reading) self.old.channels.items }

@@ -23,7 +23,8 @@ pub struct Runner<'a, P> {
 
 impl<'a, P: Prober> Runner<'a, P> {
     /// Takes the start reading, where some channel has the timer, as `Worker::start` does, and
-    /// keeps it in each channel. It is called once, before the first `step`.
+    /// keeps it in each channel. It is called once, before the first `step`. It takes no memory,
+    /// and time in the channels.
     pub fn start<K: Clock>(&mut self, shared: &Shared<'_>, clock: &mut K)
         requires shared { IsShared shared.now }
         requires hired { IsHiredRunner shared.now self.old }
@@ -40,8 +41,9 @@ impl<'a, P: Prober> Runner<'a, P> {
         self.channels.start(reading);
     }
 
-    /// Runs the next line, and answers whether lines remain. Behind an `Err`, which is want of
-    /// memory, the runner may not be stepped again.
+    /// Runs the next line, when the gate has let it pass, and answers whether lines remain. It
+    /// takes time in the channels, and in the operations of the process that it takes in. Behind an
+    /// `Err`, which is want of memory, the runner may not be stepped again.
     pub fn step<K: Clock, G: Gate>(
         &mut self,
         alloc: Global,
@@ -83,6 +85,8 @@ impl<'a, P: Prober> Runner<'a, P> {
         ensures number { OnOk result
             (self.new.worker.thread.number ≡ self.old.worker.thread.number) }
         ensures services { OnOk result (SameServices self.old.channels self.new.channels) }
+        ensures start { OnOk result
+            (self.new.worker.note.start ≡ self.old.worker.note.start) }
         ensures read { OnOk result
             (HasRead shared.now K.given clock.old clock.new self.old.worker self.new.worker) }
     {

@@ -1,3 +1,4 @@
+//! The order of paths by the numbers of their nodes.
 ghost use Rattle.std.specs.Prelude.{◌≡◌, ◌<◌, length, map};
 ghost use Rattle.std.specs.Cmp.Lexicographic.{slice_cmp};
 ghost use Rattle.cal_context.specs.Children.{CanLink, IsLinked};

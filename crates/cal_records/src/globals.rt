@@ -1,3 +1,4 @@
+//! The globals of a script in a context.
 ghost use Rattle.std.specs.Prelude.{◌≡◌, [], ◌∷◌, filter, map, IfOk};
 ghost use Rattle.cal_context.specs.Tree.{Grows};
 ghost use Rattle.cal_records.specs.Globals.{Means};

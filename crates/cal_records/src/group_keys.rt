@@ -1,3 +1,4 @@
+//! The keys of groups, with their entries lent.
 ghost use Rattle.std.specs.Prelude.{◌≡◌, ℕ, ◌<◌, ◌∷◌, ◌++◌, [], IsTrue, filter, map, not, IfOk, OnOk};
 ghost use Rattle.cal_context.specs.Children.{CanLink};
 ghost use Rattle.cal_context.specs.Tree.{path_at};

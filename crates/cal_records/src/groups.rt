@@ -1,3 +1,4 @@
+//! The groups of a channel, handed to a taker.
 ghost use Rattle.std.specs.Prelude.{◌≡◌, [], List, map, true, IfNone, IfOk, IfSome, OnOk, is_some};
 ghost use Rattle.std.specs.Prelude.{option_copied};
 ghost use Rattle.cal_context.specs.Taking.{TakesMore};

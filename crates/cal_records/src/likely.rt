@@ -1,3 +1,4 @@
+//! The nodes of a context in the order in which their paths likely come.
 use cal_context::{AttributeNumber, Context, NodeNumber};
 use cal_engine::GroupedRows;
 use cal_value::{Attribute, OutOfMemory, Variant};

@@ -1,3 +1,4 @@
+//! The likely place of a row.
 ghost use Rattle.std.specs.Prelude.{◌≡◌};
 ghost use Rattle.cal_records.specs.Likely.{likely_key as key_of, node_place, place_in};
 

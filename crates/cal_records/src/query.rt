@@ -1,3 +1,4 @@
+//! The query of a channel.
 ghost use Rattle.std.specs.Prelude.{◌≡◌, true, ◌++◌, IfOk, OnOk};
 ghost use Rattle.cal_profile.specs.Groups.{agg_of, aggs_of, channel_query as query_of, value_aggs};
 ghost use Rattle.cal_ql.specs.Kernels.{first_of_each, result_name};

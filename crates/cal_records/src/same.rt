@@ -1,3 +1,4 @@
+//! Whether two queries of channels are the same.
 ghost use Rattle.std.specs.Prelude.{◌≡◌, true};
 ghost use Rattle.cal_profile.specs.Groups.{grouping};
 

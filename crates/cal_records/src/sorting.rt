@@ -1,3 +1,4 @@
+//! Rows in the order of their groups.
 ghost use Rattle.std.specs.Prelude.{◌≡◌, ◌<◌, List, map, IfOk, IsTrue};
 ghost use Rattle.std.specs.List.{All, range_with_len};
 ghost use Rattle.cal_engine.specs.Making.{MakesRows};

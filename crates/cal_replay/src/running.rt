@@ -29,6 +29,7 @@ impl Worker {
         ensures runs { OnOk result ((h : List words.OpRec) → IsWorker shared.now self.old h
             → RunsAll shared.now self.new h) }
         ensures number { OnOk result (self.new.thread.number ≡ self.old.thread.number) }
+        ensures start { OnOk result (self.new.note.start ≡ self.old.note.start) }
         ensures read { OnOk result
             (HasRead shared.now K.given clock.old clock.new self.old self.new) }
         ensures keeper { OnOk result (F.thread keeper.new ≡ F.thread keeper.old) }

@@ -1,14 +1,21 @@
--- The room that a run's history has, and what a seat must keep so that no append is refused.
-use Rattle.std.specs.Prelude.{◌≡◌, ◌+◌, ◌*◌, length}
+-- The room that a run's history and its tree have, and what a seat must keep so that no append and no
+-- node is refused.
+use Rattle.std.specs.Prelude.{◌≡◌, ◌≤◌, ◌+◌, ◌*◌, length}
 use Rattle.std.specs.List.{Contains}
 use Rattle.cal_once.specs.declared.view.View.{View}
 use Rattle.cal_plog.specs.History.{OwnBefore}
 use Rattle.cal_plog.specs.Seats.{ops_of, plan_of, slots_of}
 use Rattle.cal_process.specs.Replicas.{IsCommon}
 use Rattle.cal_process.specs.declared.common.Common.{Common}
-use Rattle.cal_script.specs.Shapes.{history_shape}
+use Rattle.cal_script.specs.Shapes.{history_shape, tree_arena, tree_shape}
+use Rattle.cal_tree.specs.Seats as tree
+use Rattle.cal_value.specs.declared.variant.Variant.{Variant}
+use Rattle.cal_words.specs.Words.{node_length}
 use Rattle.cal_words.specs.declared.op.OpRec.{OpRec}
+use Rattle.cal_words.specs.declared.sort.NodeSort.{NodeSort}
 use Rattle.cal_words.specs.declared.sort.OpSort.{OpSort}
+
+-- ---- the history
 
 -- The history was made for the script's process lines, in the shape that they need.
 pub record HasHistory (common : Common) : Type 0 where
@@ -26,3 +33,14 @@ pub record MayAppend (common : Common) (v : View OpSort) (op : OpRec) : Type 0 w
   pub thread : v.number ≡ op.thread + 1
   pub line : OwnBefore (slots_of common.log) v op.line
   pub words : UsesSevenEach v
+
+-- ---- the tree
+
+-- The tree was made in the shape that the script's lines need.
+pub record HasTree (common : Common) : Type 0 where
+  pub made : IsCommon common
+  pub shape : (tree.plan_of common.tree).shape ≡ tree_shape common.script.now
+
+-- A seat's arena has room for the node of a value.
+abbrev pub HasRoomFor : Common → View NodeSort → Variant → Type 0
+HasRoomFor common v value = v.used + node_length value ≤ tree_arena common.script.now

@@ -7,5 +7,7 @@
 #![tactic(auto)]
 
 mod laws;
+mod tree_laws;
 
 pub use laws::{history_never_full_law, words_in_use_law};
+pub use tree_laws::tree_never_full_law;

@@ -19,6 +19,7 @@ loop-alloc-init g c = record {
   );
   number = refl;
   services = same-already c.args.self.now.channels;
+  start = refl;
   read = (
     [],
     sym (append-nil c.args.self.now.worker.note.lines),
@@ -61,6 +62,7 @@ loop-alloc-preserved g c =
       number = s.number ∙ i.number;
       services = same-then c.args.self.now.channels was.channels is.channels i.services
           (step-same _ shared c.loop-alloc.clock c.step.new.clock was is s);
+      start = (λ k. (s.noted k).start) ∙ i.start;
       read = readings-then _ AreToldOf IsFlushedAt shared c.args.self.now.worker was.worker
           is.worker c.args.clock.now c.loop-alloc.clock c.step.new.clock was.channels is.channels s
           i.read;
@@ -81,6 +83,9 @@ returns-clause-number g c = c.loop-alloc.invariant.number
 
 pub returns-clause-services : goal.returns-clause-services
 returns-clause-services g c = c.loop-alloc.invariant.services
+
+pub returns-clause-start : goal.returns-clause-start
+returns-clause-start g c = c.loop-alloc.invariant.start
 
 pub returns-clause-read : goal.returns-clause-read
 returns-clause-read g c = c.loop-alloc.invariant.read

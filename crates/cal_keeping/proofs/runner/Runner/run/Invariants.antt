@@ -14,6 +14,7 @@ invariant-loop-alloc g l =
           → (ops : List OpRec) × IsRunner l.shared l.self (h ++ ops);
       number : l.self.worker.thread.number ≡ l.fn.self.worker.thread.number;
       services : SameServices l.fn.self.channels l.self.channels;
+      start : l.self.worker.note.start ≡ l.fn.self.worker.note.start;
       read : HasRead l.shared clock.given l.fn.clock l.clock l.fn.self.worker l.self.worker;
     }
 

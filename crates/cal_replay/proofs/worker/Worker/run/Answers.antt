@@ -16,6 +16,7 @@ loop-alloc-init g c = record {
         (sym (append-nil h)) w,
   );
   number = refl;
+  start = refl;
   keeper = refl;
   ready = c.requires.ready;
   read = (
@@ -83,6 +84,7 @@ loop-alloc-preserved g c =
       some = (_, (s.runs i.some.0 i.some.1).kept);
       more = λ h w. more h (i.more h w);
       number = s.number ∙ i.number;
+      start = (λ k. (s.noted k).start) ∙ i.start;
       keeper = c.in_ok-_more.ensures.keeper ∙ i.keeper;
       ready = subst (ready c.step.new.keeper timed) after
           (c.in_ok-_more.ensures.ready (lines was.thread.number - done - 1)
@@ -105,6 +107,9 @@ returns-clause-runs g c h w =
 
 pub returns-clause-number : goal.returns-clause-number
 returns-clause-number g c = c.loop-alloc.invariant.number
+
+pub returns-clause-start : goal.returns-clause-start
+returns-clause-start g c = c.loop-alloc.invariant.start
 
 pub returns-clause-read : goal.returns-clause-read
 returns-clause-read g c = c.loop-alloc.invariant.read

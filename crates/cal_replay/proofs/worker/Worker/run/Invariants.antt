@@ -13,6 +13,7 @@ invariant-loop-alloc g l =
       more : (h : List OpRec) → IsWorker l.shared l.fn.self h
           → (ops : List OpRec) × IsWorker l.shared l.self (h ++ ops);
       number : l.self.thread.number ≡ l.fn.self.thread.number;
+      start : l.self.note.start ≡ l.fn.self.note.start;
       keeper : g.F.Keeper.thread l.keeper ≡ g.F.Keeper.thread l.fn.keeper;
       ready : g.F.Keeper.ready (script_of l.shared) l.keeper l.shared.timers.some
           (length (lines_of (script_of l.shared) l.self.thread.number) - length l.self.note.lines);

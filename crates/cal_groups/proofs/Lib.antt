@@ -1,0 +1,4 @@
+pub mod Appending
+pub mod Cells
+pub mod ColumnLemmas
+pub mod RowLemmas

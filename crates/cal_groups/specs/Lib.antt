@@ -1,0 +1,4 @@
+pub mod ContextRows
+pub mod Appended
+pub mod Columns
+pub mod Keys

@@ -1,0 +1,6 @@
+mod PlacedSeats
+mod ManyBooks
+mod ManyRunners
+mod OneHired
+mod ScriptLimits
+mod StartedRuns
