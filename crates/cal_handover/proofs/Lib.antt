@@ -2,3 +2,5 @@ mod OnePlace
 mod FromPlace
 mod ClosedFrom
 mod LeftBooks
+mod SomePlaces
+mod EndedRunners
