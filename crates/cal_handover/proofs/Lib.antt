@@ -1,0 +1,6 @@
+mod OnePlace
+mod FromPlace
+mod ClosedFrom
+mod LeftBooks
+mod SomePlaces
+mod EndedRunners

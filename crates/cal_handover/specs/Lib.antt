@@ -1,0 +1,4 @@
+pub mod Handing
+pub mod Places
+pub mod Closing
+pub mod Ended
