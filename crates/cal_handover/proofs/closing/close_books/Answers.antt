@@ -71,8 +71,8 @@ loop-book-preserved c =
     let ok = c.loop-book.seats.ok in
     let rest = drop (length new) was in
     let seats = take c.loop-book.seats.len (new ++ rest) in
-    subst (λ (tables : List TableValue). AreLeft c.args.books.items c.args.firsts.items (lists_of c.args.seats.items)
-    (lists_of c.args.channels.now) c.pop.new.self.items
+    subst (λ (tables : List TableValue). AreLeft c.args.books.items c.args.firsts.items
+    (lists_of c.args.seats.items) (lists_of c.args.channels.now) c.pop.new.self.items
     c.remove-first.new.self.items (lists_of seats) (lists_of c.close_book_at.new.channels) tables)
     (sym (ap reverse c.in_ok-push.ensures.items
     ∙ reverse-append c.loop-book.tables.items (c.in_ok-table.table ∷ [])))
