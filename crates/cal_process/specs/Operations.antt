@@ -76,3 +76,14 @@ words_by code.Set v = node_length v
 abbrev pub words_made : Script → Operation → ℕ
 words_made script op = if is_as_value (attribute_of script op.attr).props then 0
     else words_by op.code (value_of script op)
+
+-- the words of the node that a line may make, and that one may make which is its thread's own
+abbrev pub words_if : Script → Option Operation → ℕ
+words_if script None = 0
+words_if script (Some op) = words_made script op
+
+abbrev pub words_of_line : Script → Line → ℕ
+words_of_line script l = words_if script (operation_of l)
+
+abbrev pub own_words : Script → Line → ℕ
+own_words script l = if is_process_line script l then 0 else words_of_line script l

@@ -1,25 +1,27 @@
 -- Words of different lines of a list of lists, each counted once.
 use Rattle.std.proofs.Common.{◌≡◌, ℕ, zero, suc, ◌+◌, ◌<◌, ◌≤◌, List, [], ◌∷◌, length, take, get_or}
 use Rattle.std.proofs.Common.{refl, sym, ap, subst, arith}
-use mathlib.Core.Logic.{dite}
-use native.Mathlib.Decide.{ℕ_discrete}
 use Rattle.std.specs.Prelude.{Some, slice_get, sum_by}
 use Rattle.std.specs.List.{All}
 use Rattle.std.proofs.lemmas.List.Elements.{All-head, All-tail}
 use Rattle.std.proofs.lemmas.List.Sums.{sum_by-cons}
 
+-- an item of a list of lists, by the numbers of both
+abbrev pub item_at : {X : Type 0} → X → List (List X) → (row place : ℕ) → X
+item_at none rows row place = get_or (get_or rows row []) place none
+
 -- ---- one list
 
 module _ {X : Type 0} (f : X → ℕ) (none : X) (empty : f none ≡ 0) where
   -- the list without the words of an item
-  without : List X → ℕ → List X
+  abbrev without : List X → ℕ → List X
   without [] i = []
   without (x ∷ xs) zero = none ∷ xs
   without (x ∷ xs) (suc i) = x ∷ without xs i
 
   sum-without : (xs : List X) (i : ℕ)
       → sum_by f (without xs i) + f (get_or xs i none) ≡ sum_by f xs
-  sum-without [] i = empty
+  sum-without [] i = omega (arith, empty)
   sum-without (x ∷ xs) zero =
       omega (arith, sum_by-cons f none xs, sum_by-cons f x xs, empty)
   sum-without (x ∷ xs) (suc i) =
@@ -35,30 +37,34 @@ module _ {X : Type 0} (f : X → ℕ) (none : X) (empty : f none ≡ 0) where
 
   -- ---- a list of lists
 
-  -- an item of a list, by the numbers of both
-  abbrev pub item_at : List (List X) → (row place : ℕ) → X
-  item_at rows row place = get_or (get_or rows row []) place none
-
-  clear : List (List X) → (row place : ℕ) → List (List X)
+  abbrev clear : List (List X) → (row place : ℕ) → List (List X)
   clear [] row place = []
   clear (r ∷ rows) zero place = without r place ∷ rows
   clear (r ∷ rows) (suc row) place = r ∷ clear rows row place
 
   sum-clear : (rows : List (List X)) (row place : ℕ)
-      → sum_by (sum_by f) (clear rows row place) + f (item_at rows row place)
+      → sum_by (sum_by f) (clear rows row place) + f (item_at none rows row place)
       ≡ sum_by (sum_by f) rows
-  sum-clear [] row place = empty
+  sum-clear [] row place = omega (arith, empty)
   sum-clear (r ∷ rows) zero place =
-      omega (arith, sum_by-cons (sum_by f) (without r place) rows,
-      sum_by-cons (sum_by f) r rows, sum-without r place)
+      omega (
+        arith,
+        sum_by-cons (sum_by f) (without r place) rows,
+        sum_by-cons (sum_by f) r rows,
+        sum-without r place,
+      )
   sum-clear (r ∷ rows) (suc row) place =
-      omega (arith, sum_by-cons (sum_by f) r (clear rows row place),
-      sum_by-cons (sum_by f) r rows, sum-clear rows row place)
+      omega (
+        arith,
+        sum_by-cons (sum_by f) r (clear rows row place),
+        sum_by-cons (sum_by f) r rows,
+        sum-clear rows row place,
+      )
 
   other-clear : (rows : List (List X)) (row place other_row other_place : ℕ)
       → (row ≡ other_row → place ≡ other_place → ⊥)
-      → item_at (clear rows row place) other_row other_place
-      ≡ item_at rows other_row other_place
+      → item_at none (clear rows row place) other_row other_place
+      ≡ item_at none rows other_row other_place
   other-clear [] row place u k other = refl
   other-clear (r ∷ rows) zero place zero k other = other-item r place k (other refl)
   other-clear (r ∷ rows) zero place (suc u) k other = refl
@@ -70,7 +76,7 @@ module _ {X : Type 0} (f : X → ℕ) (none : X) (empty : f none ≡ 0) where
   pub sum-apart : {P : Type 0} (words row place : P → ℕ) (d : P) (ps : List P)
       (rows : List (List X))
       → ((i : ℕ) → i < length ps → words (get_or ps i d)
-      ≤ f (item_at rows (row (get_or ps i d)) (place (get_or ps i d))))
+      ≤ f (item_at none rows (row (get_or ps i d)) (place (get_or ps i d))))
       → ((i k : ℕ) → i < k → k < length ps → row (get_or ps i d) ≡ row (get_or ps k d)
       → place (get_or ps i d) ≡ place (get_or ps k d) → ⊥)
       → sum_by words ps ≤ sum_by (sum_by f) rows
@@ -84,10 +90,31 @@ module _ {X : Type 0} (f : X → ℕ) (none : X) (empty : f none ≡ 0) where
       (λ r l. apart 0 (suc i) (omega arith) (omega (arith, less)) r l)))
       (each (suc i) (omega (arith, less))))
       (λ i k less inside. apart (suc i) (suc k) (omega (arith, less)) (omega (arith, inside))) in
-      omega (arith, rest, each 0 (omega arith), sum-clear rows (row p) (place p),
-      sum_by-cons words p ps)
+      omega (
+        arith,
+        rest,
+        each 0 (omega arith),
+        sum-clear rows (row p) (place p),
+        sum_by-cons words p ps,
+      )
 
 -- ---- the first items of a list
+
+-- the first items, each with no more words than in another counting of them all
+pub sum-take : {X : Type 0} (f g : X → ℕ) (P : X → Type 0) → ((x : X) → P x → f x ≤ g x)
+    → (xs : List X) → All P xs → (i : ℕ) → sum_by f (take i xs) ≤ sum_by g xs
+sum-take f g P most [] all zero = omega arith
+sum-take f g P most [] all (suc i) = omega arith
+sum-take f g P most (y ∷ ys) all zero = omega arith
+sum-take f g P most (y ∷ ys) all (suc i) =
+    let rest = sum-take f g P most ys (All-tail P y ys all) i in
+    omega (
+      arith,
+      rest,
+      most y (All-head P y ys all),
+      sum_by-cons g y ys,
+      sum_by-cons f y (take i ys),
+    )
 
 -- the first items and the next one, each with no more words than in another counting of them all
 pub sum-first : {X : Type 0} (f g : X → ℕ) (P : X → Type 0) → ((x : X) → P x → f x ≤ g x)
@@ -100,20 +127,31 @@ sum-first f g P most (y ∷ ys) all zero x at =
     omega (arith, words, most y (All-head P y ys all), sum_by-cons g y ys)
 sum-first f g P most (y ∷ ys) all (suc i) x at =
     let rest = sum-first f g P most ys (All-tail P y ys all) i x at in
-    omega (arith, rest, most y (All-head P y ys all), sum_by-cons g y ys,
-    sum_by-cons f y (take i ys))
+    omega (
+      arith,
+      rest,
+      most y (All-head P y ys all),
+      sum_by-cons g y ys,
+      sum_by-cons f y (take i ys),
+    )
+
+sum-suc : {X : Type 0} (f : X → ℕ) (xs : List X) (i : ℕ) (x : X) → slice_get xs i ≡ Some x
+    → sum_by f (take (suc i) xs) ≡ sum_by f (take i xs) + f x
+sum-suc f [] i x at = absurd cc
+sum-suc f (y ∷ ys) zero x at =
+    let same : y ≡ x = cc in
+    let words = ap f same in
+    omega (arith, words, sum_by-cons f y [])
+sum-suc f (y ∷ ys) (suc i) x at =
+    let rest = sum-suc f ys i x at in
+    omega (arith, rest, sum_by-cons f y (take i ys), sum_by-cons f y (take (suc i) ys))
 
 -- the words of the first items grow by those of the next one
 pub sum-next : {X : Type 0} (f : X → ℕ) (xs : List X) (i : ℕ) (x : X) → slice_get xs i ≡ Some x
     → sum_by f (take (i + 1) xs) ≡ sum_by f (take i xs) + f x
-sum-next f [] i x at = absurd cc
-sum-next f (y ∷ ys) zero x at =
-    let same : y ≡ x = cc in
-    let words = ap f same in
-    omega (arith, words, sum_by-cons f y [])
-sum-next f (y ∷ ys) (suc i) x at =
-    let rest = sum-next f ys i x at in
-    omega (arith, rest, sum_by-cons f y (take i ys), sum_by-cons f y (take (i + 1) ys))
+sum-next f xs i x at =
+    let next : suc i ≡ i + 1 = omega arith in
+    subst (λ n. sum_by f (take n xs) ≡ sum_by f (take i xs) + f x) next (sum-suc f xs i x at)
 
 pub all-at : {X : Type 0} (P : X → Type 0) (xs : List X) (i : ℕ) (d : X) → All P xs → P d
     → P (get_or xs i d)

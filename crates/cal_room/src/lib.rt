@@ -10,4 +10,4 @@ mod laws;
 mod tree_laws;
 
 pub use laws::{history_never_full_law, words_in_use_law};
-pub use tree_laws::tree_never_full_law;
+pub use tree_laws::{room_for_nodes_law, tree_never_full_law, words_in_tree_law};
