@@ -22,7 +22,7 @@ use Rattle.cal_words.specs.declared.op.OpCode.TheVariants as code
 use Rattle.cal_words.specs.declared.sort.NodeSort.{NodeSort}
 
 -- what was published at most bounds the words in use
-used-at-most : (v w : View NodeSort) (words : ℕ) → PublishedAtMost v w words
+pub used-at-most : (v w : View NodeSort) (words : ℕ) → PublishedAtMost v w words
     → w.used ≤ v.used + words
 used-at-most v w words most = ⊎_elim
     (λ (same : (w.published ≡ v.published) × (w.used ≡ v.used)). let e = same.1 in omega (arith, e))

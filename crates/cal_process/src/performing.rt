@@ -37,6 +37,8 @@ pub fn perform(
     ensures later { IsLater (view seat.old) (view seat.new) }
     ensures words { OnOk result ((view seat.new).used
         ≤ (view seat.old).used + words_made common.now.script.now op) }
+    ensures most { (view seat.new).used
+        ≤ (view seat.old).used + words_by op.code (value_of common.now.script.now op) }
     ensures changed { OnOk result (HeldThen common.now seat.old seat.new board.old board.new
         (λ b. board_with common.now.script.now b op)) }
     ensures err { OnErr result (board.new ≡ board.old) }

@@ -1,5 +1,5 @@
--- The room that a run's history and its tree have, and what a seat must keep so that no append and no
--- node is refused.
+-- The room that a run's history and its tree have, and what a seat must keep so that no append and
+-- no node is refused.
 use Rattle.std.specs.Prelude.{◌≡◌, ◌≤◌, ℕ, ◌+◌, ◌*◌, List, [], length, slice_index_or, sum_by, take}
 use Rattle.std.specs.List.{Contains}
 use Rattle.cal_once.specs.declared.view.View.{View}

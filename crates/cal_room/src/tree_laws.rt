@@ -6,7 +6,7 @@ ghost use Rattle.cal_board.specs.Blackboard.{Blackboard};
 ghost use Rattle.cal_board.specs.declared.attr.AttrRef.{AttrRef};
 ghost use Rattle.cal_hand.specs.Boards.{TellsFull};
 ghost use Rattle.cal_once.specs.Seats.{view};
-ghost use Rattle.cal_once.specs.Views.{known_count};
+ghost use Rattle.cal_once.specs.Views.{Learns, known_count};
 ghost use Rattle.cal_once.specs.declared.seat.RowSeat.{RowSeat};
 ghost use Rattle.cal_once.specs.declared.view.View.{View};
 ghost use Rattle.cal_plog.specs.History.{HasSeen};
@@ -55,10 +55,12 @@ pub fn tree_never_full_law()
 
 /// The law of the words in use in the tree. A seat uses no more of them than the operations make
 /// which its thread has seen, and the thread's own lines which it has done: so it is at the start,
-/// and so it stays as operations are taken in and lines are done.
+/// and so it stays as the seat learns, operations are taken in and lines are done.
 pub fn words_in_tree_law()
     ensures start { (common : Common) (v : View NodeSort) (thread : ℕ) → v.used ≡ 0
         → UsesAtMost common v [] thread 0 }
+    ensures learned { (common : Common) (v w : View NodeSort) (h : List OpRec) (thread done : ℕ)
+        → Learns v w → UsesAtMost common v h thread done → UsesAtMost common w h thread done }
     ensures taken { (common : Common) (was is : RowSeat NodeSort) (h ops : List OpRec)
         (thread done : ℕ) → AddsWords common was is (words_of_ops common.script.now ops)
         → UsesAtMost common (view was) h thread done

@@ -5,7 +5,7 @@ use Rattle.cal_hand.specs.Changes.{changed_board}
 use Rattle.cal_hand.specs.Nodes.{NodeAt}
 use Rattle.cal_once.specs.Seats.{view}
 use Rattle.cal_process.proofs.OperationLemmas.{Held-changed}
-use Rattle.cal_process.proofs.UsedWords.{used-by}
+use Rattle.cal_process.proofs.UsedWords.{used-at-most, used-by}
 use Rattle.cal_process.specs.Operations.{words_by}
 use Rattle.cal_run.specs.Lines.{attr_ref, value_of}
 use Rattle.cal_process.proofs.performing.perform.Goals as goal
@@ -29,6 +29,18 @@ returns-clause-words c =
     + (if b then 0 else words_by c.args.op.code (value_of script c.args.op))) (sym as_value)
     (subst (λ (n : ℕ). (view is).used ≤ (view was).used
     + (if c.attr_ref-attr.result.as_value then 0 else n)) c.change_of-change.ensures.words used)
+
+pub returns-clause-most : goal.returns-clause-most
+returns-clause-most c =
+    subst (λ (n : ℕ). (view c.operate.new.seat).used ≤ (view c.args.seat.now).used + n)
+    c.change_of-change.ensures.words
+    (used-at-most (view c.args.seat.now) (view c.operate.new.seat) _ c.operate.ensures.one)
+
+pub returns-in_err-_reply-clause-most : goal.returns-in_err-_reply-clause-most
+returns-in_err-_reply-clause-most c =
+    subst (λ (n : ℕ). (view c.operate.new.seat).used ≤ (view c.args.seat.now).used + n)
+    c.change_of-change.ensures.words
+    (used-at-most (view c.args.seat.now) (view c.operate.new.seat) _ c.operate.ensures.one)
 
 pub returns-clause-changed : goal.returns-clause-changed
 returns-clause-changed c b h =
