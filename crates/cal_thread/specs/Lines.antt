@@ -1,6 +1,5 @@
 -- What a line does to a thread, part by part.
 use Rattle.std.specs.Prelude.{◌≡◌, ◌⊎◌, ℕ, ◌+◌, List, [], ◌∷◌, ◌++◌, Bool, true, false, Option}
-use Rattle.std.specs.Prelude.{Some, None}
 use Rattle.cal_board.specs.Readings.{readings_after}
 use Rattle.cal_once.specs.Seats.{view}
 use Rattle.cal_plog.specs.Seats.{slots_of}
