@@ -1,5 +1,5 @@
--- The words of the nodes that a script's lines make, as a thread counts them and as the tree's arena
--- has room for them.
+-- The words of the nodes that a script's lines make, as a thread counts them and as the tree's
+-- arena has room for them.
 use Rattle.std.proofs.Common.{◌≡◌, ℕ, zero, suc, ◌+◌, ◌-◌, ◌<◌, ◌≤◌, ◌==◌, Bool, true, false}
 use Rattle.std.proofs.Common.{if◌then◌else◌, List, [], ◌∷◌, take, refl, sym, ap, ◌∙◌, subst, arith}
 use Rattle.std.specs.Prelude.{Option, Some, None, not, option_and_then, slice_get, slice_index_or}

@@ -17,7 +17,8 @@ returns-clause-learned c = λ common v w h thread done learns uses.
 
 pub returns-clause-taken : goal.returns-clause-taken
 returns-clause-taken c = λ common was is h ops thread done adds uses.
-    let sum = sum_by-append (λ (op : OpRec). words_made common.script.now (operation_in op)) h ops in
+    let sum = sum_by-append (λ (op : OpRec). words_made common.script.now (operation_in op)) h ops
+    in
     omega (arith, adds, uses, sum)
 
 pub returns-clause-line : goal.returns-clause-line
