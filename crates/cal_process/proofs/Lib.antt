@@ -1,3 +1,4 @@
 pub mod OperationLemmas
 pub mod TakingLemmas
 pub mod ScriptLemmas
+pub mod UsedWords

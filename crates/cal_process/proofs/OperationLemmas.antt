@@ -1,6 +1,6 @@
 -- What an operation does to a board over the shared tree.
-use Rattle.std.proofs.Common.{◌≡◌, ℕ, ◌<◌, ◌+◌, ◌≤◌, ◌^◌, [], ◌∷◌, ◌++◌, length, refl, sym}
-use Rattle.std.proofs.Common.{subst, arith, ⊎_elim}
+use Rattle.std.proofs.Common.{◌≡◌, ℕ, ◌<◌, ◌^◌, length, refl, sym}
+use Rattle.std.proofs.Common.{subst, arith}
 use Rattle.std.specs.Prelude.{Option, Some, None, slice_get, slice_index_or, option_and_then, true}
 use Rattle.std.proofs.lemmas.Bool.{leb-true}
 use Rattle.std.proofs.lemmas.List.Elements.{All-nil}
@@ -12,12 +12,11 @@ use Rattle.cal_board.specs.declared.opened.Slot.{Slot}
 use Rattle.cal_context.specs.Tree.{no_value}
 use Rattle.cal_hand.proofs.HandLemmas.{board_later}
 use Rattle.cal_hand.specs.Changes.{changed_board}
-use Rattle.cal_hand.specs.Nodes.{NodeAt, PublishedAtMost}
+use Rattle.cal_hand.specs.Nodes.{NodeAt}
 use Rattle.cal_hand.specs.declared.change.Change.{Change}
 use Rattle.cal_once.specs.Seats.{view}
 use Rattle.cal_once.specs.Views.{KnowsMore}
 use Rattle.cal_once.specs.declared.seat.RowSeat.{RowSeat}
-use Rattle.cal_once.specs.declared.view.View.{View}
 use Rattle.cal_process.specs.Boards.{Held, HeldThen}
 use Rattle.cal_process.specs.Operations.{IsOpOf, IsShort, MayDo, operation_in}
 use Rattle.cal_process.specs.declared.common.Common.{Common}
@@ -35,7 +34,6 @@ use Rattle.cal_value.specs.declared.variant.Variant as variants
 use Rattle.cal_value.specs.declared.variant.Variant.TheVariants as variant
 use Rattle.cal_words.specs.Words.{text_length}
 use Rattle.cal_words.specs.declared.node.NodeId.{NodeId}
-use Rattle.cal_words.specs.declared.op.OpCode.TheVariants as code
 use Rattle.cal_words.specs.declared.op.OpRec.{OpRec}
 use Rattle.cal_words.specs.declared.sort.NodeSort.{NodeSort}
 
@@ -143,11 +141,3 @@ module _ (common : Common) where
     known = after-known common.script.now b h.known (attr_ref common.script.now op.attr) within
         (value_of common.script.now op) op.code;
   }
-
--- what was published at most bounds the words in use
-pub used-at-most : (v w : View NodeSort) (words : ℕ) → PublishedAtMost v w words
-    → w.used ≤ v.used + words
-used-at-most v w words most = ⊎_elim
-    (λ (same : (w.published ≡ v.published) × (w.used ≡ v.used)). let e = same.1 in omega (arith, e))
-    (λ (more : (w.published ≡ v.published ++ most.0 ∷ []) × (w.used ≡ v.used + words)).
-    let e = more.1 in omega (arith, e)) most.1

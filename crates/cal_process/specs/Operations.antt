@@ -6,11 +6,12 @@ use Rattle.std.specs.List.{Contains}
 use Rattle.cal_run.specs.Held.{HasPlaces}
 use Rattle.cal_run.specs.History.{placed_operation}
 use Rattle.cal_run.specs.Lawful.{IsKnown}
-use Rattle.cal_run.specs.Lines.{is_process_line, line_at, operation_of, value_of}
+use Rattle.cal_run.specs.Lines.{attribute_of, is_process_line, line_at, operation_of, value_of}
 use Rattle.cal_run.specs.declared.operation.Operation.{Operation}
 use Rattle.cal_script.specs.declared.journal.Placed.{Placed}
 use Rattle.cal_script.specs.declared.script.Line.{Line}
 use Rattle.cal_script.specs.declared.script.Script.{Script}
+use Rattle.cal_value.specs.Props.{is_as_value}
 use Rattle.cal_value.specs.declared.variant.Variant.{Variant}
 use Rattle.cal_words.specs.Words.{node_length, text_length}
 use Rattle.cal_words.specs.declared.op.OpCode as codes
@@ -65,11 +66,24 @@ pub record MayDo (script : Script) (op : Operation) : Type 0 where
   pub places : HasPlaces script op
   pub short : IsShort op.code (value_of script op)
 
--- the words of the node that an operation may make
+-- the words of the node of the value that an operation opens
 abbrev pub words_by : codes.OpCode → Variant → ℕ
 words_by code.Begin v = node_length v
 words_by code.End v = 0
 words_by code.Set v = node_length v
 
+-- The words of the node that an operation may make: a value that stands for itself makes none.
 abbrev pub words_made : Script → Operation → ℕ
-words_made script op = words_by op.code (value_of script op)
+words_made script op = if is_as_value (attribute_of script op.attr).props then 0
+    else words_by op.code (value_of script op)
+
+-- the words of the node that a line may make, and that one may make which is its thread's own
+abbrev pub words_if : Script → Option Operation → ℕ
+words_if script None = 0
+words_if script (Some op) = words_made script op
+
+abbrev pub words_of_line : Script → Line → ℕ
+words_of_line script l = words_if script (operation_of l)
+
+abbrev pub own_words : Script → Line → ℕ
+own_words script l = if is_process_line script l then 0 else words_of_line script l

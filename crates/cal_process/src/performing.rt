@@ -4,7 +4,7 @@ ghost use Rattle.cal_hand.specs.Changes.{HasShortText, changed_board, words_at_m
 ghost use Rattle.cal_once.specs.Seats.{view};
 ghost use Rattle.cal_once.specs.Views.{IsLater};
 ghost use Rattle.cal_process.specs.Boards.{HeldSome, HeldThen};
-ghost use Rattle.cal_process.specs.Operations.{MayDo, words_made};
+ghost use Rattle.cal_process.specs.Operations.{MayDo, words_by, words_made};
 ghost use Rattle.cal_run.specs.History.{board_with};
 ghost use Rattle.cal_run.specs.Lines.{attr_ref, value_of};
 ghost use Rattle.cal_tree.specs.Seats.{IsTreeSeat};
@@ -35,8 +35,10 @@ pub fn perform(
     requires held { HeldSome common.now seat.old board.old }
     ensures seat { IsTreeSeat common.now.tree seat.new }
     ensures later { IsLater (view seat.old) (view seat.new) }
-    ensures words { (view seat.new).used
-        ≤ (view seat.old).used + words_made common.now.script.now op }
+    ensures words { OnOk result ((view seat.new).used
+        ≤ (view seat.old).used + words_made common.now.script.now op) }
+    ensures most { (view seat.new).used
+        ≤ (view seat.old).used + words_by op.code (value_of common.now.script.now op) }
     ensures changed { OnOk result (HeldThen common.now seat.old seat.new board.old board.new
         (λ b. board_with common.now.script.now b op)) }
     ensures err { OnErr result (board.new ≡ board.old) }
@@ -54,7 +56,7 @@ fn change_of<'s>(script: &'s Script, op: Operation) -> Change<'s>
     ensures changes { (b : Blackboard variants.Variant)
         → changed_board b (attr_ref script.now op.attr) result ≡ board_with script.now b op }
     ensures short { HasShortText result }
-    ensures words { words_at_most result ≡ words_made script.now op }
+    ensures words { words_at_most result ≡ words_by op.code (value_of script.now op) }
 {
     match op.code {
         OpCode::Begin => Change::Begin(value_at(script, op)),

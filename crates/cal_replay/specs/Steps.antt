@@ -6,6 +6,7 @@ use Rattle.cal_notes.specs.Running.{RunsNext, with_line}
 use Rattle.cal_once.specs.Seats.{view}
 use Rattle.cal_once.specs.Views.{KnowsMore}
 use Rattle.cal_process.specs.Operations.{history_of, placed_as}
+pub use Rattle.cal_process.specs.Operations.{own_words}
 use Rattle.cal_process.specs.Takings.{KeepsLooks, words_of_ops}
 use Rattle.cal_process.specs.Replicas.{AddsWords}
 use Rattle.cal_process.specs.declared.common.Common.{Common}
@@ -24,7 +25,7 @@ use Rattle.cal_script.specs.declared.journal.Reply as replies
 use Rattle.cal_script.specs.declared.script.Line as lines
 use Rattle.cal_script.specs.declared.script.Line.TheVariants as line
 use Rattle.cal_script.specs.declared.script.Script.{Script}
-use Rattle.cal_thread.specs.Lines.{Looks, words_of_line}
+use Rattle.cal_thread.specs.Lines.{Looks}
 use Rattle.cal_thread.specs.Threads.{IsThread}
 use Rattle.cal_thread.specs.declared.thread.Thread.{Thread}
 use Rattle.cal_words.specs.declared.op.OpRec.{OpRec}
@@ -84,10 +85,6 @@ KnowMore old at new =
 -- the words that a line takes in the history
 abbrev pub placed_words : Script → lines.Line → ℕ
 placed_words script l = if is_process_line script l then 7 else 0
-
--- the words of the node that a line which is its thread's own may make
-abbrev pub own_words : Script → lines.Line → ℕ
-own_words script l = if is_process_line script l then 0 else words_of_line script l
 
 -- ---- what a line sees
 

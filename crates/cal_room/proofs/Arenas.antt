@@ -72,7 +72,7 @@ same-some : {A : Type 0} (x y : A) → Some x ≡ Some y → x ≡ y
 same-some x y e = cc
 
 -- one line has one operation
-one-of-line : (script : Script) (a b : OpRec) → IsOpOf script a → IsOpOf script b
+pub one-of-line : (script : Script) (a b : OpRec) → IsOpOf script a → IsOpOf script b
     → a.thread ≡ b.thread → a.line ≡ b.line → a ≡ b
 one-of-line script a b first second thread line_is =
     let place : placed_as a ≡ placed_as b = (λ j. record { thread = thread j; line = line_is j }) in

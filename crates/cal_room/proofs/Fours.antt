@@ -120,12 +120,14 @@ module _ (plan : Plan NodeSort) (v : View NodeSort) (sound : IsSound node_law pl
       let four : a.four ≡ b.four = omega (arith, both, product) in
       let start : arena_start plan.shape a.arena ≡ arena_start plan.shape b.arena =
       ap (arena_start plan.shape) arena in
-      absurd (apart-fours (arena_start plan.shape a.arena) (arena_start plan.shape b.arena) a.four b.four
-      (start_in a.slot) (size_in a.slot) (start_in b.slot) (size_in b.slot) start four a.from a.to
-      b.from b.to (node-long p a.slot inside a.known) (node-long q b.slot there b.known)
+      absurd (apart-fours (arena_start plan.shape a.arena) (arena_start plan.shape b.arena)
+      a.four b.four (start_in a.slot) (size_in a.slot) (start_in b.slot) (size_in b.slot)
+      start four a.from a.to b.from b.to (node-long p a.slot inside a.known)
+      (node-long q b.slot there b.known)
       (sound.apart p q a.slot b.slot inside there other a.known b.known)))
 
-  pub not-all-known : ((place : ℕ) → place < slots → (slot : ℕ) × Saw v.seen (place + 1) slot) → ⊥
+  pub not-all-known :
+      ((place : ℕ) → place < slots → (slot : ℕ) × Saw v.seen (place + 1) slot) → ⊥
   not-all-known all =
       let few = few-apart Lies slots ((threads + 1) * (words / 4))
       (λ place less. let k = all place less in lies place k.0 less k.1) lies-apart in

@@ -4,3 +4,6 @@ pub mod Ranks
 pub mod Arenas
 pub mod Fours
 pub mod Nodes
+pub mod Words
+pub mod Lines
+pub mod Seen

@@ -83,7 +83,7 @@ process-by (x ∷ xs) (suc a) is = process-by xs a is
 
 module _ (script : Script) where
   -- a process line by what it does is one by its attribute
-  process-line : (l : lines.Line) → run.is_process_line script l ≡ true
+  pub process-line : (l : lines.Line) → run.is_process_line script l ≡ true
       → counts.is_process_line script.attributes script.values l ≡ true
   process-line (line.Begin a v) is = process-by script.attributes a is
   process-line (line.Set a v) is = process-by script.attributes a is

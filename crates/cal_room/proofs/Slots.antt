@@ -20,7 +20,7 @@ use Rattle.cal_words.specs.declared.op.OpRec.{OpRec}
 use Rattle.cal_words.specs.declared.shape.Shape.{Shape}
 use Rattle.cal_words.specs.declared.sort.OpSort.{OpSort}
 
-no_op : OpRec
+pub no_op : OpRec
 no_op = record { thread = 0; line = 0; code = code.End; attr = 0; value = 0 }
 
 -- an arena of a number ends within all arenas

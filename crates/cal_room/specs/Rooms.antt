@@ -1,12 +1,15 @@
--- The room that a run's history and its tree have, and what a seat must keep so that no append and no
--- node is refused.
-use Rattle.std.specs.Prelude.{◌≡◌, ◌≤◌, ◌+◌, ◌*◌, length}
+-- The room that a run's history and its tree have, and what a seat must keep so that no append and
+-- no node is refused.
+use Rattle.std.specs.Prelude.{◌≡◌, ◌≤◌, ℕ, ◌+◌, ◌*◌, List, [], length, slice_index_or, sum_by, take}
 use Rattle.std.specs.List.{Contains}
 use Rattle.cal_once.specs.declared.view.View.{View}
 use Rattle.cal_plog.specs.History.{OwnBefore}
 use Rattle.cal_plog.specs.Seats.{ops_of, plan_of, slots_of}
+use Rattle.cal_process.specs.Operations.{own_words, words_made}
 use Rattle.cal_process.specs.Replicas.{IsCommon}
+use Rattle.cal_process.specs.Takings.{words_of_ops}
 use Rattle.cal_process.specs.declared.common.Common.{Common}
+use Rattle.cal_run.specs.declared.operation.Operation.{Operation}
 use Rattle.cal_script.specs.Shapes.{history_shape, tree_arena, tree_shape}
 use Rattle.cal_tree.specs.Seats as tree
 use Rattle.cal_value.specs.declared.variant.Variant.{Variant}
@@ -44,3 +47,15 @@ pub record HasTree (common : Common) : Type 0 where
 -- A seat's arena has room for the node of a value.
 abbrev pub HasRoomFor : Common → View NodeSort → Variant → Type 0
 HasRoomFor common v value = v.used + node_length value ≤ tree_arena common.script.now
+
+-- It has room for the node that an operation may make.
+abbrev pub HasRoomToDo : Common → View NodeSort → Operation → Type 0
+HasRoomToDo common v op =
+    v.used + words_made common.script.now op ≤ tree_arena common.script.now
+
+-- The words that a thread's seat has in use are at most those of the nodes that the operations make
+-- which the thread has seen, and that the lines make which it has done and which are its own.
+abbrev pub UsesAtMost : Common → View NodeSort → List OpRec → (thread done : ℕ) → Type 0
+UsesAtMost common v h thread done = v.used ≤ words_of_ops common.script.now h
+    + sum_by (own_words common.script.now)
+    (take done (slice_index_or common.script.now.threads thread []))

@@ -1,16 +1,16 @@
 -- What a line does to a thread, part by part.
 use Rattle.std.specs.Prelude.{◌≡◌, ◌⊎◌, ℕ, ◌+◌, List, [], ◌∷◌, ◌++◌, Bool, true, false, Option}
-use Rattle.std.specs.Prelude.{Some, None}
 use Rattle.cal_board.specs.Readings.{readings_after}
 use Rattle.cal_once.specs.Seats.{view}
 use Rattle.cal_plog.specs.Seats.{slots_of}
 use Rattle.cal_process.specs.Operations.{history_of, operation_in, words_made}
+pub use Rattle.cal_process.specs.Operations.{words_if, words_of_line}
 use Rattle.cal_process.specs.Replicas.{AddsWords}
 use Rattle.cal_process.specs.Takings.{KeepsLooks, OnlyLearns, words_of_ops}
 use Rattle.cal_process.specs.declared.common.Common.{Common}
 use Rattle.cal_process.specs.declared.replica.Replica.{Replica}
 use Rattle.cal_run.specs.History.{board_with}
-use Rattle.cal_run.specs.Lines.{attr_ref, operation_of}
+use Rattle.cal_run.specs.Lines.{attr_ref}
 use Rattle.cal_run.specs.Steps.{ThreadState, found_reply, is_accepted, looks}
 use Rattle.cal_run.specs.declared.operation.Operation.{Operation}
 use Rattle.cal_script.specs.declared.journal.LineNote.{LineNote}
@@ -64,14 +64,6 @@ operated script op reading state = record {
   readings = readings_after state.readings op.code (attr_ref script op.attr) reading;
   clock = state.clock;
 }
-
--- the words of the node that a line may make
-abbrev pub words_if : Script → Option Operation → ℕ
-words_if script None = 0
-words_if script (Some op) = words_made script op
-
-abbrev pub words_of_line : Script → Line → ℕ
-words_of_line script l = words_if script (operation_of l)
 
 -- ---- a process line
 

@@ -5,7 +5,6 @@ use Rattle.cal_run.specs.Lines.{attr_ref, value_of}
 use Rattle.cal_value.specs.declared.variant.Variant.{Variant}
 use Rattle.cal_words.specs.Words.{text_length}
 use Rattle.cal_words.specs.declared.op.OpCode.{OpCode}
-use Rattle.cal_words.specs.declared.op.OpCode.TheVariants as code
 use Rattle.cal_process.proofs.performing.change_of.Goals as goal
 
 pub returns-in-Begin-clause-changes : goal.returns-in-Begin-clause-changes

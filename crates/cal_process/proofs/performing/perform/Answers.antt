@@ -1,10 +1,13 @@
-use Rattle.std.proofs.Common.{◌+◌, ◌≤◌, ℕ, subst}
+use Rattle.std.proofs.Common.{◌≡◌, ◌+◌, ◌≤◌, ℕ, Bool, if◌then◌else◌, ap, sym, subst}
 use Rattle.cal_board.specs.Standing.{StandsThen}
 use Rattle.cal_board.specs.declared.attr.AttrRef.{AttrRef}
 use Rattle.cal_hand.specs.Changes.{changed_board}
 use Rattle.cal_hand.specs.Nodes.{NodeAt}
 use Rattle.cal_once.specs.Seats.{view}
-use Rattle.cal_process.proofs.OperationLemmas.{Held-changed, used-at-most}
+use Rattle.cal_process.proofs.OperationLemmas.{Held-changed}
+use Rattle.cal_process.proofs.UsedWords.{used-at-most, used-by}
+use Rattle.cal_process.specs.Operations.{words_by}
+use Rattle.cal_run.specs.Lines.{attr_ref, value_of}
 use Rattle.cal_process.proofs.performing.perform.Goals as goal
 
 pub operate-requires-clause-stands : goal.operate-requires-clause-stands
@@ -12,12 +15,29 @@ operate-requires-clause-stands c = (c.requires.held.0, c.requires.held.1.stands)
 
 pub returns-clause-words : goal.returns-clause-words
 returns-clause-words c =
+    let script = c.args.common.now.script.now in
+    let was = c.args.seat.now in
+    let is = c.operate.new.seat in
+    let change = c.change_of-change.result in
+    let attr : attr_ref script c.args.op.attr ≡ c.attr_ref-attr.result =
+    sym c.attr_ref-attr.ensures in
+    let as_value = ap (λ (a : AttrRef). a.as_value) attr in
+    let used = used-by c.args.common.now.tree was is c.args.board.now c.operate.new.board
+    c.attr_ref-attr.result change c.operate.ensures.one c.in_ok-_reply._reply
+    c.in_ok-_reply.ensures.operates in
+    subst (λ (b : Bool). (view is).used ≤ (view was).used
+    + (if b then 0 else words_by c.args.op.code (value_of script c.args.op))) (sym as_value)
+    (subst (λ (n : ℕ). (view is).used ≤ (view was).used
+    + (if c.attr_ref-attr.result.as_value then 0 else n)) c.change_of-change.ensures.words used)
+
+pub returns-clause-most : goal.returns-clause-most
+returns-clause-most c =
     subst (λ (n : ℕ). (view c.operate.new.seat).used ≤ (view c.args.seat.now).used + n)
     c.change_of-change.ensures.words
     (used-at-most (view c.args.seat.now) (view c.operate.new.seat) _ c.operate.ensures.one)
 
-pub returns-in_err-_reply-clause-words : goal.returns-in_err-_reply-clause-words
-returns-in_err-_reply-clause-words c =
+pub returns-in_err-_reply-clause-most : goal.returns-in_err-_reply-clause-most
+returns-in_err-_reply-clause-most c =
     subst (λ (n : ℕ). (view c.operate.new.seat).used ≤ (view c.args.seat.now).used + n)
     c.change_of-change.ensures.words
     (used-at-most (view c.args.seat.now) (view c.operate.new.seat) _ c.operate.ensures.one)

@@ -5,7 +5,7 @@ use Rattle.cal_hand.specs.Nodes.{NodeAt}
 use Rattle.cal_process.specs.Operations.{history_of}
 use Rattle.cal_run.proofs.LineLemmas.{reply_to_line-Stands}
 use Rattle.cal_run.specs.Lines.{takes}
-use Rattle.cal_run.specs.Steps.{is_accepted, looks, reply_to_line}
+use Rattle.cal_run.specs.Steps.{is_accepted, reply_to_line}
 use Rattle.cal_script.specs.declared.journal.Reply.{Reply}
 use Rattle.cal_script.specs.declared.script.Channel.{Channel}
 use Rattle.cal_thread.proofs.ThreadLemmas.{own-found, own-looks}
