@@ -79,84 +79,84 @@ module _ {P : Type 0} (run : Run) where
       (h : HaveEnded run runners)
       (split : AreFirstSeats (length (script_of run.shared).threads) run.books.items firsts) where
     module _ (place : ℕ) (book : BookOf) (book_at : slice_get run.books.items place ≡ Some book)
-        where
-      less : place < length run.books.items
-      less = slice_get_within run.books.items place book book_at
+      where
+        less : place < length run.books.items
+        less = slice_get_within run.books.items place book book_at
 
-      have-seats : (k : ℕ) (own : List SeatOf) → slice_get (map seats_of runners) k ≡ Some own
-          → place < length own
-      have-seats k own at =
-          let r = mapped-at seats_of runners k own at in
-          let many = seats-many k r.0 (h.each k r.0 r.1) in
-          let same = ap length r.2 in
-          let l = less in
-          omega (arith, many, same, l)
+        have-seats : (k : ℕ) (own : List SeatOf) → slice_get (map seats_of runners) k ≡ Some own
+            → place < length own
+        have-seats k own at =
+            let r = mapped-at seats_of runners k own at in
+            let many = seats-many k r.0 (h.each k r.0 r.1) in
+            let same = ap length r.2 in
+            let l = less in
+            omega (arith, many, same, l)
 
-      have-channels : (k : ℕ) (own : List ChannelValue)
-          → slice_get (map channels_of runners) k ≡ Some own → place < length own
-      have-channels k own at =
-          let r = mapped-at channels_of runners k own at in
-          let many = channels-many k r.0 (h.each k r.0 r.1) in
-          let same = ap length r.2 in
-          let l = less in
-          omega (arith, many, same, l)
+        have-channels : (k : ℕ) (own : List ChannelValue)
+            → slice_get (map channels_of runners) k ≡ Some own → place < length own
+        have-channels k own at =
+            let r = mapped-at channels_of runners k own at in
+            let many = channels-many k r.0 (h.each k r.0 r.1) in
+            let same = ap length r.2 in
+            let l = less in
+            omega (arith, many, same, l)
 
-      pub seats-long : length (at_place place (map seats_of runners)) ≡ length runners
-      seats-long = length-place place (map seats_of runners) have-seats
-          ∙ length-map runners seats_of
+        pub seats-long : length (at_place place (map seats_of runners)) ≡ length runners
+        seats-long = length-place place (map seats_of runners) have-seats
+            ∙ length-map runners seats_of
 
-      pub channels-long : length (at_place place (map channels_of runners)) ≡ length runners
-      channels-long = length-place place (map channels_of runners) have-channels
-          ∙ length-map runners channels_of
+        pub channels-long : length (at_place place (map channels_of runners)) ≡ length runners
+        channels-long = length-place place (map channels_of runners) have-channels
+            ∙ length-map runners channels_of
 
-      -- a thread's seat and its channel there
-      pair-at : (k : ℕ) (seat : SeatOf) (c : ChannelValue)
-          → slice_get (at_place place (map seats_of runners)) k ≡ Some seat
-          → slice_get (at_place place (map channels_of runners)) k ≡ Some c
-          → IsKeptAt k book c seat
-      pair-at k seat c seat_at channel_at =
-          let s = place-at place (map seats_of runners) k seat have-seats seat_at in
-          let x = place-at place (map channels_of runners) k c have-channels channel_at in
-          let rs = mapped-at seats_of runners k s.0 s.1 in
-          let rc = mapped-at channels_of runners k x.0 x.1 in
-          let one = rs.1 in
-          let other = rc.1 in
-          let same : rs.0 ≡ rc.0 = cc in
-          kept-at k rs.0 (h.each k rs.0 rs.1) place book c seat book_at
-          (ap (λ (cs : List ChannelValue). slice_get cs place) (ap channels_of same ∙ rc.2) ∙ x.2)
-          (ap (λ (ss : List SeatOf). slice_get ss place) rs.2 ∙ s.2)
+        -- a thread's seat and its channel there
+        pair-at : (k : ℕ) (seat : SeatOf) (c : ChannelValue)
+            → slice_get (at_place place (map seats_of runners)) k ≡ Some seat
+            → slice_get (at_place place (map channels_of runners)) k ≡ Some c
+            → IsKeptAt k book c seat
+        pair-at k seat c seat_at channel_at =
+            let s = place-at place (map seats_of runners) k seat have-seats seat_at in
+            let x = place-at place (map channels_of runners) k c have-channels channel_at in
+            let rs = mapped-at seats_of runners k s.0 s.1 in
+            let rc = mapped-at channels_of runners k x.0 x.1 in
+            let one = rs.1 in
+            let other = rc.1 in
+            let same : rs.0 ≡ rc.0 = cc in
+            kept-at k rs.0 (h.each k rs.0 rs.1) place book c seat book_at
+            (ap (λ (cs : List ChannelValue). slice_get cs place) (ap channels_of same ∙ rc.2) ∙ x.2)
+            (ap (λ (ss : List SeatOf). slice_get ss place) rs.2 ∙ s.2)
 
-      may-close : (first : SeatOf) → IsFirstSeat (length (script_of run.shared).threads) book first
-          → MayClose book first (at_place place (map seats_of runners))
-          (tables_at place (map channels_of runners))
-      may-close first f = record {
-        seat_is = f.seat_is;
-        first_is = f.first;
-        own = λ k seat at.
-            let within = slice_get_within (at_place place (map seats_of runners)) k seat at in
-            let sl = seats-long in
-            let cl = channels-long in
-            let c = item-at (at_place place (map channels_of runners)) k
-            (omega (arith, within, sl, cl)) in
-            (pair-at k seat c.0 at c.1).own;
-        all = f.others ∙ sym h.many ∙ sym seats-long;
-        made = tables-made (λ (table : TableValue). table.shape ≡ shape_of book)
-            (at_place place (map channels_of runners))
-            (λ k c at.
-            let within = slice_get_within (at_place place (map channels_of runners)) k c at in
-            let sl = seats-long in
-            let cl = channels-long in
-            let seat = item-at (at_place place (map seats_of runners)) k
-            (omega (arith, within, sl, cl)) in
-            (pair-at k seat.0 c seat.1 at).made);
-        few = taken-few (at_place place (map seats_of runners))
-            (at_place place (map channels_of runners)) (seats-long ∙ sym channels-long)
-            (let sl = seats-long in
-            let many = h.many in
-            let most = is.shared.common.runnable.few_threads in
-            omega (arith, sl, many, most))
-            (λ k seat c seat_at channel_at. (pair-at k seat c seat_at channel_at).few);
-      }
+        may-close : (first : SeatOf) → IsFirstSeat (length (script_of run.shared).threads) book first
+            → MayClose book first (at_place place (map seats_of runners))
+            (tables_at place (map channels_of runners))
+        may-close first f = record {
+          seat_is = f.seat_is;
+          first_is = f.first;
+          own = λ k seat at.
+              let within = slice_get_within (at_place place (map seats_of runners)) k seat at in
+              let sl = seats-long in
+              let cl = channels-long in
+              let c = item-at (at_place place (map channels_of runners)) k
+              (omega (arith, within, sl, cl)) in
+              (pair-at k seat c.0 at c.1).own;
+          all = f.others ∙ sym h.many ∙ sym seats-long;
+          made = tables-made (λ (table : TableValue). table.shape ≡ shape_of book)
+              (at_place place (map channels_of runners))
+              (λ k c at.
+              let within = slice_get_within (at_place place (map channels_of runners)) k c at in
+              let sl = seats-long in
+              let cl = channels-long in
+              let seat = item-at (at_place place (map seats_of runners)) k
+              (omega (arith, within, sl, cl)) in
+              (pair-at k seat.0 c seat.1 at).made);
+          few = taken-few (at_place place (map seats_of runners))
+              (at_place place (map channels_of runners)) (seats-long ∙ sym channels-long)
+              (let sl = seats-long in
+              let many = h.many in
+              let most = is.shared.common.runnable.few_threads in
+              omega (arith, sl, many, most))
+              (λ k seat c seat_at channel_at. (pair-at k seat c seat_at channel_at).few);
+        }
 
     -- all books may be closed
     pub may-close-all :

@@ -89,7 +89,7 @@ module _ {A : Type 0} where
   maps-none P h same [] all = refl
   maps-none P h same (xs ∷ lists) all =
       λ i. same xs (All-head P xs lists all) i
-          ∷ maps-none P h same lists (All-tail P xs lists all) i
+      ∷ maps-none P h same lists (All-tail P xs lists all) i
 
   maps-next : (f g h : List A → List A) → ((xs : List A) → f (g xs) ≡ h xs)
       → (lists : List (List A)) → map f (map g lists) ≡ map h lists

@@ -39,10 +39,7 @@ pub fn hand_over<P: Prober>(
 }
 
 // What each runner is made of, in their order.
-fn take_apart<P: Prober>(
-    alloc: Global,
-    runners: Vec<Runner<'_, P>>,
-) -> Result<Handed, OutOfMemory>
+fn take_apart<P: Prober>(alloc: Global, runners: Vec<Runner<'_, P>>) -> Result<Handed, OutOfMemory>
     ensures { IfOk result (IsHandedOver runners.entry.items) }
 {
     let mut handed = Handed::new(alloc, runners.len())?;
