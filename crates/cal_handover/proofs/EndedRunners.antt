@@ -126,7 +126,8 @@ module _ {P : Type 0} (run : Run) where
             (ap (λ (cs : List ChannelValue). slice_get cs place) (ap channels_of same ∙ rc.2) ∙ x.2)
             (ap (λ (ss : List SeatOf). slice_get ss place) rs.2 ∙ s.2)
 
-        may-close : (first : SeatOf) → IsFirstSeat (length (script_of run.shared).threads) book first
+        may-close : (first : SeatOf)
+            → IsFirstSeat (length (script_of run.shared).threads) book first
             → MayClose book first (at_place place (map seats_of runners))
             (tables_at place (map channels_of runners))
         may-close first f = record {
