@@ -1,0 +1,36 @@
+//! One thread's work: a runner with the clock that it asks.
+ghost use Rattle.std.specs.Prelude.{◌≡◌, true};
+ghost use Rattle.cal_crew.specs.Ran.{HasRun};
+ghost use Rattle.cal_keeping.specs.Runners.{IsHiredRunner};
+ghost use Rattle.cal_replay.specs.Workers.{IsShared};
+
+use cal_base::{Clock, Gate};
+use cal_keeping::Runner;
+use cal_replay::Shared;
+use cal_run::Prober;
+use std::alloc::Global;
+
+/// A runner with its clock, and whether it has run all its lines.
+#[derive(Drop)]
+pub(crate) struct Shift<'a, P, K> {
+    pub(crate) runner: Runner<'a, P>,
+    pub(crate) clock: K,
+    pub(crate) ran: bool,
+}
+
+/// Starts the runner and runs all its lines. Where it ran out of memory they haven't run.
+pub(crate) fn run_one<'a, P: Prober, K: Clock, G: Gate>(
+    alloc: Global,
+    shared: &Shared<'_>,
+    gate: &G,
+    shift: &mut Shift<'a, P, K>,
+)
+    requires shared { IsShared shared.now }
+    requires hired { IsHiredRunner shared.now shift.old.runner }
+    ensures ran { shift.new.ran ≡ true → HasRun shared.now K.given shift.old.runner
+        shift.new.runner shift.old.clock shift.new.clock }
+{
+    shift.runner.start(shared, &mut shift.clock);
+    let ran = shift.runner.run(alloc, shared, &mut shift.clock, gate);
+    shift.ran = ran.is_ok();
+}
