@@ -1,0 +1,3 @@
+pub mod Standing
+pub mod DoneRuns
+pub mod ClosedRuns
