@@ -1,7 +1,7 @@
 -- All runners with their clocks have run, as their shifts say.
-use Rattle.std.proofs.Common.{◌≡◌, ℕ, ◌+◌, ◌<◌, List, ◌++◌, true, length, map, drop, take, arith}
+use Rattle.std.proofs.Common.{◌≡◌, ℕ, ◌+◌, List, ◌++◌, true, length, map, drop, take, arith}
 use Rattle.std.proofs.Common.{get_or}
-use Rattle.std.proofs.Common.{refl, sym, ap, ◌∙◌, subst, append-nil}
+use Rattle.std.proofs.Common.{sym, ap, ◌∙◌, subst, append-nil}
 use Rattle.std.specs.Prelude.{All, Option, Some, slice_get, slice_index_or}
 use Rattle.std.proofs.lemmas.List.{drop_all, drop_at, length-append, length-map, take_all}
 use Rattle.std.proofs.lemmas.Option.{get_or_from_slice_get, slice_get-get_or, slice_get_within}
@@ -19,7 +19,7 @@ pub lent-back : {X : Type 0} → (old lent new : List X) (long : ℕ) → lent �
 lent-back old lent new long all many same =
     let short = ap length all in
     ap (λ rest. take long (new ++ rest))
-        (drop_all (length new) old (omega (arith, same, short)))
+    (drop_all (length new) old (omega (arith, same, short)))
     ∙ ap (take long) (append-nil new)
     ∙ take_all long new (omega (arith, many, same, short))
 
@@ -57,7 +57,7 @@ module _ {P K : Type 0} (shared : Shared) (given : K → Option (List ℕ)) wher
         subst (λ (s : Shift P K). HasRun shared given s.runner n.runner s.clock n.clock) is_old
         (subst (λ (s : Shift P K). HasRun shared given (slice_index_or old place o).runner s.runner
         (slice_index_or old place o).clock s.clock) is_new
-        (ran place o within (all place o too)))
+        ((ran place o within).whole (all place o too)))
 
     -- a clock of the shifts stands at its place among all
     clock-at : (shifts : List (Shift P K)) (place : ℕ) (s : Shift P K)
@@ -75,11 +75,11 @@ module _ {P K : Type 0} (shared : Shared) (given : K → Option (List ℕ)) wher
         let o = at_map (λ (s : Shift P K). s.runner) old place had had_at in
         let n = at_map (λ (s : Shift P K). s.runner) new place has has_at in
         let first : o.0.clock ≡ before =
-            let e = subst (λ (cs : List K). slice_get cs place ≡ Some o.0.clock) before_is
-                (clock-at old place o.0 o.1) in cc in
+        let e = subst (λ (cs : List K). slice_get cs place ≡ Some o.0.clock) before_is
+        (clock-at old place o.0 o.1) in cc in
         let second : n.0.clock ≡ behind =
-            let e = subst (λ (cs : List K). slice_get cs place ≡ Some n.0.clock) (sym behind_is)
-                (clock-at new place n.0 n.1) in cc in
+        let e = subst (λ (cs : List K). slice_get cs place ≡ Some n.0.clock) (sym behind_is)
+        (clock-at new place n.0 n.1) in cc in
         moved o.0.runner n.0.runner o.0.clock n.0.clock had has before behind o.2 n.2 first second
         (at-place place o.0 n.0 o.1 n.1)
 
@@ -91,7 +91,7 @@ module _ {P K : Type 0} (shared : Shared) (given : K → Option (List ℕ)) wher
         → done ≡ runners_of new → HaveRun shared given runners done was is
     have-run runners done runners_is done_is =
         let count : length runners ≡ length old =
-            sym (ap length runners_is) ∙ length-map old (λ (s : Shift P K). s.runner) in
+        sym (ap length runners_is) ∙ length-map old (λ (s : Shift P K). s.runner) in
         record {
           many = ap length done_is ∙ length-map new (λ (s : Shift P K). s.runner) ∙ many
               ∙ sym count;

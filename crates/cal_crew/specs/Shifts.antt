@@ -14,9 +14,9 @@ module _ {P K : Type 0} where
   clocks_of shifts = map (λ (s : Shift P K). s.clock) shifts
 
   -- A shift that says so has run all its lines.
-  abbrev pub HasShifted : Shared → (given : K → Option (List ℕ)) → (old new : Shift P K) → Type 0
-  HasShifted shared given old new =
-      new.ran ≡ true → HasRun shared given old.runner new.runner old.clock new.clock
+  pub record HasShifted (shared : Shared) (given : K → Option (List ℕ)) (old new : Shift P K)
+      : Type 0 where
+    pub whole : new.ran ≡ true → HasRun shared given old.runner new.runner old.clock new.clock
 
   -- and so has each of these
   abbrev pub HaveShifted : Shared → (given : K → Option (List ℕ)) → (old new : List (Shift P K))

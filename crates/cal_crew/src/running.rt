@@ -19,13 +19,7 @@ use std::thread::Threads;
 /// place, and joins the threads. It gives the runners back in their order, and leaves the clocks in
 /// theirs. Where a thread can't be made, its runner runs in another's. An `Err` is want of memory:
 /// some runner may have run, all are dropped, and clocks with them.
-pub fn run_threads<
-    'a,
-    R: Threads + Sync,
-    P: Prober + Sync,
-    K: Clock + Send + Drop,
-    G: Gate + Sync,
->(
+pub fn run_threads<'a, R: Threads + Sync, P: Prober + Sync, K: Clock + Send + Drop, G: Gate + Sync>(
     rt: &R,
     alloc: Global,
     shared: &Shared<'_>,
@@ -118,7 +112,11 @@ fn part<'a, P: Prober, K: Drop>(
 {
     let mut done = Vec::with_capacity(alloc, shifts.len())?;
     while let Some(shift) = shifts.pop() {
-        let Shift { runner, clock, ran: _ } = shift;
+        let Shift {
+            runner,
+            clock,
+            ran: _,
+        } = shift;
         done.push(runner)?;
         clocks.push(clock)?;
     }

@@ -1,6 +1,5 @@
 //! One thread's work: a runner with the clock that it asks.
-ghost use Rattle.std.specs.Prelude.{◌≡◌, true};
-ghost use Rattle.cal_crew.specs.Ran.{HasRun};
+ghost use Rattle.cal_crew.specs.Shifts.{HasShifted};
 ghost use Rattle.cal_keeping.specs.Runners.{IsHiredRunner};
 ghost use Rattle.cal_replay.specs.Workers.{IsShared};
 
@@ -27,8 +26,7 @@ pub(crate) fn run_one<'a, P: Prober, K: Clock, G: Gate>(
 )
     requires shared { IsShared shared.now }
     requires hired { IsHiredRunner shared.now shift.old.runner }
-    ensures ran { shift.new.ran ≡ true → HasRun shared.now K.given shift.old.runner
-        shift.new.runner shift.old.clock shift.new.clock }
+    ensures shifted { HasShifted shared.now K.given shift.old shift.new }
 {
     shift.runner.start(shared, &mut shift.clock);
     let ran = shift.runner.run(alloc, shared, &mut shift.clock, gate);

@@ -8,7 +8,7 @@ use Rattle.cal_keeping.specs.declared.runner.Runner.{Runner}
 use Rattle.cal_crew.proofs.running.run_threads.Goals as goal
 
 pub run_all-requires-clause-hired : goal.run_all-requires-clause-hired
-run_all-requires-clause-hired g c =
+run_all-requires-clause-hired g c κs within =
     let shared = c.args.shared.now in
     let made = c.in_ok-shifts.shifts.items in
     subst (λ (ss : List (Shift g.row.P.Denot g.row.K.Denot)). All

@@ -1,0 +1,4 @@
+mod OnePlace
+mod FromPlace
+mod ClosedFrom
+mod LeftBooks
