@@ -12,8 +12,8 @@ use std::alloc::Global;
 use std::hash::RandomState;
 use std::test::Fail;
 
-/// Each form of line, accepted and refused: on a channel with the timer and a trace, and on one that
-/// aggregates by function.
+/// Each form of line, accepted and refused: on a channel with the timer and a trace, and on one
+/// that aggregates by function.
 const FORMS: &str = "attribute phase string 268\nattribute function string 276\n\
     channel t timer,trace\nchannel p aggregate\nkey function\nthread\nset phase init\n\
     begin function main\ntick 5\nsnapshot\nend phase\nend phase\nbegin function solve\nsnapshot\n\
@@ -70,7 +70,8 @@ fn a_thread_alone_notes_what_is_plain(rt: HostRuntime) -> Result<(), Fail> {
     let reading = next_reading(&mut clocks);
     drop(clocks);
     assert!(rt; plain, "the notes are those of the plain journal");
-    assert!(rt; counts == Some(Counts { traced: 3, kept: 1 }), "a snapshot behind the flush is kept");
+    let expected = Some(Counts { traced: 3, kept: 1 });
+    assert!(rt; counts == expected, "a snapshot behind the flush is kept");
     assert!(rt; reading == Some(7), "the clock wasn't asked");
     Ok(())
 }
