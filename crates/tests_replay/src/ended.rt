@@ -68,7 +68,7 @@ fn run_hired<R: Threads + Sync>(
         { length run.now.shared.common.script.now.threads ≤ length clocks.old.items }
 {
     let probes = Formulas;
-    let runners = run.hire(alloc, &probes, &mut first)?;
+    let runners = (&*run).hire(alloc, &probes, &mut first)?;
     let done = run_threads(rt, alloc, &run.shared, runners, clocks, &OpenGate)?;
     let Parted {
         threads,
