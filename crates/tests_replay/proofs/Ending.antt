@@ -45,7 +45,7 @@ module _ {P : Type 0} (run : Run) (runners : List (Runner P)) (hired : AreHired 
         let before = place-of was k (omega (arith, less, many, enough)) in
         let behind = place-of is k (omega (arith, less, many, enough, clocks)) in
         let one : HasRun run.shared given had.0 here.0 before.0 behind.0 =
-            ran.each k had.0 here.0 before.0 behind.0 had.1 here.1 before.1 behind.1 in
+        ran.each k had.0 here.0 before.0 behind.0 had.1 here.1 before.1 behind.1 in
         record {
           r = here.0;
           at = here.1;

@@ -64,8 +64,7 @@ fn run_hired<R: Threads + Sync>(
 ) -> Result<Ended, OutOfMemory>
     requires run { IsRun run.now }
     requires first { HaveHired run.now first 0 }
-    requires clocks
-        { length run.now.shared.common.script.now.threads ≤ length clocks.old.items }
+    requires clocks { length run.now.shared.common.script.now.threads ≤ length clocks.old.items }
 {
     let probes = Formulas;
     let runners = (&*run).hire(alloc, &probes, &mut first)?;

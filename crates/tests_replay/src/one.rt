@@ -90,7 +90,13 @@ fn readings_are_noted_as_the_clock_shows_them(rt: HostRuntime) -> Result<(), Fai
     drop(ended);
     let reading = next_reading(&mut clocks);
     drop(clocks);
-    assert!(rt; noted, "each line that takes a reading has the clock's next one");
-    assert!(rt; reading == Some(20), "the clock was asked for no further reading");
+    assert!(rt;
+        noted,
+        "each line that takes a reading has the clock's next one"
+    );
+    assert!(rt;
+        reading == Some(20),
+        "the clock was asked for no further reading"
+    );
     Ok(())
 }

@@ -69,6 +69,9 @@ fn threads_side_by_side_leave_a_lawful_journal(rt: HostRuntime) -> Result<(), Fa
     let count = lawful_runs(&rt, rt.alloc(), hashers, &script, &mut clocks);
     drop(clocks);
     drop(script);
-    assert!(rt; count == 1000, "each run succeeds, and its journal is lawful");
+    assert!(rt;
+        count == 1000,
+        "each run succeeds, and its journal is lawful"
+    );
     Ok(())
 }
