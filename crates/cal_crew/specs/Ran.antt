@@ -6,7 +6,7 @@ use Rattle.cal_replay.specs.Readings.{Asked, AskedFor, off_clock, readings_of}
 use Rattle.cal_replay.specs.declared.shared.Shared.{Shared}
 use Rattle.cal_script.specs.declared.journal.ThreadNote.{ThreadNote}
 
--- A clock was asked for a thread's start reading and then for those of its lines, as they are noted.
+-- A clock was asked for a thread's start reading and then for those of its lines, as noted.
 pub record HasToldAll {K : Type 0} (given : K → Option (List ℕ)) (real : Bool) (was is : K)
     (note : ThreadNote) : Type 0 where
   pub started : K
