@@ -6,7 +6,7 @@ use Rattle.std.specs.List.{All, AllZip, cons_option}
 use Rattle.std.proofs.lemmas.List.Elements.{All-cons, All-nil}
 use Rattle.std.proofs.lemmas.List.Sums.{sum_by-append, sum_by-cons}
 use Rattle.std.proofs.lemmas.Option.{same_Some}
-use Rattle.cal_book.specs.Seats.{IsSeatOf, shape_of, view}
+use Rattle.cal_book.specs.Seats.{shape_of, view}
 use Rattle.cal_channel.specs.Values.{ChannelValue, unflushed_of}
 use Rattle.cal_closing.specs.Parts.{AreOfShape}
 use Rattle.cal_closing.specs.Seats.{IsThreadSeat, accounts_of, given_by}
@@ -64,10 +64,11 @@ module _ {P : Type 0} where
         → Stands number r)
         → AllStand n runners
     all-stand n [] each = tt
-    all-stand n (r ∷ runners) each =
-        (each n zero r (omega arith) refl,
-        all-stand (suc n) runners
-        (λ number k s e at. each number (suc k) s (omega (arith, e)) at))
+    all-stand n (r ∷ runners) each = (
+      each n zero r (omega arith) refl,
+      all-stand (suc n) runners
+          (λ number k s e at. each number (suc k) s (omega (arith, e)) at),
+    )
 
     -- the seats at the place begin with the first one's
     seats-cons : (n : ℕ) (r : Runner P) (runners : List (Runner P)) (here : Stands n r)
@@ -115,12 +116,14 @@ module _ {P : Type 0} where
     accounts-at n (r ∷ runners) all =
         subst (λ (seats : List SeatOf).
         AllZip (HasAccount place) (r ∷ runners) (accounts_of seats))
-        (sym (seats-cons n r runners all.0))
-        (record {
-          seat = all.0.seat;
-          seat_at = all.0.seat_at;
-          account_is = refl;
-        }, accounts-at (suc n) runners all.1)
+        (sym (seats-cons n r runners all.0)) (
+          record {
+            seat = all.0.seat;
+            seat_at = all.0.seat_at;
+            account_is = refl;
+          },
+          accounts-at (suc n) runners all.1,
+        )
 
     pub made-at : (n : ℕ) (runners : List (Runner P)) → AllStand n runners
         → AreOfShape (shape_of book) (tables_at place (channels_of runners))

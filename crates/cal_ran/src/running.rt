@@ -18,12 +18,7 @@ use std::thread::Threads;
 /// Hires the threads of a run, runs all their lines, each in a thread of its own with the clock at
 /// its place, and takes what they hand over, after which nobody borrows the run. An `Err` is want
 /// of memory: some lines may have run, and clocks may be lost.
-pub(crate) fn run_all<
-    R: Threads + Sync,
-    P: Prober + Sync,
-    K: Clock + Send + Drop,
-    G: Gate + Sync,
->(
+pub(crate) fn run_all<R: Threads + Sync, P: Prober + Sync, K: Clock + Send + Drop, G: Gate + Sync>(
     rt: &R,
     alloc: Global,
     run: &Run<'_>,

@@ -19,12 +19,7 @@ use std::thread::Threads;
 /// journal of what happened. Readings come off these clocks where `real` says so, else off the
 /// script's own. Where a thread can't be made, its lines run in another's. An `Err` is want of
 /// memory: no journal is left, some lines may have run, and clocks may be lost.
-pub fn run_script<
-    R: Threads + Sync,
-    P: Prober + Sync,
-    K: Clock + Send + Drop,
-    G: Gate + Sync,
->(
+pub fn run_script<R: Threads + Sync, P: Prober + Sync, K: Clock + Send + Drop, G: Gate + Sync>(
     rt: &R,
     alloc: Global,
     hashers: RandomState,

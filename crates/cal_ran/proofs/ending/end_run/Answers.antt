@@ -1,7 +1,6 @@
-use Rattle.std.proofs.Common.{◌≡◌, ℕ, All, List, length, subst, sym, ap, ◌∙◌}
+use Rattle.std.proofs.Common.{ℕ, All, List, length, subst, sym, ap, ◌∙◌}
 use Rattle.cal_channel.specs.Values.{ChannelValue}
 use Rattle.cal_ending.specs.Joining.{AreInOrder}
-use Rattle.cal_finish.specs.Ended.{HaveAllRun}
 use Rattle.cal_finish.specs.Threads.{IsWholeFor}
 use Rattle.cal_handover.specs.Closing.{AreClosed, MayCloseAll}
 use Rattle.cal_handover.specs.Places.{lists_of}

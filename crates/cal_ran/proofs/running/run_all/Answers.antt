@@ -1,11 +1,11 @@
-use Rattle.std.proofs.Common.{◌≤◌, List, length, subst, sym, ap, ◌∙◌, arith}
+use Rattle.std.proofs.Common.{List, subst, sym, arith}
 use Rattle.cal_ran.proofs.DoneRuns.{all-hired, are-done, told-all}
 use Rattle.cal_ran.specs.Told.{AreToldAll}
 use Rattle.cal_script.specs.declared.journal.ThreadNote.{ThreadNote}
 use Rattle.cal_ran.proofs.running.run_all.Goals as goal
 
 pub run_threads-requires-clause-hired : goal.run_threads-requires-clause-hired
-run_threads-requires-clause-hired g c =
+run_threads-requires-clause-hired g c κs within =
     all-hired c.args.run.now c.in_ok-runners.runners.items c.in_ok-runners.ensures.hired
 
 pub run_threads-requires-clause-clocks : goal.run_threads-requires-clause-clocks
@@ -19,7 +19,7 @@ returns-clause-handed g c = record {
   from = c.in_ok-done.done.items;
   done = are-done c.args.run.now c.in_ok-runners.runners.items c.in_ok-runners.ensures.hired
       g.K.Clock.given c.in_ok-done.done.items c.args.clocks.now.items
-      c.run_threads.new.clocks.items c.in_ok-done.ensures c.requires.clocks;
+      c.run_threads.new.clocks.items c.in_ok-done.ensures.ran c.requires.clocks;
   parts = c.in_ok-handed.ensures;
 }
 
@@ -31,4 +31,4 @@ returns-clause-told g c = subst
     (sym c.in_ok-handed.ensures.notes)
     (told-all c.args.run.now c.in_ok-runners.runners.items c.in_ok-runners.ensures.hired
     g.K.Clock.given c.in_ok-done.done.items c.args.clocks.now.items
-    c.run_threads.new.clocks.items c.in_ok-done.ensures c.requires.clocks)
+    c.run_threads.new.clocks.items c.in_ok-done.ensures.ran c.requires.clocks)
