@@ -1,0 +1,4 @@
+pub mod Standing
+pub mod DoneRuns
+pub mod ClosedRuns
+pub mod HandedRuns
