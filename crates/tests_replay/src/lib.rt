@@ -1,15 +1,16 @@
-//! Tests of running threads: whole runs, by the script's clock and by real ones, of one thread and
-//! of two.
+//! Tests of whole runs in threads: one thread by the script's clock and by a real one, and two,
+//! four and sixteen side by side.
 //!
-//! Expected notes and numbers are written by hand or come from the plain meaning of a run. They
-//! show what no clause can say, that calls succeed with ample memory, and that what two threads leave
-//! is a lawful journal in each of a thousand runs.
+//! Expected journals are written by hand. They show what no clause can say, that runs succeed with
+//! ample memory; that what a run leaves is a lawful journal is proved, and seen here once more in
+//! each of a thousand runs.
 #![tactic(auto)]
 
-mod ended;
 #[cfg(test)]
-mod one;
+mod alone;
+#[cfg(test)]
+mod runs;
 #[cfg(test)]
 mod scripts;
 #[cfg(test)]
-mod two;
+mod together;

@@ -1,0 +1,4 @@
+use Rattle.tests_replay.proofs.scripts.runnable.Goals as goal
+
+pub returns : goal.returns
+returns c = c.valid_script_law.ensures c.in_ok-script.script (c.args.text.now, c.in_ok-script.ensures)
