@@ -2,5 +2,3 @@ mod OnePlace
 mod FromPlace
 mod ClosedFrom
 mod LeftBooks
-mod SomePlaces
-mod EndedRunners

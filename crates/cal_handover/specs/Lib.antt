@@ -1,4 +1,3 @@
 pub mod Handing
 pub mod Places
 pub mod Closing
-pub mod Ended

@@ -1,8 +1,6 @@
 //! What runners hand over when they are taken apart.
 ghost use Rattle.std.specs.Prelude.{◌≡◌, ◌++◌, [], ◌∷◌, IfOk, OnOk};
-ghost use Rattle.cal_handover.specs.Ended.{MayCloseBooks};
 ghost use Rattle.cal_handover.specs.Handing.{IsHandedOver};
-ghost use Rattle.cal_handover.specs.Places.{lists_of};
 
 use cal_channel::ThreadChannel;
 use cal_keeping::{Channels, Runner};
@@ -30,16 +28,6 @@ pub fn hand_over<P: Prober>(
     alloc: Global,
     runners: Vec<Runner<'_, P>>,
 ) -> Result<Handed, OutOfMemory>
-    ensures handed { IfOk result (IsHandedOver runners.entry.items) }
-    ensures may_close { IfOk result (λ handed. MayCloseBooks runners.entry.items
-        (lists_of handed.seats.items) (lists_of handed.channels.items)) }
-{
-    let handed = take_apart(alloc, runners)?;
-    Ok(handed)
-}
-
-// What each runner is made of, in their order.
-fn take_apart<P: Prober>(alloc: Global, runners: Vec<Runner<'_, P>>) -> Result<Handed, OutOfMemory>
     ensures { IfOk result (IsHandedOver runners.entry.items) }
 {
     let mut handed = Handed::new(alloc, runners.len())?;

@@ -1,7 +1,7 @@
 use Rattle.std.proofs.Common.{◌≡◌, ◌++◌, length}
 use Rattle.std.specs.Vec.Iter.{into_iter_items, into_iter_len}
 use Rattle.cal_handover.specs.Handing.{IsHandedOver}
-use Rattle.cal_handover.proofs.handed.take_apart.Given as goal
+use Rattle.cal_handover.proofs.handed.hand_over.Given as goal
 
 -- the runners so far are taken apart
 abbrev pub invariant-loop-runner : goal.invariant-loop-runner
