@@ -14,7 +14,7 @@ use Rattle.cal_once.specs.Seats.{view}
 use Rattle.cal_once.specs.Views.{KnowsMore}
 use Rattle.cal_once.specs.declared.seat.RowSeat.{RowSeat}
 use Rattle.cal_results.proofs.Meanings.{record_later}
-use Rattle.cal_results.specs.Tracing.{MeanRecords, MeansRecord}
+use Rattle.cal_results.specs.Tracing.{TraceMeans, SnapMeans}
 use Rattle.cal_script.specs.declared.script.Script.{Script}
 use Rattle.cal_tree.specs.declared.tree.Tree.{Tree}
 use Rattle.cal_value.specs.declared.record.Rec.{Rec}
@@ -30,7 +30,7 @@ zip_at R (x ∷ xs) (y ∷ ys) (suc k) d e h l = zip_at R xs ys k d e h.1 (omega
 
 -- there are as many snapshots as records
 pub means_long : (t : contexts.Tree) (script : Script) (tree : Tree) (seat : RowSeat NodeSort)
-    (snaps : List ShownSnap) (recs : List Rec) → MeanRecords t script tree seat snaps recs
+    (snaps : List ShownSnap) (recs : List Rec) → TraceMeans t script tree seat snaps recs
     → length recs ≡ length snaps
 means_long t script tree seat snaps recs m =
     AllZip-long (IsTraced m.attributes script tree seat) snaps recs m.traced
@@ -40,9 +40,9 @@ means_long t script tree seat snaps recs m =
 pub record_at : (script : Script) (tree : Tree) (old new : contexts.Tree)
     → IsFront old.attributes new.attributes → (was is : RowSeat NodeSort)
     → KnowsMore (view was) (view is) → (snaps : List ShownSnap) (recs : List Rec) (k : ℕ)
-    → MeanRecords old script tree was snaps recs → k < length snaps → (shown : ShownSnap)
+    → TraceMeans old script tree was snaps recs → k < length snaps → (shown : ShownSnap)
     → ((d : ShownSnap) → get_or snaps k d ≡ shown) → (e : Rec)
-    → MeansRecord new script tree is shown (get_or recs k e)
+    → SnapMeans new script tree is shown (get_or recs k e)
 record_at script tree old new more was is learned snaps recs k m l shown at e =
     record_later script tree shown old new more was is learned (get_or recs k e) (record {
       attributes = m.attributes;

@@ -24,7 +24,7 @@ use Rattle.cal_nodes.specs.Numbers.{AreNumbered, CanNumber, number_in}
 use Rattle.cal_once.specs.Seats.{view}
 use Rattle.cal_once.specs.Views.{KnowsMore}
 use Rattle.cal_once.specs.declared.seat.RowSeat.{RowSeat}
-use Rattle.cal_results.specs.Tracing.{AreNumbersOf, MeanRecords, MeansRecord}
+use Rattle.cal_results.specs.Tracing.{AreNumbersOf, TraceMeans, SnapMeans}
 use Rattle.cal_script.specs.declared.script.Script.{Script}
 use Rattle.cal_snap.specs.Numbered as numbered
 use Rattle.cal_tree.specs.Seats.{IsTreeSeat}
@@ -153,7 +153,7 @@ traced_later attributes script tree was is learned snap rec h = record {
 pub records_later : (script : Script) (tree : Tree) (old new : contexts.Tree)
     → IsFront old.attributes new.attributes → (was is : RowSeat NodeSort)
     → KnowsMore (view was) (view is) → (snaps : List ShownSnap) (recs : List Rec)
-    → MeanRecords old script tree was snaps recs → MeanRecords new script tree is snaps recs
+    → TraceMeans old script tree was snaps recs → TraceMeans new script tree is snaps recs
 records_later script tree old new more was is learned snaps recs m = record {
   attributes = m.attributes;
   front = IsFront-trans m.attributes old.attributes new.attributes m.front more;
@@ -166,7 +166,7 @@ module _ (script : Script) (tree : Tree) (snap : ShownSnap) where
   -- and so does one
   pub record_later : (old new : contexts.Tree) → IsFront old.attributes new.attributes
       → (was is : RowSeat NodeSort) → KnowsMore (view was) (view is) → (rec : Rec)
-      → MeansRecord old script tree was snap rec → MeansRecord new script tree is snap rec
+      → SnapMeans old script tree was snap rec → SnapMeans new script tree is snap rec
   record_later old new more was is learned rec m = record {
     attributes = m.attributes;
     front = IsFront-trans m.attributes old.attributes new.attributes m.front more;
@@ -177,7 +177,7 @@ module _ (script : Script) (tree : Tree) (snap : ShownSnap) where
       (all : AreNumbered tree seat t numbers) (s : Snapshot)
       (given : AreNumbersOf numbers s.nodes.items snap.nodes)
       (shown : s.imms.items ≡ map (immediate_shown script.values) snap.entries) (rec : Rec)
-      (m : MeansRecord t script tree seat snap rec) where
+      (m : SnapMeans t script tree seat snap rec) where
     pub snapshot_lies : IsIn t s
     snapshot_lies = record {
       nodes = nodes_lie tree seat t numbers all s.nodes.items snap.nodes given;

@@ -19,13 +19,13 @@ use Rattle.cal_words.specs.declared.sort.NodeSort.{NodeSort}
 module _ (context : contexts.Tree) (script : Script) (tree : Tree)
     (seat : RowSeat NodeSort) where
   -- a snapshot means a record, by attributes that are the first of the context
-  pub record MeansRecord (snap : ShownSnap) (rec : Rec) : Type 0 where
+  pub record SnapMeans (snap : ShownSnap) (rec : Rec) : Type 0 where
     pub attributes : List Attribute
     pub front : IsFront attributes context.attributes
     pub traced : IsTraced attributes script tree seat snap rec
 
   -- snapshots mean these records, in their order
-  pub record MeanRecords (snaps : List ShownSnap) (recs : List Rec) : Type 0 where
+  pub record TraceMeans (snaps : List ShownSnap) (recs : List Rec) : Type 0 where
     pub attributes : List Attribute
     pub front : IsFront attributes context.attributes
     pub traced : AllZip (IsTraced attributes script tree seat) snaps recs

@@ -4,10 +4,10 @@ ghost use Rattle.cal_channel.specs.Shown.{immediate_shown};
 ghost use Rattle.cal_context.specs.Lists.{IsFront};
 ghost use Rattle.cal_context.specs.Snapshots.{IsIn, meaning};
 ghost use Rattle.cal_context.specs.Tree.{Grows};
-ghost use Rattle.cal_nodes.specs.Numbers.{AreNumbered, IsNumbered};
+ghost use Rattle.cal_nodes.specs.Numbers.{AreNumbered, IsNumbered, KeepsNumbers};
 ghost use Rattle.cal_once.specs.Seats.{view};
 ghost use Rattle.cal_once.specs.Views.{Learns};
-ghost use Rattle.cal_results.specs.Tracing.{AreNumbersOf, MeansRecord};
+ghost use Rattle.cal_results.specs.Tracing.{AreNumbersOf, SnapMeans};
 ghost use Rattle.cal_tree.specs.Seats.{IsTreeSeat};
 ghost use Rattle.cal_value.specs.declared.record.Rec.{Rec};
 
@@ -21,7 +21,8 @@ use cal_words::NodeId;
 use std::alloc::Global;
 
 /// Makes a snapshot of the context mean what one of a trace means, in place of what it meant
-/// before, whose memory serves again. The nodes get their numbers in the context.
+/// before, whose memory serves again. The nodes get their numbers in the context. After an `Err`
+/// nothing is said of the snapshot.
 pub(crate) fn place_snap(
     alloc: Global,
     script: &Script,
@@ -35,11 +36,11 @@ pub(crate) fn place_snap(
     requires seat { IsTreeSeat tree.now seat.old }
     requires numbered { AreNumbered tree.now seat.old context.old nodes.old }
     requires named { IsFront script.now.attributes context.old.attributes }
-    requires means { (rec : Rec) × MeansRecord context.old script.now tree.now seat.old
+    requires means { (rec : Rec) × SnapMeans context.old script.now tree.now seat.old
         (record { nodes = shown.nodes.now; entries = shown.entries.now }) rec }
     ensures lies { OnOk result (IsIn context.new snapshot.new) }
     ensures means { OnOk result ((rec : Rec)
-        → MeansRecord context.old script.now tree.now seat.old
+        → SnapMeans context.old script.now tree.now seat.old
         (record { nodes = shown.entry.nodes.now; entries = shown.entry.entries.now }) rec
         → meaning context.new snapshot.new ≡ rec) }
     ensures seat { IsTreeSeat tree.now seat.new }
@@ -47,6 +48,7 @@ pub(crate) fn place_snap(
     ensures grows { Grows context.old context.new }
     ensures attributes { context.new.attributes ≡ context.old.attributes }
     ensures numbered { AreNumbered tree.now seat.new context.new nodes.new }
+    ensures keeps { KeepsNumbers nodes.old nodes.new }
 {
     snapshot.clear();
     nodes.number_all(alloc, tree, seat, context, shown.nodes)?;

@@ -3,10 +3,10 @@ ghost use Rattle.std.specs.Prelude.{◌≡◌, List, OnOk};
 ghost use Rattle.cal_context.specs.Lists.{IsFront};
 ghost use Rattle.cal_context.specs.Taking.{TakesMore};
 ghost use Rattle.cal_context.specs.Tree.{Grows};
-ghost use Rattle.cal_nodes.specs.Numbers.{AreNumbered};
+ghost use Rattle.cal_nodes.specs.Numbers.{AreNumbered, KeepsNumbers};
 ghost use Rattle.cal_once.specs.Seats.{view};
 ghost use Rattle.cal_once.specs.Views.{Learns};
-ghost use Rattle.cal_results.specs.Tracing.{MeanRecords};
+ghost use Rattle.cal_results.specs.Tracing.{TraceMeans};
 ghost use Rattle.cal_tree.specs.Seats.{IsTreeSeat};
 ghost use Rattle.cal_value.specs.declared.record.Rec.{Rec};
 
@@ -37,15 +37,16 @@ pub fn take_trace<T: Taker>(
     requires numbered { AreNumbered tree.now seat.old context.old nodes.old }
     requires named { IsFront script.now.attributes context.old.attributes }
     requires means { (recs : List Rec)
-        × MeanRecords context.old script.now tree.now seat.old trace.now recs }
+        × TraceMeans context.old script.now tree.now seat.old trace.now recs }
     ensures taken { OnOk result ((recs : List Rec)
-        → MeanRecords context.old script.now tree.now seat.old trace.now recs
+        → TraceMeans context.old script.now tree.now seat.old trace.now recs
         → TakesMore (T.has_taken taker.old context.old) (T.has_taken taker.new context.new) recs) }
     ensures seat { IsTreeSeat tree.now seat.new }
     ensures learns { Learns (view seat.old) (view seat.new) }
     ensures grows { Grows context.old context.new }
     ensures attributes { context.new.attributes ≡ context.old.attributes }
     ensures numbered { AreNumbered tree.now seat.new context.new nodes.new }
+    ensures keeps { KeepsNumbers nodes.old nodes.new }
 {
     let mut snapshot = Snapshot::new(alloc);
     for place in 0..trace.len() {

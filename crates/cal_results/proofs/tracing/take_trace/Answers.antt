@@ -18,6 +18,7 @@ loop-place-init g c = record {
   grows = Grows-refl c.args.context.now;
   attributes = refl;
   numbered = c.requires.numbered;
+  keeps = λ node n is. is;
   taken = λ recs m rs had. subst (g.T.Taker.has_taken c.args.taker.now c.args.context.now)
       (sym (append-nil rs)) had;
 }
@@ -65,6 +66,7 @@ loop-place-preserved g c =
       grows = Grows-trans c.args.context.now old new inv.grows done.grows;
       attributes = done.attributes ∙ inv.attributes;
       numbered = done.numbered;
+      keeps = λ node n is. done.keeps node n (inv.keeps node n is);
       taken = λ recs m.
           let long = means_long c.args.context.now c.args.script.now c.args.tree.now
           c.args.seat.now snaps recs m in
