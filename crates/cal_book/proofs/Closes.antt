@@ -11,7 +11,7 @@ use Rattle.cal_book.specs.declared.content.Content.{Content}
 use Rattle.cal_book.specs.declared.view.Account.{Account}
 use Rattle.cal_book.specs.declared.view.View.{View}
 use Rattle.cal_book.specs.Accounts.{ThreadHadTurn}
-use Rattle.cal_book.specs.Merges.{all_given}
+use Rattle.cal_book.specs.Merges.{IsAccount, all_given}
 use Rattle.cal_book.specs.Views.{joined_accounts}
 use Rattle.cal_book.specs.Rule.{HasActed, IsTurn, Kept, Thread, accounts_of, told, told_by}
 use Rattle.cal_book.specs.Closing.{AllMetHadTurns}
@@ -44,6 +44,7 @@ module _ {T Q : Type 0} (law : Merging T Q) (q : Q) where
   pub record Told (table : T) (accounts : List (Account T)) : Type 0 where
     pub same : law.same table (all_given law q accounts)
     pub made : law.made_for q table
+    pub given : All (IsAccount law q) accounts
     pub met : AllMetHadTurns accounts
 
   -- the content that comes out of the closed slot
@@ -74,6 +75,7 @@ module _ {T Q : Type 0} (law : Merging T Q) (q : Q) where
           subst (λ (x : Content T). Told x.table (joined_accounts v.others)) one (subst (Told free.content.table) (sym are) record {
             same = free.agrees.same;
             made = law.same_made q _ _ (law.same_sym _ _ free.agrees.same) (all_given-made law q (accounts_of k.threads) k.lawful);
+            given = k.lawful;
             met = All-weaker (λ account. All (HasActed k.holder (accounts_of k.threads)) account.met) (λ account. All (ThreadHadTurn (accounts_of k.threads)) account.met)
                 (λ account. All-weaker (HasActed k.holder (accounts_of k.threads)) (ThreadHadTurn (accounts_of k.threads)) (λ h. ⊎_elim (λ holds. absurd cc) (λ had. had)) account.met)
                 (accounts_of k.threads) k.met;

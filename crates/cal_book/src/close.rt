@@ -1,6 +1,6 @@
 ghost use Rattle.std.specs.Prelude.{◌≡◌, None, IsSome, All};
 ghost use Rattle.cal_book.specs.Closing.{AllMetHadTurns};
-ghost use Rattle.cal_book.specs.Merges.{all_given};
+ghost use Rattle.cal_book.specs.Merges.{IsAccount, all_given};
 ghost use Rattle.cal_book.specs.Seats.{IsSeatOf, shape_of, view};
 ghost use Rattle.cal_book.specs.Views.{joined_accounts};
 
@@ -16,6 +16,8 @@ impl<T: Merging<Q> + Drop, Q> FlushCell<T, Q> {
         ensures merged { T.Merging.same result
             (all_given T.Merging (shape_of self) (joined_accounts (view seat).others)) }
         ensures made { T.Merging.made_for (shape_of self) result }
+        ensures given { All (IsAccount T.Merging (shape_of self))
+            (joined_accounts (view seat).others) }
         ensures met { AllMetHadTurns (joined_accounts (view seat).others) }
     {
         let FlushCell {

@@ -1,11 +1,16 @@
 -- What tables of one shape come to.
 use Rattle.std.specs.Prelude.{◌≡◌, List, All, flat_map, sum_by}
+use Rattle.cal_book.specs.declared.view.Account.{Account}
 use Rattle.cal_table.specs.Tables.{TableValue}
 use Rattle.cal_table.specs.declared.shape.TableShape.{TableShape}
 
 -- the tables are of one shape
 abbrev pub AreOfShape : TableShape → List TableValue → Type 0
 AreOfShape shape tables = All (λ (table : TableValue). table.shape ≡ shape) tables
+
+-- and so are the parts that threads have given
+abbrev pub AreMadeFor : TableShape → List (Account TableValue) → Type 0
+AreMadeFor shape accounts = All (λ account. AreOfShape shape account.given) accounts
 
 -- The table of a shape that stands for all that these tables stand for: it has their rows, one list
 -- behind another.

@@ -2,7 +2,7 @@
 ghost use Rattle.std.specs.Prelude.{◌≡◌, None, Some, length, map};
 ghost use Rattle.cal_book.specs.Closing.{AllMetHadTurns};
 ghost use Rattle.cal_book.specs.Seats.{IsSeatOf, shape_of, view};
-ghost use Rattle.cal_closing.specs.Parts.{all_of};
+ghost use Rattle.cal_closing.specs.Parts.{AreMadeFor, all_of};
 ghost use Rattle.cal_closing.specs.Seats.{AreThreadSeats, accounts_of, given_by};
 ghost use Rattle.cal_table.specs.Tables.{Same};
 
@@ -17,6 +17,7 @@ pub fn close_book(book: Book, mut first: BookSeat, seats: Vec<BookSeat>) -> Tabl
     requires all { length (view first).others ≡ length seats.items }
     ensures merged { Same result
         (all_of (shape_of book) (given_by (accounts_of seats.items))) }
+    ensures given { AreMadeFor (shape_of book) (accounts_of seats.items) }
     ensures met { AllMetHadTurns (accounts_of seats.items) }
 {
     join_seats(&book, &mut first, seats);

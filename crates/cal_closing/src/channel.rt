@@ -2,7 +2,7 @@
 ghost use Rattle.std.specs.Prelude.{◌≡◌, ◌≤◌, ◌^◌, ◌++◌, None, IfOk, length};
 ghost use Rattle.cal_book.specs.Closing.{AllMetHadTurns};
 ghost use Rattle.cal_book.specs.Seats.{IsSeatOf, shape_of, view};
-ghost use Rattle.cal_closing.specs.Parts.{AreOfShape, all_of};
+ghost use Rattle.cal_closing.specs.Parts.{AreMadeFor, AreOfShape, all_of};
 ghost use Rattle.cal_closing.specs.Seats.{AreThreadSeats, accounts_of, given_by};
 ghost use Rattle.cal_table.specs.Tables.{Same};
 
@@ -29,6 +29,7 @@ pub fn close_channel(
         (given_by (accounts_of seats.items) ++ rest.items)).snapshots ≤ 2 ^ 26 }
     ensures merged { IfOk result (λ table. Same table
         (all_of (shape_of book) (given_by (accounts_of seats.items) ++ rest.items))) }
+    ensures given { AreMadeFor (shape_of book) (accounts_of seats.items) }
     ensures met { AllMetHadTurns (accounts_of seats.items) }
 {
     let table = close_book(book, first, seats);

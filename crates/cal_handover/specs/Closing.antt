@@ -3,7 +3,7 @@ use Rattle.std.specs.Prelude.{◌≡◌, ℕ, ◌≤◌, ◌^◌, List, ◌++◌
 use Rattle.cal_book.specs.Closing.{AllMetHadTurns}
 use Rattle.cal_book.specs.Seats.{IsSeatOf, shape_of, view}
 use Rattle.cal_channel.specs.Values.{ChannelValue}
-use Rattle.cal_closing.specs.Parts.{AreOfShape, all_of}
+use Rattle.cal_closing.specs.Parts.{AreMadeFor, AreOfShape, all_of}
 use Rattle.cal_closing.specs.Seats.{AreThreadSeats, accounts_of, given_by}
 use Rattle.cal_handover.specs.Places.{at_place, tables_at}
 use Rattle.cal_replay.specs.Flushing.{BookOf, SeatOf}
@@ -24,8 +24,8 @@ pub record MayClose (book : BookOf) (first : SeatOf) (seats : List SeatOf)
   pub made : AreOfShape (shape_of book) left
   pub few : (all_taken book seats left).snapshots ≤ 2 ^ 26
 
--- What a closed book gives: the table of all that was taken. Each thread whose turn was met has
--- given a part, or given up a turn.
+-- What a closed book gives: the table of all that was taken, of parts that were made for it. Each
+-- thread whose turn was met has given a part, or given up a turn.
 pub record IsClosed (book : BookOf) (seats : List SeatOf) (left : List TableValue)
     (table : TableValue) : Type 0 where
   pub merged : Same table (all_taken book seats left)

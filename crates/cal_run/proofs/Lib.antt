@@ -6,6 +6,7 @@ pub mod FrontLemmas
 pub mod FitLemmas
 pub mod EntryLemmas
 pub mod NumberLemmas
+pub mod GainLemmas
 pub mod PlacedNumbers
 pub mod ServiceLemmas
 pub mod LineLemmas

@@ -5,6 +5,7 @@ pub mod Steps
 pub mod Runs
 pub mod Lawful
 pub mod Numbers
+pub mod RunAttributes
 pub mod Held
 pub mod Adding
 pub mod Timers

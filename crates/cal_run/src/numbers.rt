@@ -1,8 +1,8 @@
-ghost use Rattle.std.specs.Prelude.{◌≡◌, ◌<◌, [], length, map, All, IfOk, OnOk};
+ghost use Rattle.std.specs.Prelude.{◌≡◌, ◌<◌, [], ◌∷◌, flat_map, length, map, All, IfOk, OnOk};
 ghost use Rattle.std.specs.List.{AllZip};
-ghost use Rattle.cal_context.specs.Lists.{IsFront};
 ghost use Rattle.cal_context.specs.Tree.{Grows};
 ghost use Rattle.cal_run.specs.Numbers.{AreNumbered, EventsStand, IsNumber, ValuesStand, number_in};
+ghost use Rattle.cal_run.specs.RunAttributes.{AreOfRun, GainsOnly, events_of};
 ghost use Rattle.cal_run.specs.Snapshots.{added, event_name, event_of};
 ghost use Rattle.cal_script.specs.Valid.{AreDeclared, IsRunnable};
 ghost use Rattle.cal_value.specs.declared.kind.Kind.TheVariants as kind;
@@ -39,25 +39,28 @@ const ADDED: Props = Props(65);
 
 impl Numbers {
     /// Gives each attribute and value of a script its number in a context without attributes, and
-    /// each attribute that a service may add. An `Err` may leave some in the context.
+    /// each attribute that a service may add; no other comes in. An `Err` may leave some in the
+    /// context.
     pub fn of(alloc: Global, script: &Script, context: &mut Context) -> Result<Numbers, OutOfMemory>
         requires runnable { IsRunnable script.now }
         requires none { context.old.attributes ≡ [] }
         ensures numbered { IfOk result (AreNumbered context.new script.now) }
+        ensures only { IfOk result (λ numbers. AreOfRun script.now context.new.attributes) }
         ensures grows { Grows context.old context.new }
     {
         place_attributes(script.attributes.as_slice(), context)?;
         Self::of_placed(alloc, script, context)
     }
 
-    /// The same, where the context's first attributes are the script's.
+    /// The same, where the context's attributes are the script's.
     fn of_placed(
         alloc: Global,
         script: &Script,
         context: &mut Context,
     ) -> Result<Numbers, OutOfMemory>
-        requires { IsFront script.now.attributes context.old.attributes }
+        requires { context.old.attributes ≡ script.now.attributes }
         ensures numbered { IfOk result (AreNumbered context.new script.now) }
+        ensures only { IfOk result (λ numbers. AreOfRun script.now context.new.attributes) }
         ensures grows { Grows context.old context.new }
     {
         let values = number_values(alloc, &script.values, context)?;
@@ -97,6 +100,8 @@ fn number_values(
     context: &mut Context,
 ) -> Result<Vec<ValueNumber>, OutOfMemory>
     ensures numbered { IfOk result (λ numbers. ValuesStand context.new numbers.items values.now) }
+    ensures attributes { IfOk result
+        (λ numbers. context.new.attributes ≡ context.old.attributes) }
     ensures grows { Grows context.old context.new }
 {
     let (kept, places) = values.parts();
@@ -127,6 +132,8 @@ fn number_kept(
     context: &mut Context,
 ) -> Result<Vec<ValueNumber>, OutOfMemory>
     ensures numbered { IfOk result (λ numbers. ValuesStand context.new numbers.items values.now) }
+    ensures attributes { IfOk result
+        (λ numbers. context.new.attributes ≡ context.old.attributes) }
     ensures grows { Grows context.old context.new }
 {
     let mut numbers = Vec::with_capacity(alloc, values.len())?;
@@ -143,6 +150,8 @@ fn number_events(
 ) -> Result<Vec<EventNumbers>, OutOfMemory>
     ensures numbered { IfOk result
         (λ numbers. AllZip (EventsStand context.new.attributes) numbers.items attributes.now) }
+    ensures only { IfOk result (λ numbers. GainsOnly context.old.attributes context.new.attributes
+        (flat_map events_of attributes.now)) }
     ensures grows { Grows context.old context.new }
 {
     let mut numbers = Vec::with_capacity(alloc, attributes.len())?;
@@ -157,7 +166,10 @@ fn number_events_of(
     attribute: &Attribute,
     context: &mut Context,
 ) -> Result<EventNumbers, OutOfMemory>
-    ensures numbered { IfOk result (λ numbers. EventsStand context.new.attributes numbers attribute.now) }
+    ensures numbered { IfOk result
+        (λ numbers. EventsStand context.new.attributes numbers attribute.now) }
+    ensures only { IfOk result (λ numbers. GainsOnly context.old.attributes context.new.attributes
+        (events_of attribute.now)) }
     ensures grows { Grows context.old context.new }
 {
     let begin = number_event(alloc, OpCode::Begin, attribute, context)?;
@@ -172,7 +184,10 @@ fn number_event(
     attribute: &Attribute,
     context: &mut Context,
 ) -> Result<AttributeNumber, OutOfMemory>
-    ensures numbered { IfOk result (λ n. IsNumber context.new.attributes n (event_of code attribute.now)) }
+    ensures numbered { IfOk result
+        (λ n. IsNumber context.new.attributes n (event_of code attribute.now)) }
+    ensures only { IfOk result (λ n. GainsOnly context.old.attributes context.new.attributes
+        (event_of code attribute.now ∷ [])) }
     ensures grows { Grows context.old context.new }
 {
     let mut name = Text::from_str(alloc, event_name(code))?;
@@ -195,7 +210,10 @@ fn number_uint(
     name: &str,
     context: &mut Context,
 ) -> Result<AttributeNumber, OutOfMemory>
-    ensures numbered { IfOk result (λ n. IsNumber context.new.attributes n (added name.now kind.Uint)) }
+    ensures numbered { IfOk result
+        (λ n. IsNumber context.new.attributes n (added name.now kind.Uint)) }
+    ensures only { IfOk result (λ n. GainsOnly context.old.attributes context.new.attributes
+        (added name.now kind.Uint ∷ [])) }
     ensures grows { Grows context.old context.new }
 {
     number_added(Text::from_str(alloc, name)?, Kind::Uint, context)
@@ -208,6 +226,8 @@ fn number_added(
     context: &mut Context,
 ) -> Result<AttributeNumber, OutOfMemory>
     ensures numbered { IfOk result (λ n. IsNumber context.new.attributes n (added name kind)) }
+    ensures only { IfOk result (λ n. GainsOnly context.old.attributes context.new.attributes
+        (added name kind ∷ [])) }
     ensures grows { Grows context.old context.new }
 {
     context.attribute(&Attribute {

@@ -35,7 +35,7 @@ use Rattle.cal_spelling.proofs.Chains.{Chain}
 use Rattle.cal_spelling.proofs.Legible.{AreSaid, HasKeys, HasValues, IsNewAttribute, IsQueried}
 use Rattle.cal_spelling.proofs.Legible.{IsWritable}
 use Rattle.cal_spelling.proofs.ReaderLines.{valid_writable}
-use Rattle.cal_traces.specs.RunAttributes.{added_attributes, events_of, run_attributes}
+use Rattle.cal_run.specs.RunAttributes.{added_attributes, events_of, run_attributes}
 use Rattle.cal_traces.proofs.Names.{IsNewName, absent_undeclared, is_there, names_allowed}
 use Rattle.cal_traces.proofs.Names.{names_apart, no_hash, others, there_declared}
 use Rattle.cal_valid.proofs.Binds.{bind_ok, if_ok, unless_ok}

@@ -21,7 +21,7 @@ use Rattle.cal_script.specs.declared.kind.ScriptKind.{ScriptKind}
 use Rattle.cal_script.specs.declared.kind.ScriptKind.TheVariants.{BadName, DuplicateName}
 use Rattle.cal_spelling.proofs.Chains.{Chain}
 use Rattle.cal_spelling.proofs.Legible.{IsNewAttribute}
-use Rattle.cal_traces.specs.RunAttributes.{added_attributes, events_of}
+use Rattle.cal_run.specs.RunAttributes.{added_attributes, events_of}
 use Rattle.cal_valid.proofs.Binds.{bind_ok, unless_ok}
 use Rattle.cal_value.specs.Kinds.{kind_name}
 use Rattle.cal_value.specs.declared.attribute.Attribute.{Attribute}

@@ -27,7 +27,7 @@ use Rattle.cal_ql.specs.declared.names.KernelName.TheVariants as kernel
 use Rattle.cal_rowset.specs.Texts.{is_same}
 use Rattle.cal_script.specs.declared.script.ChannelQuery.{ChannelQuery}
 use Rattle.cal_script.specs.declared.script.Script.{Script}
-use Rattle.cal_traces.specs.RunAttributes.{run_attributes}
+use Rattle.cal_run.specs.RunAttributes.{run_attributes}
 use Rattle.cal_traces.proofs.Boards.{all-append}
 use Rattle.cal_traces.proofs.Names.{AreApart, found_itself}
 use Rattle.cal_traces.proofs.Shots.{InPath, Immediate, IsOf, IsShort, IsShot}

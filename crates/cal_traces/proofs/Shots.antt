@@ -30,7 +30,7 @@ use Rattle.cal_script.specs.declared.script.Channel.{Channel}
 use Rattle.cal_script.specs.declared.script.ProbeKind as probes
 use Rattle.cal_script.specs.declared.script.ProbeKind.TheVariants as probe
 use Rattle.cal_script.specs.declared.script.Script.{Script}
-use Rattle.cal_traces.specs.RunAttributes.{added_attributes, events_of, run_attributes}
+use Rattle.cal_run.specs.RunAttributes.{added_attributes, events_of, run_attributes}
 use Rattle.cal_traces.proofs.Boards.{AreSlots, all-append, last_all, nothing_closed, opened_all}
 use Rattle.cal_traces.proofs.Boards.{top_closed}
 use Rattle.cal_traces.proofs.Openings.{AreOpen, Fits, IsReference, IsValue, MayOperate, Operates}

@@ -29,7 +29,7 @@ use Rattle.cal_script.specs.declared.script.ChannelQuery.{ChannelQuery}
 use Rattle.cal_script.specs.declared.script.ProbeKind.TheVariants as probe
 use Rattle.cal_script.specs.declared.script.Script.{Script}
 use Rattle.cal_spelling.proofs.ReaderLines.{valid_writable}
-use Rattle.cal_traces.specs.RunAttributes.{added_attributes, events_of, run_attributes}
+use Rattle.cal_run.specs.RunAttributes.{added_attributes, events_of, run_attributes}
 use Rattle.cal_traces.proofs.ChannelNames.{script_named}
 use Rattle.cal_traces.proofs.Names.{all_apart}
 use Rattle.cal_traces.proofs.RunSums.{run_sums, shot_snapshot}

@@ -11,7 +11,7 @@ ghost use Rattle.cal_script.specs.Reading.{IsValidScript};
 ghost use Rattle.cal_script.specs.declared.journal.Journal.{Journal};
 ghost use Rattle.cal_script.specs.declared.script.Channel.{Channel};
 ghost use Rattle.cal_script.specs.declared.script.Script.{Script};
-ghost use Rattle.cal_traces.specs.RunAttributes.{run_attributes};
+ghost use Rattle.cal_run.specs.RunAttributes.{run_attributes};
 
 /// The law of traces: what a channel of a valid script takes in a run, by whatever journal, are
 /// snapshots of the attributes of the run, under names that go together, and no sum over them is

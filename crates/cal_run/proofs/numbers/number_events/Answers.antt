@@ -3,6 +3,7 @@ use Rattle.std.specs.List.{AllZip}
 use Rattle.cal_context.proofs.CallerLemmas.{Grows-trans}
 use Rattle.cal_run.specs.Numbers.{EventsStand}
 use Rattle.cal_run.specs.declared.numbers.EventNumbers.{EventNumbers}
+use Rattle.cal_run.proofs.GainLemmas.{gains-more, gains-none}
 use Rattle.cal_run.proofs.NumberLemmas.{events_more}
 use Rattle.cal_run.proofs.numbers.number_events.Goals as goal
 
@@ -17,5 +18,8 @@ loop-attribute-preserved c =
           (sym {A = List EventNumbers} c.in_ok-push.ensures.items)
           (events_more grows _ _ _ _ _ old.numbered c.in_ok-number_events_of.ensures.numbered
           c.attribute-item.is c.loop-attribute-test.true);
+      only = gains-more _ _ _ c.args.attributes.now _ c.loop-attribute.attribute-index
+          c.attribute-item.is c.loop-attribute-test.true old.only
+          c.in_ok-number_events_of.ensures.only;
       grows = Grows-trans _ _ _ old.grows grows;
     }

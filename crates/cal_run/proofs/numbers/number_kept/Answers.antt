@@ -1,4 +1,4 @@
-use Rattle.std.proofs.Common.{List, take, ◌+◌, subst, sym}
+use Rattle.std.proofs.Common.{List, take, ◌+◌, ◌∙◌, subst, sym}
 use Rattle.cal_context.proofs.CallerLemmas.{Grows-trans}
 use Rattle.cal_context.specs.declared.numbers.ValueNumber.{ValueNumber}
 use Rattle.cal_run.specs.Numbers.{ValuesStand}
@@ -16,5 +16,6 @@ loop-value-preserved c =
           (sym {A = List ValueNumber} c.in_ok-push.ensures.items)
           (values_more grows _ _ _ _ _ old.numbered c.in_ok-value.ensures.added c.value-item.is
           c.loop-value-test.true);
+      attributes = c.in_ok-value.ensures.added.attributes ∙ old.attributes;
       grows = Grows-trans _ _ _ old.grows grows;
     }

@@ -27,5 +27,8 @@ returns-clause-merged g c = (told g c).same
 pub returns-clause-made : goal.returns-clause-made
 returns-clause-made g c = (told g c).made
 
+pub returns-clause-given : goal.returns-clause-given
+returns-clause-given g c = (told g c).given
+
 pub returns-clause-met : goal.returns-clause-met
 returns-clause-met g c = (told g c).met

@@ -1,11 +1,13 @@
-use Rattle.std.proofs.Common.{List, subst}
-use Rattle.std.specs.List.{AllZip}
+use Rattle.std.proofs.Common.{◌∙◌, List, subst}
+use Rattle.std.specs.List.{AllZip, flat_map}
 use Rattle.cal_board.proofs.StandingLemmas.{AllZip-weaken}
 use Rattle.cal_context.proofs.CallerLemmas.{Grows-trans}
-use Rattle.cal_context.proofs.ListLemmas.{IsFront-trans}
+use Rattle.cal_context.specs.Lists.{IsFront}
 use Rattle.cal_context.specs.Tree.{Grows}
+use Rattle.cal_run.proofs.GainLemmas.{gains-run, grows-six}
 use Rattle.cal_run.proofs.NumberLemmas.{EventsStand-Grows, IsNumber-Grows, ValuesStand-Grows}
 use Rattle.cal_run.specs.Numbers.{EventsStand, ValuesStand}
+use Rattle.cal_run.specs.RunAttributes.{GainsOnly, events_of}
 use Rattle.cal_value.specs.declared.attribute.Attribute.{Attribute}
 use Rattle.cal_value.specs.declared.variant.Variant.{Variant}
 use Rattle.cal_run.proofs.numbers.Numbers.of_placed.Goals as goal
@@ -28,7 +30,7 @@ returns-clause-numbered c =
     let script = c.args.script.now in
     record {
       named = record {
-        front = IsFront-trans script.attributes t0.attributes t6.attributes c.requires
+        front = subst (λ (xs : List Attribute). IsFront xs t6.attributes) c.requires
             g06.attributes;
         events = subst (λ (xs : List Attribute). AllZip (EventsStand t6.attributes)
             c.in_ok-events.events.items xs) c.as_slice.ensures
@@ -45,3 +47,29 @@ returns-clause-numbered c =
       values = ValuesStand-Grows g16 c.in_ok-values.values.items script.values
           c.in_ok-values.ensures.numbered;
     }
+
+pub returns-clause-only : goal.returns-clause-only
+returns-clause-only c =
+    let t1 = c.number_values.new.context.attributes in
+    let script = c.args.script.now in
+    gains-run script t1 c.number_events.new.context.attributes c.number_uint.new.context.attributes
+    c.number_uint-2.new.context.attributes c.number_uint-3.new.context.attributes
+    c.number_uint-4.new.context.attributes (c.in_ok-values.ensures.attributes ∙ c.requires)
+    (subst (λ (xs : List Attribute). GainsOnly t1 c.number_events.new.context.attributes
+    (flat_map events_of xs)) c.as_slice.ensures c.in_ok-events.ensures.only)
+    c.in_ok-duration.ensures.only c.in_ok-inclusive.ensures.only c.in_ok-depth.ensures.only
+    c.in_ok-count.ensures.only
+
+pub returns-in_err-count-clause-grows : goal.returns-in_err-count-clause-grows
+returns-in_err-count-clause-grows c = grows-six c.args.context.now c.number_values.new.context
+    c.number_events.new.context c.number_uint.new.context c.number_uint-2.new.context
+    c.number_uint-3.new.context c.number_uint-4.new.context c.number_values.ensures.grows
+    c.number_events.ensures.grows c.number_uint.ensures.grows c.number_uint-2.ensures.grows
+    c.number_uint-3.ensures.grows c.number_uint-4.ensures.grows
+
+pub returns-clause-grows : goal.returns-clause-grows
+returns-clause-grows c = grows-six c.args.context.now c.number_values.new.context
+    c.number_events.new.context c.number_uint.new.context c.number_uint-2.new.context
+    c.number_uint-3.new.context c.number_uint-4.new.context c.number_values.ensures.grows
+    c.number_events.ensures.grows c.number_uint.ensures.grows c.number_uint-2.ensures.grows
+    c.number_uint-3.ensures.grows c.number_uint-4.ensures.grows

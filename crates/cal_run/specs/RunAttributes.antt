@@ -1,5 +1,5 @@
 -- The attributes of the snapshots of a run.
-use Rattle.std.specs.Prelude.{List, [], ◌∷◌, ◌++◌, flat_map}
+use Rattle.std.specs.Prelude.{List, [], ◌∷◌, ◌++◌, ◌⊎◌, Contains, flat_map}
 use Rattle.cal_run.specs.Snapshots.{duration, event_of, inclusive_duration, probe_of}
 use Rattle.cal_script.specs.declared.script.ProbeKind.TheVariants as probe
 use Rattle.cal_script.specs.declared.script.Script.{Script}
@@ -19,3 +19,12 @@ added_attributes attributes =
 -- the attributes of a run: the script's, and those that services add
 abbrev pub run_attributes : Script → List Attribute
 run_attributes script = script.attributes ++ added_attributes script.attributes
+
+-- These attributes are some of a run's.
+abbrev pub AreOfRun : Script → List Attribute → Type 0
+AreOfRun script attributes = (a : Attribute) → Contains attributes a
+    → Contains (run_attributes script) a
+
+-- What is new among attributes is among these (private).
+pub record GainsOnly (old new more : List Attribute) : Type 0 where
+  pub gains : (a : Attribute) → Contains new a → Contains old a ⊎ Contains more a
