@@ -4,3 +4,4 @@ pub mod Values
 pub mod Closing
 pub mod Channels
 pub mod SmallNumbers
+pub mod Places

@@ -4,7 +4,8 @@ use Rattle.std.proofs.Common.{length, subst, sym, arith}
 use Rattle.std.specs.Prelude.{slice_get}
 use Rattle.cal_channel.specs.Values.{ChannelValue}
 use Rattle.cal_handover.specs.Closing.{AreClosed, IsClosed}
-use Rattle.cal_handover.specs.Places.{at_place, tables_at}
+use Rattle.cal_channel.specs.Places.{at_place}
+use Rattle.cal_handover.specs.Places.{tables_at}
 use Rattle.cal_replay.specs.Flushing.{BookOf, SeatOf}
 use Rattle.cal_table.specs.Tables.{TableValue}
 

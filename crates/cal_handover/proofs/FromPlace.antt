@@ -7,7 +7,8 @@ use Rattle.std.specs.Prelude.{Option, slice_get, slice_index_or}
 use Rattle.std.proofs.lemmas.List.{take-take, take_all, take_at}
 use Rattle.std.proofs.lemmas.List.Elements.{All-head, All-map, All-tail, All-weaker}
 use Rattle.cal_channel.specs.Values.{ChannelValue}
-use Rattle.cal_handover.specs.Places.{at_place, emptied, emptied_at}
+use Rattle.cal_channel.specs.Places.{at_place}
+use Rattle.cal_handover.specs.Places.{emptied, emptied_at}
 
 -- channels, where those from a place on are emptied
 abbrev pub emptied_from : ℕ → List ChannelValue → List ChannelValue

@@ -14,7 +14,8 @@ use Rattle.cal_handover.proofs.FromPlace.{popped-at, popped-rest, seats-long, se
 use Rattle.cal_handover.proofs.FromPlace.{seats-none, seats-same, take-at}
 use Rattle.cal_handover.proofs.OnePlace.{remove-last}
 use Rattle.cal_handover.specs.Closing.{AreClosed, IsClosed, MayClose, MayCloseAll}
-use Rattle.cal_handover.specs.Places.{at_place, emptied, emptied_at, tables_at, tables_of}
+use Rattle.cal_channel.specs.Places.{at_place}
+use Rattle.cal_handover.specs.Places.{emptied, emptied_at, tables_at, tables_of}
 use Rattle.cal_replay.specs.Flushing.{BookOf, SeatOf}
 use Rattle.cal_table.specs.Tables.{TableValue}
 

@@ -9,7 +9,8 @@ use Rattle.std.proofs.lemmas.List.Edits.{map_over_more}
 use Rattle.std.proofs.lemmas.List.Elements.{All-get_or, filter_map-append}
 use Rattle.std.proofs.lemmas.Option.{get_or_from_slice_get, slice_get-map, slice_get_within}
 use Rattle.cal_channel.specs.Values.{ChannelValue}
-use Rattle.cal_handover.specs.Places.{at_place, emptied, emptied_at, lists_of, tables_at}
+use Rattle.cal_channel.specs.Places.{at_place, lists_of}
+use Rattle.cal_handover.specs.Places.{emptied, emptied_at, tables_at}
 use Rattle.cal_handover.specs.Places.{tables_of}
 
 module _ {A : Type 0} where

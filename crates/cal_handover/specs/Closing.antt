@@ -5,7 +5,8 @@ use Rattle.cal_book.specs.Seats.{IsSeatOf, shape_of, view}
 use Rattle.cal_channel.specs.Values.{ChannelValue}
 use Rattle.cal_closing.specs.Parts.{AreMadeFor, AreOfShape, all_of}
 use Rattle.cal_closing.specs.Seats.{AreThreadSeats, accounts_of, given_by}
-use Rattle.cal_handover.specs.Places.{at_place, tables_at}
+use Rattle.cal_channel.specs.Places.{at_place}
+use Rattle.cal_handover.specs.Places.{tables_at}
 use Rattle.cal_replay.specs.Flushing.{BookOf, SeatOf}
 use Rattle.cal_table.specs.Tables.{Same, TableValue}
 

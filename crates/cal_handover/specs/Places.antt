@@ -1,16 +1,8 @@
--- Lists of threads, one for each thread: what stands in them at one place.
-use Rattle.std.specs.Prelude.{ℕ, zero, suc, List, [], ◌∷◌, map, filter_map, slice_get, option_map}
-use Rattle.std.specs.declared.vec.Vec.{Vec}
+-- What the threads' channels have at one place.
+use Rattle.std.specs.Prelude.{ℕ, zero, suc, List, [], ◌∷◌, filter_map, option_map}
+use Rattle.cal_channel.specs.Places.{at_place}
 use Rattle.cal_channel.specs.Values.{ChannelValue}
 use Rattle.cal_table.specs.Tables.{TableValue, empty_table}
-
--- the items of each
-abbrev pub lists_of : {A Z : Type 0} → List (Vec A Z) → List (List A)
-lists_of lists = map (λ list. list.items) lists
-
--- what the threads have at a place
-abbrev pub at_place : {A : Type 0} → ℕ → List (List A) → List A
-at_place place lists = filter_map (λ list. slice_get list place) lists
 
 -- the tables of channels, where they have one
 abbrev pub tables_of : List ChannelValue → List TableValue

@@ -2,7 +2,8 @@
 ghost use Rattle.std.specs.Prelude.{◌≡◌, ◌+◌, ◌<◌, List, All, IfOk, OnOk, length, map, take};
 ghost use Rattle.cal_channel.specs.Values.{ChannelValue};
 ghost use Rattle.cal_handover.specs.Closing.{AreClosed, IsClosed, MayClose, MayCloseAll};
-ghost use Rattle.cal_handover.specs.Places.{at_place, emptied, emptied_at, lists_of, tables_at};
+ghost use Rattle.cal_channel.specs.Places.{at_place, lists_of};
+ghost use Rattle.cal_handover.specs.Places.{emptied, emptied_at, tables_at};
 ghost use Rattle.cal_replay.specs.Flushing.{SeatOf};
 
 use crate::places::{seats_at, tables_at};

@@ -2,7 +2,8 @@
 ghost use Rattle.std.specs.Prelude.{◌≡◌, ◌+◌, ◌<◌, ◌++◌, [], ◌∷◌, ℕ, List, All, IfOk, OnOk};
 ghost use Rattle.std.specs.Prelude.{length, map, take};
 ghost use Rattle.cal_channel.specs.Values.{ChannelValue};
-ghost use Rattle.cal_handover.specs.Places.{at_place, emptied, emptied_at, lists_of, tables_at};
+ghost use Rattle.cal_channel.specs.Places.{at_place, lists_of};
+ghost use Rattle.cal_handover.specs.Places.{emptied, emptied_at, tables_at};
 ghost use Rattle.cal_handover.specs.Places.{tables_of};
 ghost use Rattle.cal_replay.specs.Flushing.{SeatOf};
 

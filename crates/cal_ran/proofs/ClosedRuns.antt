@@ -14,7 +14,8 @@ use Rattle.cal_closing.specs.Seats.{accounts_of, given_by}
 use Rattle.cal_finish.proofs.LawfulRuns.{at-below}
 use Rattle.cal_finish.specs.Ended.{HaveAllRun}
 use Rattle.cal_handover.specs.Closing.{AreClosed, MayClose, MayCloseAll}
-use Rattle.cal_handover.specs.Places.{at_place, lists_of, tables_at}
+use Rattle.cal_channel.specs.Places.{at_place, lists_of}
+use Rattle.cal_handover.specs.Places.{tables_at}
 use Rattle.cal_keeping.specs.declared.runner.Runner.{Runner}
 use Rattle.cal_ran.proofs.Standing.{AllStand, Stands, accounts-at, all-stand, channels_of}
 use Rattle.cal_ran.proofs.Standing.{few-at, length-at, made-at, own-at, seats_of}

@@ -3,7 +3,7 @@ use Rattle.std.proofs.Common.{◌≡◌, List, ap, length, subst, sym}
 use Rattle.cal_channel.specs.Values.{ChannelValue}
 use Rattle.cal_finish.specs.Ended.{HaveAllRun}
 use Rattle.cal_handover.specs.Closing.{AreClosed, MayCloseAll}
-use Rattle.cal_handover.specs.Places.{lists_of}
+use Rattle.cal_channel.specs.Places.{lists_of}
 use Rattle.cal_handover.specs.declared.handed.Handed.{Handed}
 use Rattle.cal_ran.proofs.ClosedRuns.{all-run, may-close-all}
 use Rattle.cal_ran.proofs.Standing.{channels_of, seats_of}

@@ -11,7 +11,8 @@ use Rattle.cal_channel.specs.Values.{ChannelValue, unflushed_of}
 use Rattle.cal_closing.specs.Parts.{AreOfShape}
 use Rattle.cal_closing.specs.Seats.{IsThreadSeat, accounts_of, given_by}
 use Rattle.cal_finish.specs.Ended.{HasAccount}
-use Rattle.cal_handover.specs.Places.{at_place, lists_of, tables_at, tables_of}
+use Rattle.cal_channel.specs.Places.{at_place, lists_of}
+use Rattle.cal_handover.specs.Places.{tables_at, tables_of}
 use Rattle.cal_keeping.specs.Kept as kept
 use Rattle.cal_keeping.specs.declared.runner.Runner.{Runner}
 use Rattle.cal_replay.specs.Flushing.{BookOf, SeatOf}

@@ -6,6 +6,7 @@ use Rattle.cal_plog.specs.Seats as history
 use Rattle.cal_replay.specs.Flushing.{BookOf}
 use Rattle.cal_replay.specs.Workers.{IsShared, script_of}
 use Rattle.cal_run.specs.Numbers.{AreNumbered}
+use Rattle.cal_run.specs.RunAttributes.{AreOfRun}
 use Rattle.cal_script.specs.Shapes.{history_shape, tree_shape}
 use Rattle.cal_script.specs.declared.script.Channel.{Channel}
 use Rattle.cal_script.specs.declared.script.Script.{Script}
@@ -31,7 +32,7 @@ pub record AreBooks (threads : ℕ) (shapes : List TableShape) (books : List Boo
 
 -- Workers share what is a run's; the tree and the history have the layouts of the script; the
 -- attributes and values of the script, and the attributes that services add, have their numbers in
--- the context; and each channel has the shape of its tables by these attributes, and its book for
+-- the context, which has no other; and each channel has the shape of its tables by these attributes, and its book for
 -- all threads.
 pub record IsRun (run : Run) : Type 0 where
   pub shared : IsShared run.shared
@@ -39,6 +40,7 @@ pub record IsRun (run : Run) : Type 0 where
   pub history : (history.plan_of run.shared.common.log).shape
       ≡ history_shape (script_of run.shared)
   pub numbered : AreNumbered run.context (script_of run.shared) run.numbers
+  pub only : AreOfRun (script_of run.shared) run.context.attributes
   pub hashers : RandomState
   pub shapes : run.shapes.items
       ≡ shapes_for hashers run.context.attributes (script_of run.shared)

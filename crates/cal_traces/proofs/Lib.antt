@@ -5,4 +5,5 @@ pub mod Openings
 pub mod Shots
 pub mod Walks
 pub mod RunSums
+pub mod RunNames
 pub mod Traces

@@ -316,6 +316,12 @@ each_from attributes [] all = tt
 each_from attributes (a ∷ rest) all =
     (added_from attributes a.name all.0, each_from attributes rest all.1)
 
+-- The names of a script are apart.
+pub declared_apart : (attributes : List Attribute) → Chain IsNewAttribute [] attributes
+    → AreApart attributes
+declared_apart attributes chain =
+    names_apart [] (attribute_names attributes) (names_chain [] attributes chain)
+
 -- So all names are apart.
 pub all_apart : (attributes : List Attribute) → Chain IsNewAttribute [] attributes
     → AreApart (attributes ++ added_attributes attributes)

@@ -46,8 +46,9 @@ use Rattle.cal_value.specs.declared.variant.Variant.TheVariants as variant
 use Rattle.cal_words.specs.declared.op.OpCode as codes
 use Rattle.cal_words.specs.declared.op.OpCode.TheVariants as code
 
--- a decimal of 64 bits, in nano-units; nothing is asked of another value
+-- a whole number, or a decimal in nano-units, of 64 bits; nothing is asked of another value
 abbrev pub IsShort : variants.Variant → Type 0
+IsShort (variant.Int n) = unsigned_abs n ≤ 2 ^ 63
 IsShort (variant.Fixed n) = unsigned_abs n ≤ 2 ^ 63
 IsShort _ = Unit {0}
 
@@ -56,7 +57,10 @@ allowed_short (variant.Fixed (pos n)) is =
     let small = leb-true n 9223372036854775807 is in omega arith
 allowed_short (variant.Fixed (negsuc n)) is =
     let small = leb-true n 9223372036854775807 is in omega arith
-allowed_short (variant.Int n) is = tt
+allowed_short (variant.Int (pos n)) is =
+    let small = leb-true n 9223372036854775807 is in omega arith
+allowed_short (variant.Int (negsuc n)) is =
+    let small = leb-true n 9223372036854775807 is in omega arith
 allowed_short (variant.Uint n) is = tt
 allowed_short (variant.Text t) is = tt
 allowed_short (variant.Bool b) is = tt

@@ -8,4 +8,4 @@
 
 mod laws;
 
-pub use laws::{profiles_law, traces_law};
+pub use laws::{limits_law, names_law, profiles_law, traces_law};

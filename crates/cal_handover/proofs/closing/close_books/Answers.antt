@@ -6,7 +6,8 @@ use Rattle.cal_handover.proofs.LeftBooks.{AreLeft, all-closed, all-emptied, all-
 use Rattle.cal_handover.proofs.LeftBooks.{channels-there, may-close, one-closed, seats-last}
 use Rattle.cal_handover.proofs.OnePlace.{length-lists}
 use Rattle.cal_handover.specs.Closing.{AreClosed, IsClosed, MayClose}
-use Rattle.cal_handover.specs.Places.{at_place, lists_of, tables_at}
+use Rattle.cal_channel.specs.Places.{at_place, lists_of}
+use Rattle.cal_handover.specs.Places.{tables_at}
 use Rattle.cal_replay.specs.Flushing.{SeatOf}
 use Rattle.cal_table.specs.Tables.{TableValue}
 use Rattle.cal_handover.proofs.closing.close_books.Goals as goal

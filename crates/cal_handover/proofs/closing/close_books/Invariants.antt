@@ -1,6 +1,6 @@
 use Rattle.std.proofs.Common.{reverse, vec_len}
 use Rattle.cal_handover.proofs.LeftBooks.{AreLeft}
-use Rattle.cal_handover.specs.Places.{lists_of}
+use Rattle.cal_channel.specs.Places.{lists_of}
 use Rattle.cal_handover.proofs.closing.close_books.Given as goal
 
 -- the books behind those that are left are closed

@@ -1,5 +1,5 @@
 use Rattle.std.proofs.Common.{◌≡◌, ◌++◌, drop, map, take}
-use Rattle.cal_handover.specs.Places.{at_place, lists_of}
+use Rattle.cal_channel.specs.Places.{at_place, lists_of}
 use Rattle.cal_handover.proofs.places.seats_at.Given as goal
 
 -- the seats of the threads so far are taken out

@@ -4,7 +4,8 @@ use Rattle.std.proofs.lemmas.Option.{slice_get-get_or, slice_get_read}
 use Rattle.cal_channel.specs.Values.{ChannelValue}
 use Rattle.cal_handover.proofs.OnePlace.{All-at, next-changed, next-list, set-emptied}
 use Rattle.cal_handover.proofs.OnePlace.{tables_at-more}
-use Rattle.cal_handover.specs.Places.{emptied_at, lists_of, tables_of}
+use Rattle.cal_channel.specs.Places.{lists_of}
+use Rattle.cal_handover.specs.Places.{emptied_at, tables_of}
 use Rattle.cal_table.specs.Tables.{TableValue}
 use Rattle.cal_handover.proofs.places.tables_at.Goals as goal
 

@@ -1,5 +1,6 @@
 use Rattle.std.proofs.Common.{◌≡◌, ◌++◌, drop, map, take}
-use Rattle.cal_handover.specs.Places.{emptied_at, lists_of, tables_at}
+use Rattle.cal_channel.specs.Places.{lists_of}
+use Rattle.cal_handover.specs.Places.{emptied_at, tables_at}
 use Rattle.cal_handover.proofs.places.tables_at.Given as goal
 
 -- the tables of the threads so far are taken out

@@ -3,7 +3,7 @@ use Rattle.cal_channel.specs.Values.{ChannelValue}
 use Rattle.cal_ending.specs.Joining.{AreInOrder}
 use Rattle.cal_finish.specs.Threads.{IsWholeFor}
 use Rattle.cal_handover.specs.Closing.{AreClosed, MayCloseAll}
-use Rattle.cal_handover.specs.Places.{lists_of}
+use Rattle.cal_channel.specs.Places.{lists_of}
 use Rattle.cal_ran.proofs.HandedRuns.{handed-closable, handed-ran}
 use Rattle.cal_thread.specs.Hiring.{HasHired}
 use Rattle.cal_thread.specs.Threads.{HasSomeState}
