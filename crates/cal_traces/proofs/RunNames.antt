@@ -1,9 +1,9 @@
 -- The attributes of a run by their names, and the numbers of its snapshots.
-use Rattle.std.proofs.Common.{◌≡◌, ℕ, suc, ◌≤◌, ◌^◌, List, [], ◌∷◌, All, length, get_or}
+use Rattle.std.proofs.Common.{◌≡◌, ℕ, suc, ◌≤◌, ◌^◌, false, List, [], ◌∷◌, All, length, get_or}
 use Rattle.std.proofs.Common.{sym, ap, ◌∙◌, arith, refl, Contains, Some}
-use mathlib.Core.Option.{some-injective}
 use Rattle.std.specs.List.{AllByRecursion, IsDistinct, find}
 use Rattle.std.proofs.lemmas.List.Elements.{All-from_recursion, Contains-append_right}
+use Rattle.std.proofs.lemmas.Option.{same_Some}
 use Rattle.cal_context.specs.Lists as contexts
 use Rattle.cal_filter.specs.Named.{HasSmallNumbers}
 use Rattle.cal_profile.proofs.Lists.{all_weaker}
@@ -47,7 +47,7 @@ module _ (script : Script) (apart : AreApart (run_attributes script)) where
   -- attributes of a run with one name are one
   same-name : (a b : Attribute) → Contains (run_attributes script) a
       → Contains (run_attributes script) b → a.name ≡ b.name → a ≡ b
-  same-name a b a_there b_there e = some-injective a b
+  same-name a b a_there b_there e = same_Some a b
       (sym (found_itself (run_attributes script) apart a a_there)
       ∙ ap (λ (name : List ℕ). find (λ other. is_same other.name name) (run_attributes script)) e
       ∙ found_itself (run_attributes script) apart b b_there)
