@@ -1,10 +1,10 @@
 pub mod Again
-pub mod Asking
 pub mod Deciding
 pub mod Decimals
 pub mod FewGenerated
 pub mod FewLines
 pub mod Fronts
+pub mod LeftClocks
 pub mod RunFaults
 pub mod ScriptFaults
 pub mod Serving

@@ -41,7 +41,8 @@ IsPrinted print.Summary script_text text = (script : Script) × Means script_tex
 -- The text of a run that leaves this journal: that of its records, or the journal's own, whose
 -- numbers are within their fields, so that it reads back.
 abbrev pub IsTextOf : texts.RunText → Script → Journal → (written : List ℕ) → Type 0
-IsTextOf run_text.Records script journal written = written ≡ canonical_text (records_of script journal)
+IsTextOf run_text.Records script journal written =
+    written ≡ canonical_text (records_of script journal)
 IsTextOf run_text.Journal script journal written =
     HoldsJournal journal × (written ≡ journal_text journal)
 

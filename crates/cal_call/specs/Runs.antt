@@ -31,7 +31,8 @@ pub record SaysRun (bytes : List ℕ) (script : Script) (journal : Journal) : Ty
 
 -- The bytes mean the script, and the journal is a lawful one of it, by a real clock or by the
 -- script's. Which of them a run in threads leaves is settled by how these interleave.
-pub record CanRun (bytes : List ℕ) (real : Bool) (script : Script) (journal : Journal) : Type 0 where
+pub record CanRun (bytes : List ℕ) (real : Bool) (script : Script) (journal : Journal)
+    : Type 0 where
   pub means : Means bytes script
   pub lawful : Lawful script journal
   pub clock : journal.real ≡ real
