@@ -1,19 +1,25 @@
 -- What becomes of the clocks where nothing is written, and why a run in threads has no text.
-use Rattle.std.proofs.Common.{◌≡◌, ℕ, Bool, false, true, List}
-use Rattle.std.specs.Prelude.{Option, None, Some}
+use Rattle.std.proofs.Common.{◌≡◌, ℕ, Bool, false, true, List, refl}
+use Rattle.std.specs.Prelude.{Option, None, Some, Result, Ok, Err, String}
+use Rattle.std.specs.Global.{Global}
 use Rattle.cal_base.specs.Change.{Change}
+use Rattle.cal_ql.specs.Clauses.{reading}
+use Rattle.cal_ql.specs.Tokens.{Fault}
+use Rattle.cal_ql.specs.declared.query.Query.{Query}
 use Rattle.cal_ran.specs.Told.{HaveToldAll}
 use Rattle.cal_script.specs.Reading.{Means}
 use Rattle.cal_script.specs.declared.script.Script.{Script}
 use Rattle.cal_script.specs.declared.journal.Journal.{Journal}
 use Rattle.cal_call.specs.Causes.{Causes, ReadsInput}
-use Rattle.cal_call.specs.Clocks.{AskedBy}
+use Rattle.cal_call.specs.Clocks.{AskedBy, AskedClocks}
 use Rattle.cal_call.specs.Faults.{writes}
 use Rattle.cal_call.specs.Inputs.{IsTextOf, Makes}
 use Rattle.cal_call.specs.Runs.{CanRun}
-use Rattle.cal_call.specs.Tasks.{ThreadsTask}
+use Rattle.cal_call.specs.Tasks.{ThreadsTask, query_task, task_of}
+use Rattle.cal_call.specs.Words.{text_at}
 use Rattle.cal_call.specs.declared.fault.Fault as faults
 use Rattle.cal_call.specs.declared.fault.Fault.TheVariants as fault
+use Rattle.cal_call.specs.declared.words.Command.TheVariants as command
 use Rattle.cal_call.specs.declared.words.RunText.{RunText}
 
 -- a fault before the run leaves the clocks
@@ -41,6 +47,20 @@ told_clocks given journal (Some fault.ReadFault) was is written told = absurd cc
 told_clocks given journal (Some fault.WriteFault) was is written told = told
 told_clocks given journal (Some fault.OutOfMemory) was is written told = tt
 told_clocks given journal (Some fault.TooLong) was is written told = absurd cc
+
+read_asks_none : {K : Type 0} (given : K → Option (List ℕ)) (join : Bool)
+    (read : Result Query Fault) (journal : Journal) (answer : Option faults.Fault) (was : List K)
+    → AskedClocks given (query_task join read) journal answer was was
+read_asks_none given join (Err found) journal answer was = refl
+read_asks_none given join (Ok query) journal answer was = refl
+
+-- a query asks no clock
+pub query_asks_none : {K : Type 0} (given : K → Option (List ℕ)) (words : List (String Global))
+    (q : Option ℕ) (join : Bool) (journal : Journal) (answer : Option faults.Fault)
+    (was : List K)
+    → AskedClocks given (task_of words (command.Query q join)) journal answer was was
+query_asks_none given words q join journal answer was =
+    read_asks_none given join (reading (text_at words q)) journal answer was
 
 -- the text of a run of the script that was read
 pub makes_run : (shown : RunText) (real : Bool) (input : Change) (script : Script)
