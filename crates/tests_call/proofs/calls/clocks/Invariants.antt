@@ -3,4 +3,4 @@ use Rattle.tests_call.proofs.calls.clocks.Given as goal
 
 -- one for each thread so far
 abbrev pub invariant-loop-thread : goal.invariant-loop-thread
-invariant-loop-thread l = length l.clocks.items ≡ l.thread
+invariant-loop-thread l = length l.clocks.items ≡ l._thread
