@@ -3,6 +3,7 @@
 
 use crate::calls::{Ran, call, call_through, sink, source};
 use cal_base::{Gate, MemSink};
+use cal_call::Outcome;
 use cal_journal::print_journal;
 use cal_value::{Seq, Text};
 use std::alloc::Global;
@@ -183,20 +184,30 @@ fn same(left: &MemSink, right: &MemSink) -> bool {
     left.bytes() == right.bytes()
 }
 
+/// The text of the journal of a call.
+fn journal_text(alloc: Global, outcome: Outcome) -> Result<Text, Fail> {
+    let journal = outcome.journal.into_journal(alloc)?;
+    Ok(print_journal(alloc, &journal)?)
+}
+
 /// Asserts that `serial` writes of a run's journal what `replay` wrote of the run.
 fn assert_said_again<R: Abort + Threads + Sync + RandomSource>(
     rt: &R,
     alloc: Global,
     script: &str,
 ) -> Result<(), Fail> {
-    let ran = call_with(rt, alloc, "replay", script)?;
-    let journal = ran.outcome.journal.into_journal(alloc)?;
-    let printed = print_journal(alloc, &journal)?;
-    let both = behind(alloc, script, printed.as_str())?;
+    let Ran {
+        outcome,
+        output,
+        errors,
+    } = call_with(rt, alloc, "replay", script)?;
+    let status = outcome.status;
+    let journal = journal_text(alloc, outcome)?;
+    let both = behind(alloc, script, journal.as_str())?;
     let again = call_with(rt, alloc, "serial", both.as_str())?;
-    assert_eq!(rt; again.outcome.status, ran.outcome.status);
-    assert!(rt; same(&again.output, &ran.output), "the same text");
-    assert!(rt; same(&again.errors, &ran.errors), "the same refusals");
+    assert_eq!(rt; again.outcome.status, status);
+    assert!(rt; same(&again.output, &output), "the same text");
+    assert!(rt; same(&again.errors, &errors), "the same refusals");
     Ok(())
 }
 
