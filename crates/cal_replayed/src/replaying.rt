@@ -92,7 +92,7 @@ fn ended_text(
         drop(writer);
         return Err(OutOfMemory);
     };
-    writer.finish(&mut ended.context, &globals)
+    writer.finish(&ended.context, &globals)
 }
 
 /// Hands the rows of a run that has ended to a writer that has taken none, and puts its globals
