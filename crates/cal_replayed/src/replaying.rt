@@ -62,7 +62,7 @@ fn write_ended(
     script: &Script,
     mut ended: EndedRun<'_>,
 ) -> Result<Replayed, OutOfMemory>
-    requires { IsEnded script.now ended.entry }
+    requires { IsEnded script.now ended }
     ensures journal { IfOk result (λ r. r.journal ≡ ended.entry.journal) }
     ensures text { IfOk result
         (λ r. r.text ≡ canonical_text (records_of script.now ended.entry.journal)) }
