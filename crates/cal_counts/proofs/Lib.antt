@@ -1,3 +1,2 @@
 pub mod HoldingLemmas
 pub mod CountingLemmas
-pub mod RowLemmas

@@ -7,11 +7,11 @@
 #![tactic(auto)]
 
 mod held;
-mod laws;
+// mod laws;
 mod snapshots;
 mod tree;
 mod walking;
 
-pub use laws::run_rows_law;
+// pub use laws::run_rows_law;
 pub use snapshots::{count_snapshots, count_traced};
 pub use tree::count_nodes;

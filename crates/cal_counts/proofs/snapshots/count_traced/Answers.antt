@@ -1,5 +1,5 @@
 use Rattle.std.proofs.Common.{◌≡◌, ◌<◌, ◌≤◌, List, length, get_or, subst, ◌∙◌, arith}
-use Rattle.cal_records.specs.Records.{traced}
+use Rattle.cal_counts.specs.Counts.{traced}
 use Rattle.cal_script.specs.declared.script.Channel.{Channel}
 use Rattle.cal_counts.proofs.CountingLemmas.{sum-all, sum-more}
 use Rattle.cal_counts.proofs.snapshots.count_traced.Goals as goal
