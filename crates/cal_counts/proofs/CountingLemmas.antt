@@ -1,9 +1,9 @@
 -- What items count is added up one by one.
-use Rattle.std.proofs.Common.{◌≡◌, ℕ, ◌+◌, ◌*◌, ◌<◌, ◌≤◌, Bool, cond, List, length, get_or, take, refl}
-use Rattle.std.proofs.Common.{sym, ap, ◌∙◌, arith, if◌then◌else◌, true, false}
-use Rattle.std.specs.Prelude.{count_by, sum_by, zip}
+use Rattle.std.proofs.Common.{◌≡◌, ℕ, ◌+◌, ◌<◌, ◌≤◌, Bool, true, false, cond, if◌then◌else◌, List}
+use Rattle.std.proofs.Common.{length, get_or, take, sym, ap, ◌∙◌, arith}
+use Rattle.std.specs.Prelude.{sum_by, zip}
 use Rattle.std.proofs.lemmas.List.{take_all}
-use Rattle.std.proofs.lemmas.List.Sums.{sum_by_more, sum_by_more_le}
+use Rattle.std.proofs.lemmas.List.Sums.{sum_by_more}
 use Rattle.std.proofs.lemmas.Slice.Zip.{get_or-zip, length-zip}
 
 -- one item more is counted
@@ -47,14 +47,10 @@ module _ {A B : Type 0} (xs : List A) (ys : List B) (long : length ys ≡ length
       let both = length-zip xs ys in
       omega (arith, both, past)
 
--- a test counts as one or none
-pub one-or-none : {X : Type 0} (p : X → Bool) (x : X) (n : ℕ) → n ≡ (if p x then 1 else 0)
-    → n ≡ cond (p x) 1 0
-one-or-none p x n is = is ∙ by (p x)
-  where
-    by : (b : Bool) → (if b then 1 else 0) ≡ cond b 1 0
-    by true = refl
-    by false = refl
+-- what counts as one or none
+pub one-or-none : (b : Bool) (n : ℕ) → n ≡ (if b then 1 else 0) → n ≡ cond b 1 0
+one-or-none true n is = is
+one-or-none false n is = is
 
 pub one-at_most : (b : Bool) (n : ℕ) → n ≡ (if b then 1 else 0) → n ≤ 1
 one-at_most true n is = omega (arith, is)

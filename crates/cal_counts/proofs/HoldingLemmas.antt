@@ -1,6 +1,6 @@
 -- Operations are done to a board one after another, and what it holds behind each is held.
-use Rattle.std.proofs.Common.{◌≡◌, ℕ, ◌+◌, ◌<◌, ◌≤◌, List, [], ◌++◌, length, get_or, drop, map, refl}
-use Rattle.std.proofs.Common.{sym, subst}
+use Rattle.std.proofs.Common.{◌≡◌, ℕ, ◌+◌, ◌<◌, ◌≤◌, List, [], ◌++◌, length, get_or, drop, map}
+use Rattle.std.proofs.Common.{refl, sym, subst}
 use Rattle.std.specs.Prelude.{Option}
 use Rattle.cal_board.specs.Blackboard.{Blackboard, nothing_open}
 use Rattle.cal_context.proofs.CallerLemmas.{Grows-refl}
@@ -43,8 +43,9 @@ held-start script t nodes board left empty = record {
 
 module _ {A : Type 0} (script : Script) (f : A → Option Operation) (xs : List A) (i : ℕ) where
   -- behind one operation more
-  pub held-more : (x : A) (op : Option Operation) (was mid is : Tree) (old now new : List NodeNumber)
-      (before after : Blackboard NodeNumber) (all : List (List Entry))
+  pub held-more : (x : A) (op : Option Operation) (was mid is : Tree)
+      (old now new : List NodeNumber) (before after : Blackboard NodeNumber)
+      (all : List (List Entry))
       → x ≡ get_or xs i x → i < length xs → op ≡ f x
       → HoldsThen mid is script before after (λ b. board_placed script b op)
       → ((b : Blackboard Variant) → Holds mid script before b

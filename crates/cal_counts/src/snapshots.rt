@@ -1,7 +1,7 @@
 //! How many snapshots channels take in a run, by the replies that its journal has.
 ghost use Rattle.std.specs.Prelude.{◌≡◌, ◌≤◌, count_by, length, sum_by, zip, if◌then◌else◌};
 ghost use Rattle.cal_counts.specs.Counts.{snapshot_count, traced_count};
-ghost use Rattle.cal_counts.specs.Counts.{traced};
+ghost use Rattle.cal_records.specs.Records.{traced};
 ghost use Rattle.cal_run.specs.Counting.{is_noted_taken};
 ghost use Rattle.cal_run.specs.Lawful.{Lawful};
 ghost use Rattle.cal_run.specs.Runs.{snapshots};

@@ -29,8 +29,9 @@ pub(crate) fn hold_threads(
         (flat_map (held_by_thread script.now) script.now.threads)) }
     ensures grows { Grows context.old context.new }
 {
-    for lines in script.threads.as_slice() {
-        hold_lines(alloc, script, numbers, lines.as_slice(), context, held)?;
+    for thread in script.threads.as_slice() {
+        let lines = thread.as_slice();
+        hold_lines(alloc, script, numbers, lines, context, held)?;
     }
     Ok(())
 }

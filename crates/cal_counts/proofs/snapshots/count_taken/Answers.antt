@@ -1,5 +1,5 @@
 use Rattle.std.proofs.Common.{◌≡◌, ◌<◌, ◌≤◌, List, length, get_or, subst, sym, ap, ◌∙◌, arith}
-use Rattle.std.specs.Prelude.{count_by, sum_by, zip}
+use Rattle.std.specs.Prelude.{count_by, zip}
 use Rattle.std.proofs.lemmas.List.Sums.{get_or-le-sum_by, sum_by-take-le, sum_by_more_le}
 use Rattle.std.proofs.lemmas.Slice.Zip.{AllZip-long}
 use Rattle.cal_run.proofs.CountLemmas.{snapshots-counted}
@@ -22,8 +22,8 @@ bounds-notes-number c =
     let below = c.loop-number-test.true in
     omega (arith, long, es, en, below)
 
-pub count_lines-requires-clause-few : goal.count_lines-requires-clause-few
-count_lines-requires-clause-few c =
+pub count_lines-count-requires-clause-few : goal.count_lines-count-requires-clause-few
+count_lines-count-requires-clause-few c =
     let script = c.args.script.now in
     let i = c.loop-number.number in
     let th = c.index-threads-number.result in
@@ -36,8 +36,8 @@ count_lines-requires-clause-few c =
     let same = ap (λ (ls : List Line). length ls) (c.as_slice-lines.ensures ∙ lines) in
     omega (arith, most, same, c.requires.few_lines)
 
-pub count_lines-requires-clause-noted : goal.count_lines-requires-clause-noted
-count_lines-requires-clause-noted c =
+pub count_lines-count-requires-clause-noted : goal.count_lines-count-requires-clause-noted
+count_lines-count-requires-clause-noted c =
     let script = c.args.script.now in
     let journal = c.args.journal.now in
     let i = c.loop-number.number in
@@ -51,7 +51,7 @@ count_lines-requires-clause-noted c =
     subst (λ (ts : List (List Line)). i < length ts) c.as_slice-threads.ensures
     c.loop-number-test.true in
     ap (λ (ns : List LineNote). length ns) c.as_slice-noted.ensures
-    ∙ ap (λ (m : ThreadNote). length m.lines) noted
+    ∙ ap (λ (m : ThreadNote). length m.lines) (sym c.index-notes-number.is ∙ noted)
     ∙ all_zip-at (λ (thread : List Line) (note : ThreadNote). length note.lines ≡ length thread)
     script.threads journal.threads i th n c.requires.lawful.shape below
     ∙ ap (λ (ls : List Line). length ls) (sym lines ∙ sym c.as_slice-lines.ensures)
@@ -73,7 +73,7 @@ overflow_add-count c =
       most,
       same,
       c.requires.few_lines,
-      c.count_lines.ensures.few,
+      c.count_lines-count.ensures.few,
       c.loop-number.invariant.few,
     )
 
@@ -94,19 +94,21 @@ loop-number-preserved c =
     c.loop-number-test.true in
     let long = AllZip-long (λ (thread : List Line) (note : ThreadNote). length note.lines
     ≡ length thread) script.threads journal.threads c.requires.lawful.shape in
+    let own : c.as_slice-noted.result.now ≡ n.lines = c.as_slice-noted.ensures
+    ∙ ap (λ (m : ThreadNote). m.lines) (sym c.index-notes-number.is) in
     let same = ap (λ (ls : List Line). length ls) c.as_slice-lines.ensures in
     record {
       counted = sum-more (count_noted script channel) (zip script.threads journal.threads) i
-          (th, n) c.loop-number.count c.count_lines.result
+          (th, n) c.loop-number.count c.count_lines-count.result
           (zip-below script.threads journal.threads long i below)
           (zip-at script.threads journal.threads long i th n lines noted below)
-          (c.count_lines.ensures.counted
+          (c.count_lines-count.ensures.counted
           ∙ (λ j. count_by (is_noted_taken script channel)
-          (zip (c.as_slice-lines.ensures j) (c.as_slice-noted.ensures j))))
+          (zip (c.as_slice-lines.ensures j) (own j))))
           c.loop-number.invariant.counted;
       few = sum-more_le {X = List Line} length script.threads i th c.loop-number.count
-          c.count_lines.result below lines (omega (arith, same, c.count_lines.ensures.few))
-          c.loop-number.invariant.few;
+          c.count_lines-count.result below lines
+          (omega (arith, same, c.count_lines-count.ensures.few)) c.loop-number.invariant.few;
     }
 
 pub returns-clause-counted : goal.returns-clause-counted

@@ -1,6 +1,6 @@
 use Rattle.std.proofs.Common.{◌≡◌, ◌*◌, ◌≤◌, length, take}
 use Rattle.std.specs.Prelude.{sum_by}
-use Rattle.cal_counts.specs.Counts.{traced}
+use Rattle.cal_records.specs.Records.{traced}
 use Rattle.cal_script.specs.declared.script.Channel.{Channel}
 use Rattle.cal_counts.proofs.snapshots.count_traced.Given as goal
 
