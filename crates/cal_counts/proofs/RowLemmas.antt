@@ -3,15 +3,11 @@ use Rattle.std.proofs.Common.{◌≡◌, ◌+◌, List, [], ◌∷◌, length, r
 use Rattle.std.specs.Prelude.{flat_map, sum_by}
 use Rattle.std.proofs.lemmas.List.{length-append}
 use Rattle.std.proofs.lemmas.List.Sums.{sum_by-cons}
+use Rattle.cal_counts.specs.Counts.{group_count, traced_count}
 use Rattle.cal_records.specs.Records.{channel_rows, grouped, run_rows, traced}
 use Rattle.cal_script.specs.declared.journal.Journal.{Journal}
 use Rattle.cal_script.specs.declared.script.Channel.{Channel}
 use Rattle.cal_script.specs.declared.script.Script.{Script}
-use Rattle.cal_summary.specs.Summaries.{group_count, traced_count}
-use Rattle.cal_summary.specs.declared.summarizing.Summary.{Summary}
-use Rattle.cal_value.specs.declared.record.Rec.{Rec}
-use Rattle.cal_write.specs.CanonicalText.{canonical_text}
-use Rattle.cal_write.specs.declared.measurer.Measure.{Measure}
 
 module _ (script : Script) (journal : Journal) where
   rows-of : (channels : List Channel)
@@ -31,21 +27,3 @@ module _ (script : Script) (journal : Journal) where
   pub rows-split : length (run_rows script journal)
       ≡ traced_count script journal + group_count script journal
   rows-split = rows-of script.channels
-
--- how much rows are with globals
-abbrev pub measure_of : List Rec → Rec → Measure
-measure_of rows globals = record {
-  rows = length rows;
-  bytes = length (canonical_text (record { rows = rows; globals = globals }));
-}
-
-pub summary_one : (s t : Summary) → s.threads ≡ t.threads → s.lines ≡ t.lines → s.nodes ≡ t.nodes
-    → s.snapshots ≡ t.snapshots → s.groups ≡ t.groups → s.bytes ≡ t.bytes → s ≡ t
-summary_one s t threads lines nodes snapshots groups bytes = λ j. record {
-  threads = threads j;
-  lines = lines j;
-  nodes = nodes j;
-  snapshots = snapshots j;
-  groups = groups j;
-  bytes = bytes j;
-}
