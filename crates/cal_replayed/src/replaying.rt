@@ -77,11 +77,7 @@ fn write_ended(
 }
 
 /// The text of the records of a run that has ended.
-fn ended_text(
-    alloc: Global,
-    script: &Script,
-    ended: &mut EndedRun<'_>,
-) -> Result<Text, OutOfMemory>
+fn ended_text(alloc: Global, script: &Script, ended: &mut EndedRun<'_>) -> Result<Text, OutOfMemory>
     requires { IsEnded script.now ended.old }
     ensures text { IfOk result
         (λ text. text ≡ canonical_text (records_of script.now ended.old.journal)) }
