@@ -11,11 +11,11 @@ ghost use Rattle.cal_plog.specs.Answers.{Appends};
 ghost use Rattle.cal_plog.specs.History.{HasSeen};
 ghost use Rattle.cal_plog.specs.Seats.{IsLogSeat, plan_of, slots_of};
 ghost use Rattle.cal_plog.specs.declared.append.LogFull.{LogFull};
-ghost use Rattle.cal_process.specs.Replicas.{HasTaken};
+ghost use Rattle.cal_process.specs.Replicas.{HasTaken, IsCommon};
 ghost use Rattle.cal_process.specs.Takings.{OnlyLearns, TakesAll};
 ghost use Rattle.cal_process.specs.declared.common.Common.{Common};
 ghost use Rattle.cal_process.specs.declared.replica.Replica.{Replica};
-ghost use Rattle.cal_room.specs.Rooms.{HasHistory, MayAppend, UsesSevenEach};
+ghost use Rattle.cal_process.specs.Rooms.{MayAppend, UsesSevenEach};
 ghost use Rattle.cal_words.specs.declared.op.OpRec.{OpRec};
 ghost use Rattle.cal_words.specs.declared.sort.NodeSort.{NodeSort};
 ghost use Rattle.cal_words.specs.declared.sort.OpSort.{OpSort};
@@ -25,15 +25,15 @@ ghost use Rattle.cal_words.specs.declared.sort.OpSort.{OpSort};
 /// append of an operation that the seat may append answers, it is a place and no refusal.
 pub fn history_never_full_law()
     ensures seen { (common : Common) (seat : RowSeat OpSort) (ops : List OpRec)
-        → HasHistory common → IsLogSeat common.log seat
+        → IsCommon common → IsLogSeat common.log seat
         → HasSeen (slots_of common.log) (view seat) ops → length ops < slots_of common.log }
     ensures taken { (common : Common) (seat : RowSeat NodeSort) (p : Replica) (h : List OpRec)
-        → HasHistory common → HasTaken common seat p h → p.seen < slots_of common.log }
+        → IsCommon common → HasTaken common seat p h → p.seen < slots_of common.log }
     ensures looked { (common : Common) (was is : RowSeat NodeSort) (old new : Replica)
-        (h : List OpRec) → HasHistory common → TakesAll common was is old new h
+        (h : List OpRec) → IsCommon common → TakesAll common was is old new h
         → (view new.log).looks ≡ (view old.log).looks ++ new.seen ∷ [] }
     ensures appended { (common : Common) (old new : RowSeat OpSort) (op : OpRec)
-        (result : Result ℕ LogFull) → HasHistory common → IsLogSeat common.log old
+        (result : Result ℕ LogFull) → IsCommon common → IsLogSeat common.log old
         → IsLogSeat common.log new → MayAppend common (view old) op
         → Appends (plan_of common.log) op (view old) (view new) result → IsOk result }
 {}

@@ -1,9 +1,9 @@
 use Rattle.std.proofs.Common.{ap, arith}
 use Rattle.std.proofs.lemmas.List.Sums.{sum_by-append}
 use Rattle.cal_process.specs.Operations.{operation_in, own_words, words_made}
-use Rattle.cal_room.proofs.Lines.{next-line, thread_lines}
-use Rattle.cal_room.proofs.Words.{sum-next}
-use Rattle.cal_room.proofs.tree_laws.words_in_tree_law.Goals as goal
+use Rattle.cal_process.proofs.Lines.{next-line, thread_lines}
+use Rattle.cal_process.proofs.Words.{sum-next}
+use Rattle.cal_process.proofs.tree_laws.words_in_tree_law.Goals as goal
 use Rattle.cal_words.specs.declared.op.OpRec.{OpRec}
 use Rattle.cal_words.specs.declared.sort.NodeSort.{NodeSort}
 use Rattle.cal_once.specs.declared.view.View.{View}

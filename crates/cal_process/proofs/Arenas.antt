@@ -19,10 +19,11 @@ use Rattle.cal_plog.specs.declared.append.LogFull.{LogFull}
 use Rattle.cal_plog.specs.declared.append.LogFull.TheVariants as full
 use Rattle.cal_process.specs.Operations.{IsOpOf, operation_in, placed_as}
 use Rattle.cal_process.specs.declared.common.Common.{Common}
-use Rattle.cal_room.proofs.Apart.{few-apart}
-use Rattle.cal_room.proofs.Ranks.{rank, rank-inside, rank-rises}
-use Rattle.cal_room.proofs.Slots.{not-all-known}
-use Rattle.cal_room.specs.Rooms.{HasHistory, MayAppend}
+use Rattle.cal_process.proofs.Apart.{few-apart}
+use Rattle.cal_process.proofs.Ranks.{rank, rank-inside, rank-rises}
+use Rattle.cal_process.proofs.Slots.{not-all-known}
+use Rattle.cal_process.specs.Replicas.{IsCommon}
+use Rattle.cal_process.specs.Rooms.{MayAppend}
 use Rattle.cal_run.specs.History.{placed_operation}
 use Rattle.cal_run.specs.Lawful.{IsKnown}
 use Rattle.cal_run.specs.declared.operation.Operation.{Operation}
@@ -89,7 +90,7 @@ one-of-line script a b first second thread line_is =
       value = value j;
     })
 
-module _ (common : Common) (history : HasHistory common) (v : View OpSort)
+module _ (common : Common) (history : IsCommon common) (v : View OpSort)
     (sound : IsSound op_law (plan_of common.log) v) (op : OpRec)
     (may : MayAppend common v op) where
   abbrev script : Script
@@ -99,7 +100,7 @@ module _ (common : Common) (history : HasHistory common) (v : View OpSort)
   slots = slots_of common.log
 
   op-known : (o : OpRec) → Contains (ops_of common.log) o → IsOpOf script o
-  op-known o among = All-contains (IsOpOf script) (ops_of common.log) o history.made.ops among
+  op-known o among = All-contains (IsOpOf script) (ops_of common.log) o history.ops among
 
   -- what the seat appended at a place, before the operation's line
   abbrev Appended : ℕ → Type 0
@@ -176,7 +177,7 @@ module _ (common : Common) (history : HasHistory common) (v : View OpSort)
       let few = few-apart IsRanked (length v.published) (rank script op.thread op.line) ranked
       one-ranked in
       let less = rank-inside script op.thread op.line (op-known op may.among).known in
-      let arena = ap (λ (s : Shape). s.arena) history.shape in
+      let arena = ap (λ (s : Shape). s.arena) history.shape_of_log in
       let words = may.words in
       omega (arith, few, less, arena, words)
 
@@ -185,7 +186,7 @@ module _ (common : Common) (history : HasHistory common) (v : View OpSort)
       → (result : Result ℕ LogFull) → Appends (plan_of common.log) op v w result → IsOk result
   appends-ok w later (Ok place) a = refl
   appends-ok w later (Err full.RowsFull) a = absurd (not-all-known (plan_of common.log) w later
-      (length script.threads) (greatest (process_lines script) script.threads) history.shape
+      (length script.threads) (greatest (process_lines script) script.threads) history.shape_of_log
       (λ place less. let h = a.0 place less in (h.slot, h.known)))
   appends-ok w later (Err (full.ArenaFull used need)) a =
       absurd (omega (arith, a.used_is, a.need_is, a.too_long, has-room))

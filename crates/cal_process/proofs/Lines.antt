@@ -10,8 +10,8 @@ use Rattle.std.proofs.lemmas.Option.{get_or_from_slice_get}
 use Rattle.cal_context.specs.Tree.{no_attribute, no_value}
 use Rattle.cal_process.specs.Operations as made
 use Rattle.cal_process.specs.Operations.{IsOpOf, operation_in, words_if, words_made, words_of_line}
-use Rattle.cal_room.proofs.Ranks.{le-greatest, process-line}
-use Rattle.cal_room.proofs.Words.{all-at, item_at, sum-first, sum-take}
+use Rattle.cal_process.proofs.Ranks.{le-greatest, process-line}
+use Rattle.cal_process.proofs.Words.{all-at, item_at, sum-first, sum-take}
 use Rattle.cal_run.proofs.HeldLemmas.{line_at-placed}
 use Rattle.cal_run.specs.Lawful.{names_process_line}
 use Rattle.cal_run.specs.Lines as run

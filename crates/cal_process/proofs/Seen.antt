@@ -11,14 +11,14 @@ use Rattle.cal_plog.proofs.Reading.{is_among}
 use Rattle.cal_plog.specs.History.{HasSeen}
 use Rattle.cal_plog.specs.Seats.{op_law, ops_of, plan_of, slots_of}
 use Rattle.cal_process.specs.Operations as made
-use Rattle.cal_process.specs.Operations.{IsOpOf, operation_in, words_made}
-use Rattle.cal_process.specs.Takings.{words_of_ops}
+use Rattle.cal_process.specs.Operations.{IsOpOf, operation_in, words_made, words_of_ops}
 use Rattle.cal_process.specs.declared.common.Common.{Common}
-use Rattle.cal_room.proofs.Arenas.{one-of-line}
-use Rattle.cal_room.proofs.Lines.{own-first, own-inside, shared-most, some-line}
-use Rattle.cal_room.proofs.Slots.{no_op}
-use Rattle.cal_room.proofs.Words.{sum-apart}
-use Rattle.cal_room.specs.Rooms.{HasRoomToDo, HasTree, UsesAtMost}
+use Rattle.cal_process.proofs.Arenas.{one-of-line}
+use Rattle.cal_process.proofs.Lines.{own-first, own-inside, shared-most, some-line}
+use Rattle.cal_process.proofs.Slots.{no_op}
+use Rattle.cal_process.proofs.Words.{sum-apart}
+use Rattle.cal_process.specs.Replicas.{IsCommon}
+use Rattle.cal_process.specs.Rooms.{HasRoomToDo, UsesAtMost}
 use Rattle.cal_run.specs.Lines.{is_process_line, line_at, operation_of}
 use Rattle.cal_run.specs.declared.operation.Operation.{Operation}
 use Rattle.cal_script.specs.Shapes.{shared_words}
@@ -30,7 +30,7 @@ use Rattle.cal_words.specs.declared.op.OpRec.{OpRec}
 use Rattle.cal_words.specs.declared.sort.NodeSort.{NodeSort}
 use Rattle.cal_words.specs.declared.sort.OpSort.{OpSort}
 
-module _ (common : Common) (has : HasTree common) (v : View OpSort)
+module _ (common : Common) (has : IsCommon common) (v : View OpSort)
     (sound : IsSound op_law (plan_of common.log) v) where
   abbrev script : Script
   script = common.script.now
@@ -41,7 +41,7 @@ module _ (common : Common) (has : HasTree common) (v : View OpSort)
   module _ (h : List OpRec) (seen : HasSeen slots v h) where
     op-known : (i : ℕ) → i < length h → IsOpOf script (get_or h i no_op)
     op-known i less =
-        All-contains (IsOpOf script) (ops_of common.log) (get_or h i no_op) has.made.ops
+        All-contains (IsOpOf script) (ops_of common.log) (get_or h i no_op) has.ops
         (is_among (plan_of common.log) v sound i (get_or h i no_op) (seen i no_op less))
 
     -- operations at different places are of different lines
@@ -71,7 +71,7 @@ module _ (common : Common) (has : HasTree common) (v : View OpSort)
         sum-apart (shared_words script) line.Snapshot refl
         (λ (op : OpRec). words_made script (operation_in op)) (λ (op : OpRec). op.thread)
         (λ (op : OpRec). op.line - 1) no_op h script.threads
-        (λ i less. shared-most script has.made.runnable (get_or h i no_op) (op-known i less))
+        (λ i less. shared-most script has.runnable (get_or h i no_op) (op-known i less))
         lines-apart
 
   -- there is room for the next operation
@@ -81,7 +81,7 @@ module _ (common : Common) (has : HasTree common) (v : View OpSort)
   shared-room w h op thread done seen uses =
       let all = seen-most (h ++ op ∷ []) seen in
       let push = sum_by_push (λ (o : OpRec). words_made script (operation_in o)) h op in
-      let own = own-first script has.made.runnable thread done in
+      let own = own-first script has.runnable thread done in
       omega (arith, all, push, own, uses)
 
   -- and for the next line's, where that is the thread's own
@@ -91,7 +91,7 @@ module _ (common : Common) (has : HasTree common) (v : View OpSort)
       → operation_of l ≡ Some op → HasRoomToDo common w op
   own-room w h thread done l op seen uses at own does =
       let all = seen-most h seen in
-      let inside = own-inside script has.made.runnable thread done l at in
+      let inside = own-inside script has.runnable thread done l at in
       let words : made.own_words script l ≡ words_made script op =
       ap (λ (b : Bool). if b then 0 else made.words_of_line script l) own
       ∙ ap (made.words_if script) does in

@@ -4,14 +4,11 @@ use Rattle.std.specs.Prelude.{◌≡◌, ◌≤◌, ℕ, ◌+◌, ◌*◌, List,
 use Rattle.std.specs.List.{Contains}
 use Rattle.cal_once.specs.declared.view.View.{View}
 use Rattle.cal_plog.specs.History.{OwnBefore}
-use Rattle.cal_plog.specs.Seats.{ops_of, plan_of, slots_of}
-use Rattle.cal_process.specs.Operations.{own_words, words_made}
-use Rattle.cal_process.specs.Replicas.{IsCommon}
-use Rattle.cal_process.specs.Takings.{words_of_ops}
+use Rattle.cal_plog.specs.Seats.{ops_of, slots_of}
+use Rattle.cal_process.specs.Operations.{own_words, words_made, words_of_ops}
 use Rattle.cal_process.specs.declared.common.Common.{Common}
 use Rattle.cal_run.specs.declared.operation.Operation.{Operation}
-use Rattle.cal_script.specs.Shapes.{history_shape, tree_arena, tree_shape}
-use Rattle.cal_tree.specs.Seats as tree
+use Rattle.cal_script.specs.Shapes.{tree_arena}
 use Rattle.cal_value.specs.declared.variant.Variant.{Variant}
 use Rattle.cal_words.specs.Words.{node_length}
 use Rattle.cal_words.specs.declared.op.OpRec.{OpRec}
@@ -19,11 +16,6 @@ use Rattle.cal_words.specs.declared.sort.NodeSort.{NodeSort}
 use Rattle.cal_words.specs.declared.sort.OpSort.{OpSort}
 
 -- ---- the history
-
--- The history was made for the script's process lines, in the shape that they need.
-pub record HasHistory (common : Common) : Type 0 where
-  pub made : IsCommon common
-  pub shape : (plan_of common.log).shape ≡ history_shape common.script.now
 
 -- The seat has seven words in use for each operation that it appended.
 abbrev pub UsesSevenEach : View OpSort → Type 0
@@ -38,11 +30,6 @@ pub record MayAppend (common : Common) (v : View OpSort) (op : OpRec) : Type 0 w
   pub words : UsesSevenEach v
 
 -- ---- the tree
-
--- The tree was made in the shape that the script's lines need.
-pub record HasTree (common : Common) : Type 0 where
-  pub made : IsCommon common
-  pub shape : (tree.plan_of common.tree).shape ≡ tree_shape common.script.now
 
 -- A seat's arena has room for the node of a value.
 abbrev pub HasRoomFor : Common → View NodeSort → Variant → Type 0

@@ -9,8 +9,9 @@ use Rattle.cal_once.specs.Sound.{IsSound}
 use Rattle.cal_once.specs.Views.{Knows, known_count, was_seen}
 use Rattle.cal_once.specs.declared.view.View.{View}
 use Rattle.cal_process.specs.declared.common.Common.{Common}
-use Rattle.cal_room.proofs.Fours.{not-all-known}
-use Rattle.cal_room.specs.Rooms.{HasRoomFor, HasTree}
+use Rattle.cal_process.proofs.Fours.{not-all-known}
+use Rattle.cal_process.specs.Replicas.{IsCommon}
+use Rattle.cal_process.specs.Rooms.{HasRoomFor}
 use Rattle.cal_script.specs.Shapes.{tree_arena}
 use Rattle.cal_tree.proofs.Nodes.{depth_of_path}
 use Rattle.cal_tree.specs.Children.{IsAnswer, deepest}
@@ -51,7 +52,7 @@ count : (v : View NodeSort) (n : ℕ) → Count v n
 count v zero = inr (refl, λ place less. absurd (omega (arith, less)))
 count v (suc n) = one-more v n (was_seen v.seen (n + 1)) refl (count v n)
 
-module _ (common : Common) (has : HasTree common) where
+module _ (common : Common) (has : IsCommon common) where
   abbrev threads : ℕ
   threads = length common.script.now.threads
 
@@ -62,7 +63,7 @@ module _ (common : Common) (has : HasTree common) where
   pub known-fewer : (v : View NodeSort) → IsSound node_law (plan_of common.tree) v
       → known_count v (slots_of common.tree) < slots_of common.tree
   known-fewer v sound = ⊎_elim (λ few. few)
-      (λ all. absurd (not-all-known (plan_of common.tree) v sound threads words has.shape
+      (λ all. absurd (not-all-known (plan_of common.tree) v sound threads words has.shape_of_tree
       (λ place less. seen_to_be v.seen (place + 1) (all.1 place less))))
       (count v (slots_of common.tree))
 
@@ -73,11 +74,11 @@ module _ (common : Common) (has : HasTree common) where
         → IsAnswer (plan_of common.tree) parent entry v w (Err refusal) → ⊥
     only-deep full.TooDeep other a = other refl
     only-deep full.RowsFull other a =
-        not-all-known (plan_of common.tree) w sound threads words has.shape
+        not-all-known (plan_of common.tree) w sound threads words has.shape_of_tree
         (λ place less. let h = a.gives.1.0 place less in (h.slot, h.known))
     only-deep (full.ArenaFull used need) other a =
         let lacks = a.gives.1 in
-        let arena = ap (λ (s : Shape). s.arena) has.shape in
+        let arena = ap (λ (s : Shape). s.arena) has.shape_of_tree in
         let long : length (node_words parent (a.depth + 1) entry.attr entry.value)
         ≡ node_length entry.value = refl in
         omega (arith, lacks.used_is, lacks.need_is, lacks.too_long, arena, long, room)

@@ -11,7 +11,7 @@ use Rattle.cal_once.specs.Sound.{IsSound}
 use Rattle.cal_once.specs.Views.{Saw}
 use Rattle.cal_once.specs.declared.view.Plan.{Plan}
 use Rattle.cal_once.specs.declared.view.View.{View}
-use Rattle.cal_room.proofs.Apart.{few-apart}
+use Rattle.cal_process.proofs.Apart.{few-apart}
 use Rattle.cal_script.specs.Shapes.{tree_layout}
 use Rattle.cal_tree.specs.Seats.{node_law}
 use Rattle.cal_words.specs.Records.{IsNode}

@@ -1,6 +1,6 @@
 use Rattle.cal_once.specs.Seats.{view}
-use Rattle.cal_room.proofs.Nodes.{child-ok, known-fewer, only-deep}
-use Rattle.cal_room.proofs.tree_laws.tree_never_full_law.Goals as goal
+use Rattle.cal_process.proofs.Nodes.{child-ok, known-fewer, only-deep}
+use Rattle.cal_process.proofs.tree_laws.tree_never_full_law.Goals as goal
 use Rattle.cal_board.specs.Asking.{parent_in}
 use Rattle.cal_hand.specs.Nodes.{parent_number}
 

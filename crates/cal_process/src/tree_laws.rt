@@ -12,10 +12,10 @@ ghost use Rattle.cal_once.specs.declared.view.View.{View};
 ghost use Rattle.cal_plog.specs.History.{HasSeen};
 ghost use Rattle.cal_plog.specs.Seats as history;
 ghost use Rattle.cal_process.specs.Operations.{operation_in, own_words};
-ghost use Rattle.cal_process.specs.Replicas.{AddsWords};
+ghost use Rattle.cal_process.specs.Replicas.{AddsWords, IsCommon};
 ghost use Rattle.cal_process.specs.Takings.{words_of_ops};
 ghost use Rattle.cal_process.specs.declared.common.Common.{Common};
-ghost use Rattle.cal_room.specs.Rooms.{HasRoomFor, HasRoomToDo, HasTree, UsesAtMost};
+ghost use Rattle.cal_process.specs.Rooms.{HasRoomFor, HasRoomToDo, UsesAtMost};
 ghost use Rattle.cal_run.specs.Lines.{attribute_of, is_process_line, line_at, operation_of};
 ghost use Rattle.cal_run.specs.Lines.{value_of};
 ghost use Rattle.cal_run.specs.declared.operation.Operation.{Operation};
@@ -37,19 +37,19 @@ ghost use Rattle.cal_words.specs.declared.sort.OpSort.{OpSort};
 /// which the seat's arena has room, below a path that isn't as deep as paths may be, is never
 /// refused; and no board is told that the tree is full.
 pub fn tree_never_full_law()
-    ensures known { (common : Common) (seat : RowSeat NodeSort) → HasTree common
+    ensures known { (common : Common) (seat : RowSeat NodeSort) → IsCommon common
         → IsTreeSeat common.tree seat
         → known_count (view seat) (slots_of common.tree) < slots_of common.tree }
     ensures made { (common : Common) (old new : RowSeat NodeSort) (parent : ℕ)
         (path : List NodeEntry) (entry : NodeEntry) (answer : Result NodeId TreeFull)
-        → HasTree common → IsTreeSeat common.tree new
+        → IsCommon common → IsTreeSeat common.tree new
         → HasRoomFor common (view old) entry.value
         → IsPathOf common.tree new path parent → length path < deepest
         → IsAnswer (plan_of common.tree) parent entry (view old) (view new) answer
         → IsOk answer }
     ensures told { (common : Common) (was is : RowSeat NodeSort) (old new : Blackboard NodeId)
         (c : codes.OpCode) (attr : AttrRef) (value : Variant) (full : TreeFull)
-        → HasTree common → IsTreeSeat common.tree is → HasRoomFor common (view was) value
+        → IsCommon common → IsTreeSeat common.tree is → HasRoomFor common (view was) value
         → ¬ TellsFull common.tree was is old new c attr value full }
 {}
 
@@ -78,12 +78,12 @@ pub fn words_in_tree_law()
 /// its own: so the tree refuses neither.
 pub fn room_for_nodes_law()
     ensures shared { (common : Common) (seat : RowSeat OpSort) (v : View NodeSort)
-        (h : List OpRec) (op : OpRec) (thread done : ℕ) → HasTree common
+        (h : List OpRec) (op : OpRec) (thread done : ℕ) → IsCommon common
         → history.IsLogSeat common.log seat
         → HasSeen (history.slots_of common.log) (view seat) (h ++ op ∷ [])
         → UsesAtMost common v h thread done → HasRoomToDo common v (operation_in op) }
     ensures own { (common : Common) (seat : RowSeat OpSort) (v : View NodeSort)
-        (h : List OpRec) (thread done : ℕ) (l : Line) (op : Operation) → HasTree common
+        (h : List OpRec) (thread done : ℕ) (l : Line) (op : Operation) → IsCommon common
         → history.IsLogSeat common.log seat
         → HasSeen (history.slots_of common.log) (view seat) h
         → UsesAtMost common v h thread done

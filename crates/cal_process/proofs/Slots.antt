@@ -13,7 +13,7 @@ use Rattle.cal_once.specs.declared.view.View.{View}
 use Rattle.cal_plog.proofs.Reading.{op_there}
 use Rattle.cal_plog.specs.History.{HasSeen}
 use Rattle.cal_plog.specs.Seats.{op_law}
-use Rattle.cal_room.proofs.Apart.{few-apart}
+use Rattle.cal_process.proofs.Apart.{few-apart}
 use Rattle.cal_script.specs.Shapes.{history_layout}
 use Rattle.cal_words.specs.declared.op.OpCode.TheVariants as code
 use Rattle.cal_words.specs.declared.op.OpRec.{OpRec}

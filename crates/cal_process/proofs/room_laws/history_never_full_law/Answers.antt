@@ -1,25 +1,24 @@
 use Rattle.std.proofs.Common.{◌≡◌, ◌<◌, List, [], ◌∷◌, ◌++◌, length, arith, ⊎_elim}
 use Rattle.cal_once.specs.Seats.{view}
 use Rattle.cal_plog.specs.Seats.{plan_of, slots_of}
-use Rattle.cal_process.specs.Replicas.{HasTaken}
+use Rattle.cal_process.specs.Replicas.{HasTaken, IsCommon}
 use Rattle.cal_process.specs.declared.common.Common.{Common}
 use Rattle.cal_process.specs.declared.replica.Replica.{Replica}
 use Rattle.cal_once.specs.declared.seat.RowSeat.{RowSeat}
-use Rattle.cal_room.proofs.Arenas.{appends-ok}
-use Rattle.cal_room.proofs.Slots.{seen-fewer}
-use Rattle.cal_room.proofs.laws.history_never_full_law.Goals as goal
-use Rattle.cal_room.specs.Rooms.{HasHistory}
+use Rattle.cal_process.proofs.Arenas.{appends-ok}
+use Rattle.cal_process.proofs.Slots.{seen-fewer}
+use Rattle.cal_process.proofs.room_laws.history_never_full_law.Goals as goal
 use Rattle.cal_script.specs.Shapes.{greatest, process_lines}
 use Rattle.cal_words.specs.declared.op.OpRec.{OpRec}
 use Rattle.cal_words.specs.declared.sort.NodeSort.{NodeSort}
 
 -- a replica has taken in fewer operations than there are slots
 taken-fewer : (common : Common) (seat : RowSeat NodeSort) (p : Replica) (h : List OpRec)
-    → HasHistory common → HasTaken common seat p h → p.seen < slots_of common.log
+    → IsCommon common → HasTaken common seat p h → p.seen < slots_of common.log
 taken-fewer common seat p h history t =
     let few = seen-fewer (plan_of common.log) (view p.log) t.at_log.sound
     (length common.script.now.threads)
-    (greatest (process_lines common.script.now) common.script.now.threads) history.shape
+    (greatest (process_lines common.script.now) common.script.now.threads) history.shape_of_log
     h t.read in
     let long = t.long in
     omega (arith, few, long)
@@ -27,7 +26,7 @@ taken-fewer common seat p h history t =
 pub returns-clause-seen : goal.returns-clause-seen
 returns-clause-seen c = λ common seat ops history at seen.
     seen-fewer (plan_of common.log) (view seat) at.sound (length common.script.now.threads)
-    (greatest (process_lines common.script.now) common.script.now.threads) history.shape ops seen
+    (greatest (process_lines common.script.now) common.script.now.threads) history.shape_of_log ops seen
 
 pub returns-clause-taken : goal.returns-clause-taken
 returns-clause-taken c = taken-fewer

@@ -1,8 +1,8 @@
 use Rattle.std.proofs.Common.{◌≡◌, ◌≢◌, Bool, if◌then◌else◌, refl, ap, ◌∙◌, arith}
 use Rattle.cal_once.specs.Seats.{view}
 use Rattle.cal_process.specs.Operations.{words_by, words_made}
-use Rattle.cal_room.proofs.Seen.{own-room, shared-room}
-use Rattle.cal_room.proofs.tree_laws.room_for_nodes_law.Goals as goal
+use Rattle.cal_process.proofs.Seen.{own-room, shared-room}
+use Rattle.cal_process.proofs.tree_laws.room_for_nodes_law.Goals as goal
 use Rattle.cal_run.specs.Lines.{value_of}
 use Rattle.cal_value.specs.declared.variant.Variant.{Variant}
 use Rattle.cal_words.specs.Words.{node_length}
