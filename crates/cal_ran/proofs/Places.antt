@@ -1,7 +1,9 @@
 -- What runners have at the place of a channel: seats, channels and tables.
-use Rattle.std.proofs.Common.{◌≡◌, ℕ, List, [], ◌∷◌, map, ap, ◌∙◌}
+use Rattle.std.proofs.Common.{◌≡◌, ℕ, List, ◌∷◌, length, map, ap, sym, ◌∙◌}
 use Rattle.std.specs.Prelude.{Option, Some, option_map, slice_get}
 use Rattle.std.specs.List.{cons_option}
+use Rattle.std.specs.declared.vec.Vec.{Vec}
+use Rattle.std.proofs.lemmas.List.{length-map}
 use Rattle.std.proofs.lemmas.Option.{slice_get-map}
 use Rattle.cal_channel.specs.Places.{at_place, lists_of}
 use Rattle.cal_channel.specs.Values.{ChannelValue}
@@ -9,6 +11,14 @@ use Rattle.cal_handover.specs.Places.{emptied, tables_at, tables_of}
 use Rattle.cal_keeping.specs.declared.runner.Runner.{Runner}
 use Rattle.cal_replay.specs.Flushing.{SeatOf}
 use Rattle.cal_table.specs.Tables.{TableValue}
+
+-- as many threads have channels as before, once the tables were taken out
+pub length-left : {Z : Type 0} (new was : List (Vec ChannelValue Z))
+    → lists_of new ≡ map (map emptied) (lists_of was) → length new ≡ length was
+length-left {Z} new was left =
+    sym (length-map new (λ (list : Vec ChannelValue Z). list.items)) ∙ ap length left
+    ∙ length-map (lists_of was) (map emptied)
+    ∙ length-map was (λ (list : Vec ChannelValue Z). list.items)
 
 module _ {P : Type 0} where
   -- the seats of runners, and their channels, each list by places

@@ -104,7 +104,7 @@ module _ {P : Type 0} (run : Run) (is : IsRun run) (runners : List (Runner P))
     table-counts : channel.aggregate ≡ true
         → HasTable run.context.attributes script run.shared.common.tree seat channel table
         (snapshots script journal channel)
-    table-counts yes =
+    table-counts does =
         let here = closed.each place book table at_book at_table in
         let accounts = accounts_of (at_place place (seats_of runners)) in
         let lefts = tables_at place (channels_of runners) in
@@ -118,7 +118,7 @@ module _ {P : Type 0} (run : Run) (is : IsRun run) (runners : List (Runner P))
               (closed-counts run.context.attributes script run.shared.common.tree seat
               (books.shape_of book) accounts lefts all_takens table
               (shares-at run.context.attributes run.shared.common seat journal.ops place channel
-              book yes script.threads runners lines-taken here.given) here.merged);
+              book does script.threads runners lines-taken here.given) here.merged);
         }
 
     -- all threads have taken them, one behind another

@@ -80,7 +80,7 @@ module _ (attributes : List Attribute) (script : Script) (tree : Tree)
 
 -- ---- a channel
 
-module _ {P : Type 0} (attributes : List Attribute) (common : Common)
+module _ (attributes : List Attribute) (common : Common)
     (seat : RowSeat NodeSort) (history : List Placed) (place : ℕ) (channel : Channel)
     (book : BookOf) where
   abbrev script : Script
@@ -89,79 +89,80 @@ module _ {P : Type 0} (attributes : List Attribute) (common : Common)
   abbrev shape : TableShape
   shape = books.shape_of book
 
-  abbrev Takes : List Line → Runner P → Type 0
-  Takes ls r = HasTakenLines attributes common seat history place channel book ls r
+  module _ {P : Type 0} where
+    abbrev Takes : List Line → Runner P → Type 0
+    Takes ls r = HasTakenLines attributes common seat history place channel book ls r
 
-  -- what a thread has taken, and what all threads have
-  abbrev pub taken : List Line → Runner P → List Rec
-  taken ls r = taken_by_thread script history channel (ls, r.worker.note)
+    -- what a thread has taken, and what all threads have
+    abbrev pub taken : List Line → Runner P → List Rec
+    taken ls r = taken_by_thread script history channel (ls, r.worker.note)
 
-  abbrev pub takens : List (List Line) → List (Runner P) → List (List Rec)
-  takens threads runners =
-      map (taken_by_thread script history channel) (zip threads (notes_of runners))
+    abbrev pub takens : List (List Line) → List (Runner P) → List (List Rec)
+    takens threads runners =
+        map (taken_by_thread script history channel) (zip threads (notes_of runners))
 
-  trace-of : (ls : List Line) (r : Runner P) (h : Takes ls r)
-      → HasTrace attributes script common.tree seat channel (emptied h.c) (taken ls r)
-  trace-of ls r h = record {
-    has = h.traces;
-    means = (taken-later attributes script common.tree r.worker.thread.tree seat h.knows h.c
-        (taken ls r) h.shown.unflushed h.shown.taken).trace;
-  }
+    trace-of : (ls : List Line) (r : Runner P) (h : Takes ls r)
+        → HasTrace attributes script common.tree seat channel (emptied h.c) (taken ls r)
+    trace-of ls r h = record {
+      has = h.traces;
+      means = (taken-later attributes script common.tree r.worker.thread.tree seat h.knows h.c
+          (taken ls r) h.shown.unflushed h.shown.taken).trace;
+    }
 
-  -- each thread's trace means what it has taken
-  pub traces-at : (threads : List (List Line)) (runners : List (Runner P))
-      → AllZip Takes threads runners
-      → AllZip (HasTrace attributes script common.tree seat channel)
-      (at_place place (left_of runners)) (takens threads runners)
-  traces-at [] [] all = tt
-  traces-at [] (r ∷ runners) all = absurd all
-  traces-at (ls ∷ threads) [] all = absurd all
-  traces-at (ls ∷ threads) (r ∷ runners) all =
-      subst (λ (cs : List ChannelValue).
-      AllZip (HasTrace attributes script common.tree seat channel) cs
-      (takens (ls ∷ threads) (r ∷ runners)))
-      (sym (left-cons place r runners all.0.c all.0.channel_at))
-      (trace-of ls r all.0, traces-at threads runners all.1)
+    -- each thread's trace means what it has taken
+    pub traces-at : (threads : List (List Line)) (runners : List (Runner P))
+        → AllZip Takes threads runners
+        → AllZip (HasTrace attributes script common.tree seat channel)
+        (at_place place (left_of runners)) (takens threads runners)
+    traces-at [] [] all = tt
+    traces-at [] (r ∷ runners) all = absurd all
+    traces-at (ls ∷ threads) [] all = absurd all
+    traces-at (ls ∷ threads) (r ∷ runners) all =
+        subst (λ (cs : List ChannelValue).
+        AllZip (HasTrace attributes script common.tree seat channel) cs
+        (takens (ls ∷ threads) (r ∷ runners)))
+        (sym (left-cons place r runners all.0.c all.0.channel_at))
+        (trace-of ls r all.0, traces-at threads runners all.1)
 
-  -- a thread's share, where the channel aggregates
-  share-at : (ls : List Line) (r : Runner P) (h : Takes ls r) (left : TableValue)
-      → h.c.table ≡ Some left → AreOfShape shape (books.view h.own).account.given
-      → IsShare attributes script common.tree seat shape (books.view h.own).account.given left
-      (taken ls r)
-  share-at ls r h left is made =
-      share-of common attributes r.worker.thread.tree seat shape h.c
-      (books.view h.own).account.given left (taken ls r) h.last h.knows h.shown is made
-      (subst (λ (o : Option TableValue). IfSome o (λ (t : TableValue). t.shape ≡ shape)) is h.made)
+    -- a thread's share, where the channel aggregates
+    share-at : (ls : List Line) (r : Runner P) (h : Takes ls r) (left : TableValue)
+        → h.c.table ≡ Some left → AreOfShape shape (books.view h.own).account.given
+        → IsShare attributes script common.tree seat shape (books.view h.own).account.given left
+        (taken ls r)
+    share-at ls r h left is made =
+        share-of common attributes r.worker.thread.tree seat shape h.c
+        (books.view h.own).account.given left (taken ls r) h.last h.knows h.shown is made
+        (subst (λ (o : Option TableValue). IfSome o (λ (t : TableValue). t.shape ≡ shape)) is h.made)
 
-  -- what each thread has done at the book, and what it has left, is its share
-  pub shares-at : channel.aggregate ≡ true → (threads : List (List Line))
-      (runners : List (Runner P)) → AllZip Takes threads runners
-      → AreMadeFor shape (accounts_of (at_place place (seats_of runners)))
-      → AreShares attributes script common.tree seat shape
-      (accounts_of (at_place place (seats_of runners))) (tables_at place (channels_of runners))
-      (takens threads runners)
-  shares-at yes [] [] all made = shares-none attributes script common.tree seat shape
-  shares-at yes [] (r ∷ runners) all made = absurd all
-  shares-at yes (ls ∷ threads) [] all made = absurd all
-  shares-at yes (ls ∷ threads) (r ∷ runners) all made =
-      let h : Takes ls r = all.0 in
-      let seats : List SeatOf = at_place place (seats_of runners) in
-      let tables : List TableValue = tables_at place (channels_of runners) in
-      let recs : List (List Rec) = takens (ls ∷ threads) (r ∷ runners) in
-      let account : Account TableValue = (books.view h.own).account in
-      let left = there h.c.table (h.aggregates ∙ yes) in
-      let seats-are = seats-cons place r runners h.own h.seat_at in
-      let tables-are : tables_at place (channels_of (r ∷ runners)) ≡ left.0 ∷ tables =
-      tables-cons place r runners h.c h.channel_at
-      ∙ ap (λ (o : Option TableValue). cons_option o tables) left.1 in
-      let parts : Account TableValue → Type 0 = λ a. AreOfShape shape a.given in
-      let own : AreMadeFor shape (account ∷ accounts_of seats) =
-      subst (λ (ss : List SeatOf). AreMadeFor shape (accounts_of ss)) seats-are made in
-      subst (λ (ss : List SeatOf). AreShares attributes script common.tree seat shape
-      (accounts_of ss) (tables_at place (channels_of (r ∷ runners))) recs) (sym seats-are)
-      (subst (λ (ts : List TableValue). AreShares attributes script common.tree seat shape
-      (account ∷ accounts_of seats) ts recs) (sym tables-are)
-      (shares-cons attributes script common.tree seat shape account left.0 (taken ls r)
-      (accounts_of seats) tables (takens threads runners)
-      (share-at ls r h left.0 left.1 (All-head parts account (accounts_of seats) own))
-      (shares-at yes threads runners all.1 (All-tail parts account (accounts_of seats) own))))
+    -- what each thread has done at the book, and what it has left, is its share
+    pub shares-at : channel.aggregate ≡ true → (threads : List (List Line))
+        (runners : List (Runner P)) → AllZip Takes threads runners
+        → AreMadeFor shape (accounts_of (at_place place (seats_of runners)))
+        → AreShares attributes script common.tree seat shape
+        (accounts_of (at_place place (seats_of runners))) (tables_at place (channels_of runners))
+        (takens threads runners)
+    shares-at does [] [] all made = shares-none attributes script common.tree seat shape
+    shares-at does [] (r ∷ runners) all made = absurd all
+    shares-at does (ls ∷ threads) [] all made = absurd all
+    shares-at does (ls ∷ threads) (r ∷ runners) all made =
+        let h : Takes ls r = all.0 in
+        let seats : List SeatOf = at_place place (seats_of runners) in
+        let tables : List TableValue = tables_at place (channels_of runners) in
+        let recs : List (List Rec) = takens (ls ∷ threads) (r ∷ runners) in
+        let account : Account TableValue = (books.view h.own).account in
+        let left = there h.c.table (h.aggregates ∙ does) in
+        let seats-are = seats-cons place r runners h.own h.seat_at in
+        let tables-are : tables_at place (channels_of (r ∷ runners)) ≡ left.0 ∷ tables =
+        tables-cons place r runners h.c h.channel_at
+        ∙ ap (λ (o : Option TableValue). cons_option o tables) left.1 in
+        let parts : Account TableValue → Type 0 = λ a. AreOfShape shape a.given in
+        let own : AreMadeFor shape (account ∷ accounts_of seats) =
+        subst (λ (ss : List SeatOf). AreMadeFor shape (accounts_of ss)) seats-are made in
+        subst (λ (ss : List SeatOf). AreShares attributes script common.tree seat shape
+        (accounts_of ss) (tables_at place (channels_of (r ∷ runners))) recs) (sym seats-are)
+        (subst (λ (ts : List TableValue). AreShares attributes script common.tree seat shape
+        (account ∷ accounts_of seats) ts recs) (sym tables-are)
+        (shares-cons attributes script common.tree seat shape account left.0 (taken ls r)
+        (accounts_of seats) tables (takens threads runners)
+        (share-at ls r h left.0 left.1 (All-head parts account (accounts_of seats) own))
+        (shares-at does threads runners all.1 (All-tail parts account (accounts_of seats) own))))

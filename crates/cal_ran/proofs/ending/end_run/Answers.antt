@@ -1,9 +1,12 @@
-use Rattle.std.proofs.Common.{ℕ, All, List, length, subst, sym, ap, ◌∙◌, refl}
+use Rattle.std.proofs.Common.{ℕ, All, List, drop, length, map, subst, sym, ap, ◌∙◌, arith, refl}
+use Rattle.std.proofs.lemmas.List.{take_at}
 use Rattle.cal_channel.specs.Places.{lists_of}
 use Rattle.cal_channel.specs.Values.{ChannelValue}
 use Rattle.cal_ending.specs.Joining.{AreInOrder}
 use Rattle.cal_handover.specs.Closing.{MayCloseAll}
+use Rattle.cal_handover.specs.Places.{emptied}
 use Rattle.cal_ran.proofs.HandedRuns.{handed-closable, handed-ended, handed-ran, handed-taken}
+use Rattle.cal_ran.proofs.Places.{length-left}
 use Rattle.cal_thread.specs.Hiring.{HasHired}
 use Rattle.cal_thread.specs.Threads.{HasSomeState}
 use Rattle.cal_thread.specs.declared.thread.Thread.{Thread}
@@ -47,6 +50,12 @@ returns-clause-ended g c =
     let lent = ap lists_of c.as_mut_slice.ensures.value in
     let closed = c.in_ok-tables.ensures.closed in
     let valid = c.requires.valid in
+    let new = c.close_books.new.channels in
+    let was = c.args.handed.channels.items in
+    let left = c.in_ok-tables.ensures.left in
+    let many = length-left new was
+    (left ∙ ap (λ cs. map (map emptied) (lists_of cs)) c.as_mut_slice.ensures.value) in
+    let ok = c.args.handed.channels.ok in
     record {
       script_is = refl;
       seat = c.in_ok-journal.ensures.seat;
@@ -69,5 +78,6 @@ returns-clause-ended g c =
             few = c.limits_law.ensures.few run.shared.common.script.now journal channel valid;
             small = c.limits_law.ensures.small run.shared.common.script.now journal channel valid;
           })
-          ? ?;
+          _ (ap lists_of (take_at new (drop (length new) was) c.args.handed.channels.len
+          (omega (arith, many, ok))) ∙ left);
     }

@@ -7,7 +7,7 @@ use Rattle.cal_script.specs.declared.script.Script.{Script}
 use Rattle.cal_ran.proofs.whole.run_script.Goals as goal
 
 pub new-requires : goal.new-requires
-new-requires g c κs within = c.valid_script_law.ensures c.args.script.now c.requires.script
+new-requires g c = c.valid_script_law.ensures c.args.script.now c.requires.script
 
 pub run_all-requires-clause-clocks : goal.run_all-requires-clause-clocks
 run_all-requires-clause-clocks g c κs within =

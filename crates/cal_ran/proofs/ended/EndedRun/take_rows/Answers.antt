@@ -8,8 +8,7 @@ use Rattle.cal_ran.proofs.ended.EndedRun.take_rows.Goals as goal
 
 pub take_rows-requires-clause-taken : goal.take_rows-requires-clause-taken
 take_rows-requires-clause-taken g c =
-    let ended = c.args.self.now in
-    (
+    let ended = c.args.self.now in (
       snapshots (script_of ended.shared) ended.journal,
       taken-lent ended _ _ c.requires.ended (ap lists_of c.as_slice.ensures.value)
           c.as_slice-2.ensures.value,
