@@ -7,7 +7,8 @@ use Rattle.std.specs.Str.{bytes_eq}
 use Rattle.std.proofs.lemmas.Bool.{leb-true}
 use Rattle.cal_value.specs.Reading.{uint_of}
 use Rattle.cal_call.specs.GenWords.{all_lines, gen_from, gen_of, gen_of_numbers, in_range, no_gen_options, not_too_many, number_in, number_once, value_behind, with_gen_word, with_lines, with_next_word, with_other_word, with_print, with_seed, with_threads}
-use Rattle.cal_call.specs.Words.{alone, asked, command_of, no_options, query_of, with_word}
+use Rattle.cal_call.specs.Words.{alone, asked, clock_of, command_of, journal_by, no_options, query_of}
+use Rattle.cal_call.specs.Words.{replay_by, with_word}
 use Rattle.cal_call.specs.declared.gen_words.GenOptions.{GenOptions}
 use Rattle.cal_call.specs.declared.words.Command.{Command}
 use Rattle.cal_call.specs.declared.words.Command.TheVariants as command
@@ -19,6 +20,8 @@ use Rattle.cal_call.specs.declared.words.Print.TheVariants as print
 abbrev pub IsFew : Result Command ℕ → Type 0
 IsFew (Ok (command.Gen seed threads lines printed)) = (threads ≤ 64) × (threads * lines ≤ 1048576)
 IsFew (Ok command.Serial) = Unit {0}
+IsFew (Ok (command.Replay real)) = Unit {0}
+IsFew (Ok (command.Journal real)) = Unit {0}
 IsFew (Ok (command.Query q join)) = Unit {0}
 IsFew (Err place) = Unit {0}
 
@@ -148,6 +151,14 @@ alone_few : (words : List (List ℕ)) → IsFew (alone command.Serial words)
 alone_few [] = tt
 alone_few (word ∷ words) = tt
 
+replay_few : (clock : Result Bool ℕ) → IsFew (replay_by clock)
+replay_few (Ok real) = tt
+replay_few (Err place) = tt
+
+journal_few : (clock : Result Bool ℕ) → IsFew (journal_by clock)
+journal_few (Ok real) = tt
+journal_few (Err place) = tt
+
 chosen : (first : Bool) (one other : Result Command ℕ) → IsFew one → IsFew other
     → IsFew (if first then one else other)
 chosen true one other a b = a
@@ -160,9 +171,13 @@ command_few : (words : List (List ℕ)) → IsFew (command_of words)
 command_few [] = tt
 command_few (word ∷ words) =
     chosen (bytes_eq word (codes "serial")) (alone command.Serial words) _ (alone_few words)
+    (chosen (bytes_eq word (codes "replay")) (replay_by (clock_of words)) _
+    (replay_few (clock_of words))
+    (chosen (bytes_eq word (codes "journal")) (journal_by (clock_of words)) _
+    (journal_few (clock_of words))
     (chosen (bytes_eq word (codes "query")) (query_of 1 no_options words) _ (query_few words 1 no_options)
     (chosen (bytes_eq word (codes "gen")) (gen_of 1 no_gen_options words) (Err 0)
-    (gen_few words 1 no_gen_options none_few) tt))
+    (gen_few words 1 no_gen_options none_few) tt))))
 
 -- what words ask for is within the limits of scripts
 pub asked_few : (words : List (String Global)) → IsFew (asked words)

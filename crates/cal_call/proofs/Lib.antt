@@ -1,9 +1,13 @@
+pub mod Again
 pub mod Deciding
 pub mod Decimals
 pub mod FewGenerated
 pub mod FewLines
 pub mod Fronts
+pub mod LeftClocks
 pub mod RunFaults
+pub mod ScriptFaults
 pub mod Serving
 pub mod ShownTexts
 pub mod Tasks
+pub mod WrittenRows

@@ -1,6 +1,6 @@
 -- What a call answers, and why, by what it did to the input and the output that it was lent.
 use Rattle.std.specs.Prelude.{◌≡◌, ◌≢◌, ◌⊎◌, ℕ, ◌<◌, ◌≤◌, ◌↔◌, List, [], length, Option, None, Some}
-use Rattle.std.specs.Prelude.{IfSome, Result, Ok, Err}
+use Rattle.std.specs.Prelude.{IfSome, Result, Ok, Err, Bool, true, false}
 use Rattle.cal_base.specs.Change.{Change, HasFailed}
 use Rattle.cal_base.specs.ReadEnds.{ReadsAll, StopsAt}
 use Rattle.cal_base.specs.Told.{Appends, AppendsFront}
@@ -12,7 +12,7 @@ use Rattle.cal_call.specs.Refusals.{refused_lines}
 use Rattle.cal_call.specs.declared.fault.Fault as faults
 use Rattle.cal_call.specs.declared.fault.Fault.TheVariants as fault
 use Rattle.cal_call.specs.declared.fault.InputKind.{InputKind}
-use Rattle.cal_call.specs.Tasks.{Task, GenTask, Refusal, by_word, by_text}
+use Rattle.cal_call.specs.Tasks.{Task, GenTask, ThreadsTask, Refusal, by_word, by_text}
 
 -- the most bytes that an input may have (ours)
 abbrev pub input_limit : ℕ
@@ -80,6 +80,18 @@ HasText task bytes refused = (length bytes ≤ input_limit)
     × (text : List ℕ) × (journal : Journal) × Makes task bytes text journal
     × (refused_lines journal ≡ refused)
 
+-- the text was written whole
+abbrev pub is_whole : Option faults.Fault → Bool
+is_whole None = true
+is_whole (Some (fault.LinesRefused lines)) = true
+is_whole (Some _) = false
+
+-- The answer says this of the bytes; and where they settle the journal, it comes exactly where this
+-- is so. The journal of a run in threads is settled by how these interleave.
+abbrev pub Says : Task → (answered said : Type 0) → Type 0
+Says (ThreadsTask shown real) answered said = answered → said
+Says _ answered said = answered ↔ said
+
 -- The answer is the one that these bytes call for: they are too many, or have a first fault, or a
 -- text, which is written whole unless the output fails, and then lines were refused or none.
 pub record IsDue (task : Task) (bytes : List ℕ) (output : Change)
@@ -87,9 +99,12 @@ pub record IsDue (task : Task) (bytes : List ℕ) (output : Change)
   pub too_long : (answer ≡ Some fault.TooLong) ↔ (input_limit < length bytes)
   pub bad_input : (line : ℕ) (kind : InputKind)
       → (answer ≡ Some (fault.BadInput line kind)) ↔ HasFault task bytes line kind
-  pub written : (HasFailed output → ⊥) → (answer ≡ None) ↔ HasText task bytes 0
+  pub whole : (HasFailed output → ⊥)
+      → (is_whole answer ≡ true) ↔ ((lines : ℕ) × HasText task bytes lines)
+  pub written : (HasFailed output → ⊥) → Says task (answer ≡ None) (HasText task bytes 0)
   pub refused : (HasFailed output → ⊥) → (lines : ℕ)
-      → (answer ≡ Some (fault.LinesRefused lines)) ↔ ((0 < lines) × HasText task bytes lines)
+      → Says task (answer ≡ Some (fault.LinesRefused lines))
+      ((0 < lines) × HasText task bytes lines)
 
 -- the bytes that a task works on, where its input tells them
 abbrev pub bytes_for : Task → Change → Option (List ℕ)

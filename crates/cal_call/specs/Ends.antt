@@ -5,6 +5,7 @@ use Rattle.std.specs.Global.{Global}
 use Rattle.cal_base.specs.Change.{Change, HasFailed}
 use Rattle.cal_base.specs.Told.{Appends, AppendsFront}
 use Rattle.cal_call.specs.Causes.{Answers, BytesDecide}
+use Rattle.cal_call.specs.Clocks.{AskedClocks}
 use Rattle.cal_call.specs.Faults.{report_of, status_of}
 use Rattle.cal_call.specs.Tasks.{tasked}
 use Rattle.cal_call.specs.Words.{told_about}
@@ -34,15 +35,19 @@ fault_of end.OutOfMemory = OutOfMemory
 
 -- The program ends with the status of an answer, whose line it tells: it shows the help or the
 -- version where the words ask for one of these texts, and else answers them as a command.
-pub record Serves (help version : List ℕ) (words : List (String Global)) (status : ℕ)
-    (input output errors : Change) : Type 0 where
+pub record Serves {K : Type 0} (help version : List ℕ) (words : List (String Global))
+    (status : ℕ) (input output errors : Change) (given : K → Option (List ℕ)) (was is : List K)
+    : Type 0 where
   pub answer : Option faults.Fault
   pub journal : Journal
   pub meant : status ≡ status_of answer
   pub told : Tells (report_of answer) errors
   pub shown : IfSome (told_about help version (map string_bytes words)) (λ text.
       Shows text output answer)
+  pub unasked : IfSome (told_about help version (map string_bytes words)) (λ text. is ≡ was)
   pub ran : IsNone (told_about help version (map string_bytes words))
       → Answers (tasked words) input output journal answer
   pub decided : IsNone (told_about help version (map string_bytes words))
       → BytesDecide (tasked words) input output answer
+  pub asked : IsNone (told_about help version (map string_bytes words))
+      → AskedClocks given (tasked words) journal answer was is

@@ -6,6 +6,8 @@ pub mod Refusals
 pub mod Runs
 pub mod Inputs
 pub mod Causes
+pub mod Clocks
+pub mod Again
 pub mod Ends
 pub mod Used
 pub mod Written

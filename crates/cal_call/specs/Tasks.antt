@@ -10,13 +10,17 @@ use Rattle.cal_call.specs.declared.fault.Fault.TheVariants as fault
 use Rattle.cal_call.specs.declared.words.Command as commands
 use Rattle.cal_call.specs.declared.words.Command.TheVariants as command
 use Rattle.cal_call.specs.declared.words.Print.{Print}
+use Rattle.cal_call.specs.declared.words.RunText.{RunText}
+use Rattle.cal_call.specs.declared.words.RunText.TheVariants as run_text
 
 -- what a command does: `gen` makes the script of a seed, with so many threads of so many lines, and
--- prints it or how large its run is; `query` answers a query, with the globals joined to each row or
--- not
+-- prints it or how large its run is; `replay` and `journal` run a script in threads, by a real clock
+-- or by the script's, and write the text of its records or that of its journal; `query` answers a
+-- query, with the globals joined to each row or not
 pub data Task : Type 0 where
   GenTask : ℕ → ℕ → ℕ → Print → Task
   SerialTask : Task
+  ThreadsTask : RunText → Bool → Task
   QueryTask : Query → Bool → Task
 
 -- why the words are refused: for the word at a place, or for what the text of a query says
@@ -32,6 +36,8 @@ query_task join (Ok query) = Ok (QueryTask query join)
 abbrev pub task_of : List (String Global) → commands.Command → Result Task Refusal
 task_of words (command.Gen seed threads lines print) = Ok (GenTask seed threads lines print)
 task_of words command.Serial = Ok SerialTask
+task_of words (command.Replay real) = Ok (ThreadsTask run_text.Records real)
+task_of words (command.Journal real) = Ok (ThreadsTask run_text.Journal real)
 task_of words (command.Query q join) = query_task join (reading (text_at words q))
 
 abbrev pub task_asked : List (String Global) → Result commands.Command ℕ → Result Task Refusal

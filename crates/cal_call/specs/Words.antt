@@ -4,17 +4,40 @@ use Rattle.std.specs.Prelude.{Option, None, Some, Result, Ok, Err, String, strin
 use Rattle.std.specs.Prelude.{unwrap_or, is_some, drop, nat_eq, slice_get, if◌then◌else◌}
 use Rattle.std.specs.List.{starts_with}
 use Rattle.std.specs.Global.{Global}
-use Rattle.std.specs.Option.{option_map_or}
+use Rattle.std.specs.Option.{ok_or, option_map_or}
 use Rattle.std.specs.Str.{bytes_eq}
 use Rattle.cal_call.specs.GenWords.{gen_of, no_gen_options}
 use Rattle.cal_call.specs.declared.words.Command.{Command}
-use Rattle.cal_call.specs.declared.words.Command.TheVariants.{Serial, Query}
+use Rattle.cal_call.specs.declared.words.Command.TheVariants.{Serial, Replay, Journal, Query}
 use Rattle.cal_call.specs.declared.words.Options.{Options}
 
 -- the command, where no word follows it; else the place of the first word that does
 abbrev pub alone : Command → List (List ℕ) → Result Command ℕ
 alone command [] = Ok command
 alone command (word ∷ words) = Err 1
+
+-- ---- replay [--clock=script|real], and so journal
+
+-- whether the clock that a word names is a real one, or else the script's
+abbrev pub clock_named : List ℕ → Option Bool
+clock_named word =
+    if bytes_eq word (codes "--clock=script") then Some false
+    else (if bytes_eq word (codes "--clock=real") then Some true else None)
+
+-- what the words behind the command name, by default the script's clock; or the place of the first
+-- that breaks the rule
+abbrev pub clock_of : List (List ℕ) → Result Bool ℕ
+clock_of [] = Ok false
+clock_of (word ∷ []) = ok_or (clock_named word) 1
+clock_of (word ∷ other ∷ words) = if is_some (clock_named word) then Err 2 else Err 1
+
+abbrev pub replay_by : Result Bool ℕ → Result Command ℕ
+replay_by (Ok real) = Ok (Replay real)
+replay_by (Err place) = Err place
+
+abbrev pub journal_by : Result Bool ℕ → Result Command ℕ
+journal_by (Ok real) = Ok (Journal real)
+journal_by (Err place) = Err place
 
 -- ---- query [--q=TEXT] [--globals=off|join]
 
@@ -64,8 +87,10 @@ abbrev pub command_of : List (List ℕ) → Result Command ℕ
 command_of [] = Err 0
 command_of (word ∷ words) =
     if bytes_eq word (codes "serial") then alone Serial words
+    else (if bytes_eq word (codes "replay") then replay_by (clock_of words)
+    else (if bytes_eq word (codes "journal") then journal_by (clock_of words)
     else (if bytes_eq word (codes "query") then query_of 1 no_options words
-    else (if bytes_eq word (codes "gen") then gen_of 1 no_gen_options words else Err 0))
+    else (if bytes_eq word (codes "gen") then gen_of 1 no_gen_options words else Err 0))))
 
 -- what the words behind the program's name ask for
 abbrev pub asked : List (String Global) → Result Command ℕ

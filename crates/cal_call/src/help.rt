@@ -11,6 +11,12 @@ usage: caliper COMMAND < INPUT > OUTPUT
 
     serial      reads a script and a journal behind it, or none, and writes the .cali text of the
                 run; without a journal its threads run one after another
+    replay [--clock=script|real]
+                reads a script, runs each of its threads as a thread, and writes the .cali text of
+                the run; what its threads saw of one another may differ from run to run. Time is
+                what the script's tick lines say, or with real what the machine's clock shows
+    journal [--clock=script|real]
+                the same, and writes the run's journal, by which serial writes that run again
     query [--q=TEXT] [--globals=off|join]
                 reads a .cali stream, and writes the answer of the query TEXT over its rows, a line
                 for each; with join the globals stand at the end of each row that the query sees

@@ -12,6 +12,7 @@ ghost use Rattle.cal_call.specs.Runs.{CannotUse, Uses};
 ghost use Rattle.cal_call.specs.Written.{IsWritten};
 
 use crate::counting::count_refused;
+use crate::made::Made;
 use crate::running::{plain_text, run_text};
 use crate::{Fault, InputKind, UsedJournal};
 use cal_lawful::{CoreEnd, check_journal};
@@ -19,15 +20,6 @@ use cal_run::{lawful_journal_law, plain_journal, plain_journal_law};
 use cal_script::{Journal, JournalText, Script};
 use cal_value::{OutOfMemory, Text};
 use std::alloc::Global;
-
-/// The text of a run's records, and the journal that the run used.
-#[derive(Drop)]
-pub struct Made {
-    pub text: Text,
-    pub journal: UsedJournal,
-    /// How many of its lines were refused.
-    pub refused: u64,
-}
 
 /// The text of a run's records, and how many of its lines were refused.
 #[derive(Drop)]

@@ -2,9 +2,10 @@
 //! faults and texts that a person meets; a file for each command.
 //!
 //! What stands on `run` is the promise of the whole program: with status 0 or 1 the output has
-//! grown by exactly the text that the command makes of its input, as `serial` the records of the
-//! run that a script and its journal give, and every other status has its cause. The program itself
-//! lends it the standard streams; what these hold, and where they lead, no contract can say.
+//! grown by exactly the text that the command makes of its input, as `replay` the records that the
+//! plain meaning gives for its script and for the journal which the run leaves, however its threads
+//! interleave; and every other status has its cause. The program itself lends it the standard
+//! streams; what these hold, and where they lead, no contract can say.
 #![tactic(auto)]
 
 mod asking;
@@ -16,13 +17,18 @@ mod gen_words;
 mod generating;
 mod help;
 mod journal;
+mod laws;
+mod made;
 mod outcome;
 mod query;
+mod replay;
 mod report;
 mod running;
+mod script;
 mod serial;
 mod showing;
 mod summarizing;
+mod threads;
 mod used;
 mod words;
 mod words_end;
@@ -31,9 +37,10 @@ pub use command_line::serve;
 pub use commands::{INPUT_LIMIT, run};
 pub use fault::{Fault, InputKind};
 pub use help::{HELP, VERSION, about};
+pub use laws::written_journal_law;
 pub use outcome::Outcome;
 pub use report::put_fault;
 pub use running::run_text;
 pub use used::UsedJournal;
-pub use words::{Command, Print, read_words};
+pub use words::{Command, Print, RunText, read_words};
 pub use words_end::WordsEnd;

@@ -1,5 +1,5 @@
 //! `serial`: the text of a run, by the script and the journal of an input.
-ghost use Rattle.std.specs.Prelude.{◌≡◌, false, true, IfErr, IfOk, Ok};
+ghost use Rattle.std.specs.Prelude.{◌≡◌, false, IfErr, IfOk, Ok};
 ghost use Rattle.cal_base.specs.Change.{Change, change_of};
 ghost use Rattle.cal_journal.specs.Both.{MeansBoth};
 ghost use Rattle.cal_script.specs.Valid.{IsRunnable};
@@ -9,9 +9,9 @@ ghost use Rattle.cal_call.specs.Inputs.{Makes};
 ghost use Rattle.cal_call.specs.Refusals.{no_journal, refused_lines};
 ghost use Rattle.cal_call.specs.Tasks.{SerialTask};
 
-use crate::journal::{Made, make_run};
+use crate::journal::make_run;
+use crate::made::{Made, write_made};
 use crate::outcome::Ended;
-use crate::showing::show;
 use crate::{Fault, INPUT_LIMIT, InputKind};
 use cal_base::{ReadEnd, Sink, Source, read_all};
 use cal_journal::{BothEnd, read_both};
@@ -35,26 +35,6 @@ pub fn serial<S: Source, W: Sink>(alloc: Global, input: &mut S, output: &mut W) 
             }
         }
         Err(fault) => Ended::without_journal(alloc, Some(fault)),
-    }
-}
-
-/// Writes the text of a run.
-fn write_made<W: Sink>(made: &Made, output: &mut W) -> Option<Fault>
-    requires { made.now.refused ≡ refused_lines made.now.journal }
-
-    // This is the answer to whatever input the text was made of.
-    ensures answers { (input : Change)
-        → ReadsInput input (λ bytes. Makes SerialTask bytes made.now.text made.now.journal)
-        → Answers (Ok SerialTask) input (change_of W.written W.faults output.old output.new)
-        made.now.journal result }
-    ensures writes { writes result ≡ true }
-{
-    match show(made.text.as_str(), output) {
-        Ok(()) if made.refused == 0 => None,
-        Ok(()) => Some(Fault::LinesRefused {
-            lines: made.refused,
-        }),
-        Err(fault) => Some(fault),
     }
 }
 
@@ -125,7 +105,7 @@ fn read_bytes(alloc: Global, bytes: &[u8]) -> Result<(Script, Option<JournalText
 
 /// Drops the input, shrunk first: where a big block is freed at once, glibc takes later ones from
 /// its heap, in which each that outgrows its place leaves a hole.
-fn give_back(mut bytes: Vec<u8>) {
+pub(crate) fn give_back(mut bytes: Vec<u8>) {
     bytes.truncate(1);
     bytes.shrink_to_fit();
 }

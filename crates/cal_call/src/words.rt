@@ -1,7 +1,8 @@
 //! The words of a command line, and the command that they ask for.
 ghost use Rattle.std.specs.Prelude.{◌≡◌, map, string_bytes};
 ghost use Rattle.std.specs.Option.{option_copied};
-ghost use Rattle.cal_call.specs.Words.{asked, given_once, no_options, q_text, query_of, text_at};
+ghost use Rattle.cal_call.specs.Words.{asked, clock_named, clock_of, given_once, journal_by};
+ghost use Rattle.cal_call.specs.Words.{no_options, q_text, query_of, replay_by, text_at};
 ghost use Rattle.cal_call.specs.Words.{with_join, with_q, with_word};
 
 use crate::gen_words::read_gen;
@@ -11,6 +12,15 @@ use crate::gen_words::read_gen;
 pub enum Command {
     /// Reads a script and a journal behind it, or none, and writes the `.cali` text of the run.
     Serial,
+    /// Reads a script, runs its threads by a real clock or by the script's, and writes the `.cali`
+    /// text of the run.
+    Replay {
+        real: bool,
+    },
+    /// Does the same, and writes the run's journal.
+    Journal {
+        real: bool,
+    },
     /// Reads a stream and lays out the answer of a query, with the globals joined to each row where
     /// that is asked. The text of the query stands in the word at the place `q`, if it is there.
     Query {
@@ -34,6 +44,15 @@ pub enum Print {
     Script,
     /// How large the run of its plain journal is.
     Summary,
+}
+
+/// Which text of a run in threads is written.
+#[derive(Clone, Copy, Debug, PartialEq, Eq)]
+pub enum RunText {
+    /// That of its records.
+    Records,
+    /// That of its journal.
+    Journal,
 }
 
 /// What the options of `query` say so far.
@@ -110,9 +129,55 @@ pub fn read_words(words: &[String]) -> Result<Command, u32>
     match command.as_str() {
         "serial" if others.is_empty() => Ok(Command::Serial),
         "serial" => Err(1),
+        "replay" => read_replay(others),
+        "journal" => read_journal(others),
         "query" => read_query(others),
         "gen" => read_gen(others),
         _ => Err(0),
+    }
+}
+
+/// The command of the words behind `replay`.
+fn read_replay(words: &[String]) -> Result<Command, u32>
+    ensures { result ≡ replay_by (clock_of (map string_bytes words.now)) }
+{
+    match clock_of(words) {
+        Ok(real) => Ok(Command::Replay { real }),
+        Err(place) => Err(place),
+    }
+}
+
+/// The command of the words behind `journal`.
+fn read_journal(words: &[String]) -> Result<Command, u32>
+    ensures { result ≡ journal_by (clock_of (map string_bytes words.now)) }
+{
+    match clock_of(words) {
+        Ok(real) => Ok(Command::Journal { real }),
+        Err(place) => Err(place),
+    }
+}
+
+/// Whether the words behind a command ask for a real clock, or the place of the first of them that
+/// breaks the word rule.
+fn clock_of(words: &[String]) -> Result<bool, u32>
+    ensures { result ≡ clock_of (map string_bytes words.now) }
+{
+    match words {
+        [] => Ok(false),
+        [word] => clock_named(word.as_str()).ok_or(1),
+        [word, ..] if clock_named(word.as_str()).is_some() => Err(2),
+        _ => Err(1),
+    }
+}
+
+/// Whether the clock that a word names is a real one.
+fn clock_named(word: &str) -> Option<bool>
+    ensures { result ≡ clock_named word.now }
+{
+    match word {
+        "--clock=script" => Some(false),
+        "--clock=real" => Some(true),
+        _ => None,
     }
 }
 

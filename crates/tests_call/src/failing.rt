@@ -6,11 +6,12 @@ use cal_base::MemSink;
 use cal_call::{Fault, put_fault};
 use cal_value::Seq;
 use std::alloc::Global;
+use std::random::RandomSource;
 use std::test::Fail;
 use std::thread::Threads;
 
 /// A call over the first script, whose reads of these numbers fail.
-fn call_with_reads<R: Threads + Sync>(
+fn call_with_reads<R: Threads + Sync + RandomSource>(
     rt: &R,
     alloc: Global,
     reads: Seq<u64>,

@@ -14,7 +14,11 @@ mod generated;
 #[cfg(test)]
 mod journals;
 #[cfg(test)]
+mod meetings;
+#[cfg(test)]
 mod queries;
+#[cfg(test)]
+mod replays;
 #[cfg(test)]
 mod rows;
 #[cfg(test)]

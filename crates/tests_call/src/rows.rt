@@ -4,6 +4,7 @@ use crate::calls::{call, sink};
 use crate::scripts::{ESCAPES, ESCAPES_TEXT, FIRST, FIRST_TEXT, NESTED, NESTED_TEXT};
 use cal_value::Seq;
 use std::process::Abort;
+use std::random::RandomSource;
 use std::test::Fail;
 use std::thread::Threads;
 
@@ -35,8 +36,18 @@ pub fn written_by(words: &'static [&'static str], script: &'static str, text: &'
 
 /// A row of `serial` that writes a text, and tells of lines that were refused.
 pub fn lines_refused(script: &'static str, text: &'static str, told: &'static str) -> Row {
+    lines_refused_by(&["serial"], script, text, told)
+}
+
+/// A row that writes a text, and tells of lines that were refused.
+pub fn lines_refused_by(
+    words: &'static [&'static str],
+    script: &'static str,
+    text: &'static str,
+    told: &'static str,
+) -> Row {
     Row {
-        words: &["serial"],
+        words,
         script,
         text,
         told,
@@ -61,7 +72,7 @@ pub fn refused(
 }
 
 /// Asserts that the calls of these rows leave what the rows say.
-pub fn assert_rows<R: Abort + AllocGlobal + Threads + Sync>(
+pub fn assert_rows<R: Abort + AllocGlobal + Threads + Sync + RandomSource>(
     rt: &R,
     rows: &[Row],
 ) -> Result<(), Fail> {
@@ -131,7 +142,7 @@ fn faults_are_told(rt: HostRuntime) -> Result<(), Fail> {
             3,
         ),
         refused(&[], FIRST, first, 2),
-        refused(&["replay"], FIRST, first, 2),
+        refused(&["live"], FIRST, first, 2),
         refused(&["--help"], FIRST, first, 2),
         refused(
             &["serial", "--clock=script"],

@@ -16,6 +16,16 @@ __rec=node,id=14,attr=13,data=main
 __rec=ctx,ref=14
 ";
 
+/// The journal of its run.
+pub const FIRST_JOURNAL: &str = "\
+journal script
+start 0 -
+line 0 1 done 0 -
+line 0 2 done 0 -
+line 0 3 done 0 -
+end
+";
+
 pub const ESCAPES: &str = "\
 attribute function string 276
 channel t trace

@@ -8,6 +8,8 @@ returns-in-Some-clause-served g c = record {
   meant = c.end.ensures.status;
   told = c.end.ensures.told;
   shown = rw (c.without_journal.ensures.fault) (search rules);
+  unasked = search rules;
   ran = search rules;
   decided = search rules;
+  asked = search rules;
 }

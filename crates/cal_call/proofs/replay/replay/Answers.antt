@@ -1,0 +1,22 @@
+use Rattle.cal_call.specs.Tasks.{ThreadsTask}
+use Rattle.cal_call.proofs.LeftClocks.{told_clocks}
+use Rattle.cal_call.proofs.replay.replay.Goals as goal
+
+pub returns-in-Ok-clause-answers : goal.returns-in-Ok-clause-answers
+returns-in-Ok-clause-answers g c =
+    c.write_made-fault.ensures.answers (ThreadsTask c.args.shown c.args.real) _ c.in-Ok.ensures.read
+
+pub returns-in-Ok-clause-asked : goal.returns-in-Ok-clause-asked
+returns-in-Ok-clause-asked g c =
+    told_clocks g.K.Clock.given _ _ _ _ c.write_made-fault.ensures.writes c.in-Ok.ensures.told
+
+-- the cause that the run gave
+pub returns-in-Err-clause-answers : goal.returns-in-Err-clause-answers
+returns-in-Err-clause-answers g c =
+    let empty = c.without_journal.ensures in
+    rw (empty.journal, empty.fault) (c.in-Err.ensures.caused _)
+
+pub returns-in-Err-clause-asked : goal.returns-in-Err-clause-asked
+returns-in-Err-clause-asked g c =
+    let empty = c.without_journal.ensures in
+    rw (empty.journal, empty.fault) c.in-Err.ensures.asked

@@ -1,0 +1,126 @@
+//! The text of a run in threads: that of its records, or that of its journal.
+ghost use Rattle.std.specs.Prelude.{◌≡◌, ◌≤◌, IfOk, length};
+ghost use Rattle.cal_ran.specs.Told.{HaveToldAll};
+ghost use Rattle.cal_run.specs.Lawful.{Lawful};
+ghost use Rattle.cal_script.specs.Reading.{IsValidScript};
+ghost use Rattle.cal_script.specs.Valid.{IsRunnable};
+ghost use Rattle.cal_call.specs.Inputs.{IsTextOf};
+ghost use Rattle.cal_call.specs.Refusals.{refused_lines};
+ghost use Rattle.cal_call.specs.declared.words.RunText.TheVariants as run_text;
+
+use crate::counting::count_refused;
+use crate::made::Made;
+use crate::{RunText, UsedJournal};
+use cal_base::{Clock, Gate};
+use cal_journal::print_journal;
+use cal_ran::run_script;
+use cal_replayed::{Replayed, replay_text};
+use cal_run::{Prober, lawful_journal_law};
+use cal_script::{Journal, Script};
+use cal_valid::valid_script_law;
+use cal_value::OutOfMemory;
+use std::alloc::Global;
+use std::hash::RandomState;
+use std::thread::Threads;
+
+/// Runs a script, each of its threads as a thread with the clock at its place, and makes this text
+/// of the run. An `Err` is want of memory: some lines may have run, and clocks may be lost.
+pub fn run_in_threads<R: Threads + Sync, P: Prober + Sync, K: Clock + Send + Drop, G: Gate + Sync>(
+    rt: &R,
+    alloc: Global,
+    hashers: RandomState,
+    script: &Script,
+    shown: RunText,
+    real: bool,
+    clocks: &mut Vec<K>,
+    gate: &G,
+    probes: &P,
+) -> Result<Made, OutOfMemory>
+    requires script { IsValidScript script.now }
+    requires clocks { 64 ≤ length clocks.old.items }
+    ensures lawful { IfOk result (λ made. Lawful script.now made.journal) }
+    ensures real { IfOk result (λ made. made.journal.real ≡ real) }
+    ensures text { IfOk result (λ made. IsTextOf shown script.now made.journal made.text) }
+    ensures refused { IfOk result (λ made. made.refused ≡ refused_lines made.journal) }
+    ensures told { IfOk result
+        (λ made. HaveToldAll K.given made.journal clocks.old.items clocks.new.items) }
+{
+    match shown {
+        RunText::Records => run_to_records(rt, alloc, hashers, script, real, clocks, gate, probes),
+        RunText::Journal => run_to_journal(rt, alloc, hashers, script, real, clocks, gate, probes),
+    }
+}
+
+/// The same, and makes the text of its records.
+fn run_to_records<R: Threads + Sync, P: Prober + Sync, K: Clock + Send + Drop, G: Gate + Sync>(
+    rt: &R,
+    alloc: Global,
+    hashers: RandomState,
+    script: &Script,
+    real: bool,
+    clocks: &mut Vec<K>,
+    gate: &G,
+    probes: &P,
+) -> Result<Made, OutOfMemory>
+    requires script { IsValidScript script.now }
+    requires clocks { 64 ≤ length clocks.old.items }
+    ensures lawful { IfOk result (λ made. Lawful script.now made.journal) }
+    ensures real { IfOk result (λ made. made.journal.real ≡ real) }
+    ensures text { IfOk result
+        (λ made. IsTextOf run_text.Records script.now made.journal made.text) }
+    ensures refused { IfOk result (λ made. made.refused ≡ refused_lines made.journal) }
+    ensures told { IfOk result
+        (λ made. HaveToldAll K.given made.journal clocks.old.items clocks.new.items) }
+{
+    valid_script_law();
+    match replay_text(rt, alloc, hashers, script, real, clocks, gate, probes) {
+        Ok(Replayed { text, journal }) => Ok(Made {
+            text,
+            refused: lawful_refused(script, &journal),
+            journal: UsedJournal::given(journal),
+        }),
+        Err(OutOfMemory) => Err(OutOfMemory),
+    }
+}
+
+/// The same, and makes the text of its journal.
+fn run_to_journal<R: Threads + Sync, P: Prober + Sync, K: Clock + Send + Drop, G: Gate + Sync>(
+    rt: &R,
+    alloc: Global,
+    hashers: RandomState,
+    script: &Script,
+    real: bool,
+    clocks: &mut Vec<K>,
+    gate: &G,
+    probes: &P,
+) -> Result<Made, OutOfMemory>
+    requires script { IsValidScript script.now }
+    requires clocks { 64 ≤ length clocks.old.items }
+    ensures lawful { IfOk result (λ made. Lawful script.now made.journal) }
+    ensures real { IfOk result (λ made. made.journal.real ≡ real) }
+    ensures text { IfOk result
+        (λ made. IsTextOf run_text.Journal script.now made.journal made.text) }
+    ensures refused { IfOk result (λ made. made.refused ≡ refused_lines made.journal) }
+    ensures told { IfOk result
+        (λ made. HaveToldAll K.given made.journal clocks.old.items clocks.new.items) }
+{
+    valid_script_law();
+    let journal = run_script(rt, alloc, hashers, script, real, clocks, gate, probes)?;
+    let text = print_journal(alloc, &journal)?;
+    Ok(Made {
+        text,
+        refused: lawful_refused(script, &journal),
+        journal: UsedJournal::given(journal),
+    })
+}
+
+/// How many lines of a lawful journal were refused.
+fn lawful_refused(script: &Script, journal: &Journal) -> u64
+    requires runnable { IsRunnable script.now }
+    requires lawful { Lawful script.now journal.now }
+    ensures { result ≡ refused_lines journal.now }
+{
+    let _ = script;
+    lawful_journal_law();
+    count_refused(journal)
+}
