@@ -20,7 +20,6 @@ use Rattle.cal_replay.specs.Workers.{script_of}
 use Rattle.cal_run.specs.Lawful.{IsKnown}
 use Rattle.cal_run.specs.Runs.{snapshots}
 use Rattle.cal_script.specs.declared.journal.Journal.{Journal}
-use Rattle.cal_script.specs.declared.journal.Placed.{Placed}
 use Rattle.cal_script.specs.declared.script.Channel.{Channel}
 use Rattle.cal_start.specs.FirstSeats.{AreFirstSeats}
 use Rattle.cal_start.specs.Runs.{IsRun}

@@ -10,7 +10,6 @@ use Rattle.cal_channel.specs.Values.{ChannelValue}
 use Rattle.cal_handover.specs.Places.{emptied, tables_at, tables_of}
 use Rattle.cal_keeping.specs.declared.runner.Runner.{Runner}
 use Rattle.cal_replay.specs.Flushing.{SeatOf}
-use Rattle.cal_table.specs.Tables.{TableValue}
 
 -- as many threads have channels as before, once the tables were taken out
 pub length-left : {Z : Type 0} (new was : List (Vec ChannelValue Z))

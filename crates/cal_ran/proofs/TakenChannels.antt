@@ -1,8 +1,8 @@
 -- What all threads have taken in one channel is what the plain meaning of a run gives there.
 use Rattle.std.proofs.Common.{◌≡◌, ℕ, ◌≤◌, ◌^◌, true, List, [], ◌∷◌, ◌++◌, length, map}
 use Rattle.std.proofs.Common.{refl, sym, ap, ◌∙◌, subst}
-use Rattle.std.specs.Prelude.{Option, Some, option_map, slice_get, zip}
-use Rattle.std.specs.List.{All, AllZip, Contains, flat_map}
+use Rattle.std.specs.Prelude.{Some, option_map, slice_get, zip}
+use Rattle.std.specs.List.{All, AllZip, flat_map}
 use Rattle.std.proofs.lemmas.List.Folds.{flat_map-map}
 use Rattle.std.proofs.lemmas.Option.{same_Some, slice_get-map}
 use Rattle.cal_book.specs.Seats as books
@@ -10,7 +10,6 @@ use Rattle.cal_channel.specs.Channels.{Counts}
 use Rattle.cal_channel.specs.Places.{at_place}
 use Rattle.cal_closing.proofs.Counting.{closed-counts}
 use Rattle.cal_closing.specs.Seats.{accounts_of}
-use Rattle.cal_context.proofs.ListLemmas.{Contains-number}
 use Rattle.cal_delivery.specs.Taken.{HasTable, HaveTaken}
 use Rattle.cal_filter.specs.Named.{HasSmallNumbers}
 use Rattle.cal_finish.specs.Ended.{HaveAllEnded, notes_of, threads_of}
@@ -33,7 +32,6 @@ use Rattle.cal_run.specs.Runs.{snapshots, taken_by_thread}
 use Rattle.cal_script.specs.declared.journal.Journal.{Journal}
 use Rattle.cal_script.specs.declared.journal.ThreadNote.{ThreadNote}
 use Rattle.cal_script.specs.declared.script.Channel.{Channel}
-use Rattle.cal_script.specs.declared.script.Line.{Line}
 use Rattle.cal_script.specs.declared.script.Script.{Script}
 use Rattle.cal_start.specs.Runs.{IsRun, shape_for}
 use Rattle.cal_start.specs.declared.run.Run.{Run}

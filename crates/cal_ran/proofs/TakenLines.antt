@@ -1,6 +1,6 @@
 -- What one thread has taken in a channel, as the first seat at the tree knows it in the end.
 use Rattle.std.proofs.Common.{◌≡◌, ℕ, List, [], sym, ap, ◌∙◌, subst, arith}
-use Rattle.std.specs.Prelude.{Option, Some, IfSome, is_some, option_map, slice_get}
+use Rattle.std.specs.Prelude.{Some, IfSome, is_some, option_map, slice_get}
 use Rattle.std.specs.List.{All}
 use Rattle.std.proofs.lemmas.Option.{get_or_from_slice_get, slice_get-map, slice_get_within}
 use Rattle.cal_book.specs.Seats as books
@@ -14,7 +14,6 @@ use Rattle.cal_notes.specs.Running.{previous_behind}
 use Rattle.cal_once.specs.declared.seat.RowSeat.{RowSeat}
 use Rattle.cal_process.specs.Operations.{history_of}
 use Rattle.cal_process.specs.declared.common.Common.{Common}
-use Rattle.cal_ran.proofs.ClosedRuns.{books-long}
 use Rattle.cal_ran.specs.Runs.{AreDone}
 use Rattle.cal_replay.specs.Channels.{HasShown}
 use Rattle.cal_replay.specs.Flushing.{BookOf, SeatOf}
@@ -29,7 +28,6 @@ use Rattle.cal_script.specs.declared.script.Script.{Script}
 use Rattle.cal_start.specs.Runs.{IsRun}
 use Rattle.cal_start.specs.declared.run.Run.{Run}
 use Rattle.cal_table.specs.Tables.{TableValue}
-use Rattle.cal_thread.specs.declared.thread.Thread.{Thread}
 use Rattle.cal_value.specs.declared.attribute.Attribute.{Attribute}
 use Rattle.cal_value.specs.declared.record.Rec.{Rec}
 use Rattle.cal_words.specs.declared.sort.NodeSort.{NodeSort}

@@ -1,5 +1,5 @@
 -- The traces of all threads in a channel, and their shares of its book, thread by thread.
-use Rattle.std.proofs.Common.{◌≡◌, ℕ, zero, suc, Bool, true, false, List, [], ◌∷◌, length, map}
+use Rattle.std.proofs.Common.{◌≡◌, ℕ, zero, suc, true, List, [], ◌∷◌, map}
 use Rattle.std.proofs.Common.{refl, sym, ap, ◌∙◌, subst}
 use Rattle.std.specs.Prelude.{Option, Some, None, IfSome, is_some, slice_get, zip}
 use Rattle.std.specs.List.{AllZip, cons_option}
@@ -132,7 +132,8 @@ module _ (attributes : List Attribute) (common : Common)
     share-at ls r h left is made =
         share-of common attributes r.worker.thread.tree seat shape h.c
         (books.view h.own).account.given left (taken ls r) h.last h.knows h.shown is made
-        (subst (λ (o : Option TableValue). IfSome o (λ (t : TableValue). t.shape ≡ shape)) is h.made)
+        (subst (λ (o : Option TableValue). IfSome o (λ (t : TableValue). t.shape ≡ shape)) is
+        h.made)
 
     -- what each thread has done at the book, and what it has left, is its share
     pub shares-at : channel.aggregate ≡ true → (threads : List (List Line))

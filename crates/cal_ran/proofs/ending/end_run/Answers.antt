@@ -58,6 +58,8 @@ returns-clause-ended g c =
     let ok = c.args.handed.channels.ok in
     record {
       script_is = refl;
+      runnable = c.requires.run.shared.common.runnable;
+      layout = c.requires.run.tree;
       seat = c.in_ok-journal.ensures.seat;
       lawful = c.ended_runners_law.ensures.lawful run.shared c.requires.handed.from journal
           c.requires.run.shared
