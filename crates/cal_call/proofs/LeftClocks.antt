@@ -69,7 +69,7 @@ pub makes_run : (shown : RunText) (real : Bool) (input : Change) (script : Scrip
     → IsTextOf shown script journal written
     → ReadsInput input (λ bytes. Makes (ThreadsTask shown real) bytes written journal)
 makes_run shown real input script journal written reads runs text =
-    (reads.0, reads.1, script, runs reads.0 reads.2, text)
+    (reads.0, reads.1, (script, runs reads.0 reads.2, text))
 
 -- memory ran out behind the reading
 pub ran_out_behind : (shown : RunText) (real : Bool) (input output : Change) (journal : Journal)

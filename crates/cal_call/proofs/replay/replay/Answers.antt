@@ -8,7 +8,8 @@ returns-in-Ok-clause-answers g c =
 
 pub returns-in-Ok-clause-asked : goal.returns-in-Ok-clause-asked
 returns-in-Ok-clause-asked g c =
-    told_clocks g.K.Clock.given _ _ _ _ c.write_made-fault.ensures.writes c.in-Ok.ensures.told
+    told_clocks g.K.Clock.given c.in-Ok.made.journal _ _ _ c.write_made-fault.ensures.writes
+    c.in-Ok.ensures.told
 
 -- the cause that the run gave
 pub returns-in-Err-clause-answers : goal.returns-in-Err-clause-answers
