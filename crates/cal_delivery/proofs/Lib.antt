@@ -1,0 +1,6 @@
+mod Numbering
+mod AtPlace
+mod OneChannel
+mod KeyedRows
+mod Rooms
+mod GroupRows

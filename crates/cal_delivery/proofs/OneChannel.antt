@@ -1,0 +1,197 @@
+-- What was taken in one channel stays so, and a thread's part of it.
+use Rattle.std.proofs.Common.{◌≡◌, ℕ, ◌+◌, ◌<◌, ◌≤◌, true, List, [], length, get_or, take, sym, ap}
+use Rattle.std.proofs.Common.{◌∙◌, subst, arith, refl, true≢false}
+use Rattle.std.specs.Prelude.{IfSome, None, Option, Some, is_some, slice_get}
+use Rattle.std.specs.List.{All, AllZip, flat_map}
+use Rattle.std.specs.declared.vec.Vec.{Vec}
+use Rattle.std.proofs.lemmas.List.{take_all}
+use Rattle.std.proofs.lemmas.List.Elements.{All-weaker}
+use Rattle.std.proofs.lemmas.Option.{IfSome_then, slice_get_read}
+use Rattle.cal_channel.proofs.LawLemmas.{counts-later, taken-later}
+use Rattle.cal_channel.specs.Channels.{IsTraced}
+use Rattle.cal_channel.specs.Places.{at_place, lists_of}
+use Rattle.cal_channel.specs.Traces.{ShownSnap}
+use Rattle.cal_channel.specs.Values.{ChannelValue}
+use Rattle.cal_context.proofs.ListLemmas.{IsFront-trans}
+use Rattle.cal_context.specs.Lists.{IsFront}
+use Rattle.cal_context.specs.Taking.{TakesMore}
+use Rattle.cal_context.specs.Tree as contexts
+use Rattle.cal_delivery.proofs.AtPlace.{many_there, there}
+use Rattle.cal_delivery.specs.OneChannel.{IsOwnTrace, IsTakenIn}
+use Rattle.cal_delivery.specs.Taken.{HasTable, HasTrace, IsTaken}
+use Rattle.cal_filter.proofs.Zips.{get_or-inside, zip_length, zip_weaker}
+use Rattle.cal_once.specs.Seats.{view}
+use Rattle.cal_once.specs.Views.{KnowsMore}
+use Rattle.cal_once.specs.declared.seat.RowSeat.{RowSeat}
+use Rattle.cal_records.proofs.TakingLemmas.{taken-more}
+use Rattle.cal_results.specs.Tracing.{TraceMeans}
+use Rattle.cal_script.specs.declared.script.Channel.{Channel}
+use Rattle.cal_script.specs.declared.script.Script.{Script}
+use Rattle.cal_table.specs.Tables.{TableValue}
+use Rattle.cal_tree.specs.declared.tree.Tree.{Tree}
+use Rattle.cal_value.specs.declared.attribute.Attribute.{Attribute}
+use Rattle.cal_value.specs.declared.record.Rec.{Rec}
+use Rattle.cal_words.specs.declared.sort.NodeSort.{NodeSort}
+
+-- ---- a seat that learns, and a context that grows
+
+module _ (script : Script) (tree : Tree) (was is : RowSeat NodeSort)
+    (more : KnowsMore (view was) (view is)) where
+  module _ (attributes : List Attribute) (channel : Channel) where
+    trace_later : (c : ChannelValue) (taken : List Rec)
+        → HasTrace attributes script tree was channel c taken
+        → HasTrace attributes script tree is channel c taken
+    trace_later c taken h =
+        let alone : ChannelValue =
+        record { previous = c.previous; trace = c.trace; table = None } in
+        record {
+          has = h.has;
+          means = (taken-later attributes script tree was is more alone taken []
+              (record { trace = h.means; table = tt })).trace;
+        }
+
+    table_later : (table : TableValue) (recs : List Rec)
+        → HasTable attributes script tree was channel table recs
+        → HasTable attributes script tree is channel table recs
+    table_later table recs h = record {
+      hashers = h.hashers;
+      shape = h.shape;
+      counts = counts-later attributes script tree was is more recs table h.counts;
+    }
+
+  pub taken_in_later : (old new : contexts.Tree) → IsFront old.attributes new.attributes
+      → (channel : Channel) (kept : List ChannelValue) (table : TableValue) (recs : List Rec)
+      → IsTakenIn old script tree was channel kept table recs
+      → IsTakenIn new script tree is channel kept table recs
+  taken_in_later old new front channel kept table recs h = record {
+    attributes = h.attributes;
+    declared = h.declared;
+    numbered = IsFront-trans h.attributes old.attributes new.attributes h.numbered front;
+    apart = h.apart;
+    taken = record {
+      takens = h.taken.takens;
+      whole = h.taken.whole;
+      traces = zip_weaker (HasTrace h.attributes script tree was channel)
+          (HasTrace h.attributes script tree is channel) (trace_later h.attributes channel) kept
+          h.taken.takens h.taken.traces;
+      counted = λ on. table_later h.attributes channel table recs (h.taken.counted on);
+      known = h.taken.known;
+      trace = h.taken.trace;
+      few = h.taken.few;
+      small = h.taken.small;
+    };
+  }
+
+-- ---- one of the channels
+
+module _ (script : Script) (tree : Tree) (seat : RowSeat NodeSort) (context : contexts.Tree)
+    (of : Channel → List Rec) (channels : List (List ChannelValue)) (tables : List TableValue)
+    (h : IsTaken script tree seat context of channels tables) where
+  taken_at : (place : ℕ) (channel : Channel) (table : TableValue)
+      → slice_get script.channels place ≡ Some channel → slice_get tables place ≡ Some table
+      → IsTakenIn context script tree seat channel (at_place place channels) table (of channel)
+  taken_at place channel table at_channel at_table = record {
+    attributes = h.attributes;
+    declared = h.declared;
+    numbered = h.numbered;
+    apart = h.apart;
+    taken = h.taken.each place channel table at_channel at_table;
+  }
+
+  -- what was taken in the channel that is read at a place, with the table there
+  pub taken_read : (declared : List Channel) → declared ≡ script.channels → (place : ℕ)
+      (channel : Channel) (table : TableValue) → place < length declared
+      → channel ≡ get_or declared place channel → table ≡ get_or tables place table
+      → IsTakenIn context script tree seat channel (at_place place channels) table (of channel)
+  taken_read declared same place channel table within channel_is table_is =
+      let less : place < length script.channels =
+      subst (λ (cs : List Channel). place < length cs) same within in
+      taken_at place channel table
+      (slice_get_read script.channels (length script.channels) place channel refl less
+      (channel_is ∙ ap (λ (cs : List Channel). get_or cs place channel) same))
+      (slice_get_read tables (length script.channels) place table (sym h.taken.many) less table_is)
+
+  -- each thread has it
+  pub each_reaches : (place : ℕ) → place < length script.channels
+      → All (λ (own : List ChannelValue). place < length own) channels
+  each_reaches place less = All-weaker
+      (λ (own : List ChannelValue). length own ≡ length script.channels)
+      (λ (own : List ChannelValue). place < length own)
+      (λ own long. omega (arith, long, less)) channels h.taken.own
+
+-- ---- threads' parts
+
+-- what threads have taken so far was taken, and so was what the next one has
+pub parts_more : (had then has : List Rec → Type 0) (parts : List (List Rec)) (i : ℕ)
+    → i < length parts
+    → TakesMore had then (flat_map (λ (part : List Rec). part) (take i parts))
+    → TakesMore then has (get_or parts i [])
+    → TakesMore had has (flat_map (λ (part : List Rec). part) (take (i + 1) parts))
+parts_more had then has parts i less so_far next = taken-more (λ (part : List Rec). part) had then
+    has parts i (get_or parts i []) less (get_or-inside parts i [] (get_or parts i []) less) so_far
+    next
+
+-- a channel has no trace and means one
+pub no_trace : (own : ChannelValue) → is_some own.trace ≡ true → None ≡ own.trace → ⊥
+no_trace own has is = true≢false (sym has ∙ ap is_some (sym is))
+
+-- a trace that is there means the records
+pub trace_means : (context : contexts.Tree) (script : Script) (tree : Tree)
+    (seat : RowSeat NodeSort) (own : ChannelValue) (recs : List Rec) (snaps : List ShownSnap)
+    → IsOwnTrace context script tree seat own recs → Some snaps ≡ own.trace
+    → TraceMeans context script tree seat snaps recs
+trace_means context script tree seat own recs snaps h is =
+    subst (λ (o : Option (List ShownSnap)). IfSome o
+    (λ (s : List ShownSnap). TraceMeans context script tree seat s recs)) (sym is) h.means
+
+module _ (context : contexts.Tree) (script : Script) (tree : Tree) (seat : RowSeat NodeSort)
+    (channel : Channel) where
+  -- the script's attributes are the first of the context
+  pub script_named : (kept : List ChannelValue) (table : TableValue) (recs : List Rec)
+      → IsTakenIn context script tree seat channel kept table recs
+      → IsFront script.attributes context.attributes
+  script_named kept table recs h = IsFront-trans script.attributes h.attributes context.attributes
+      h.declared h.numbered
+
+  module _ {Z : Type 0} (on : channel.trace ≡ true) (place : ℕ)
+      (lists : List (Vec ChannelValue Z)) (table : TableValue) (recs : List Rec)
+      (reach : All (λ (own : List ChannelValue). place < length own) (lists_of lists))
+      (h : IsTakenIn context script tree seat channel (at_place place (lists_of lists)) table
+      recs) where
+    -- a thread's trace means its part
+    pub own_trace : (i : ℕ) (own : Vec ChannelValue Z) (x : ChannelValue) → i < length lists
+        → own ≡ get_or lists i own → x ≡ get_or own.items place x
+        → IsOwnTrace context script tree seat x (get_or h.taken.takens i [])
+    own_trace i own x less own_is x_is =
+        let part = get_or h.taken.takens i [] in
+        let has = there place (HasTrace h.attributes script tree seat channel) lists
+        h.taken.takens i own x [] reach h.taken.traces less own_is x_is in
+        record {
+          has = has.has ∙ on;
+          means = IfSome_then x.trace
+              {P = λ (snaps : List ShownSnap).
+              AllZip (IsTraced h.attributes script tree seat) snaps part}
+              {Q = λ (snaps : List ShownSnap). TraceMeans context script tree seat snaps part}
+              has.means
+              (λ snaps traced. record {
+                attributes = h.attributes;
+                front = h.numbered;
+                traced = traced;
+              });
+        }
+
+    -- each thread has one
+    pub many_parts : length h.taken.takens ≡ length lists
+    many_parts =
+        let none : ChannelValue = record { previous = 0; trace = None; table = None } in
+        sym (zip_length (HasTrace h.attributes script tree seat channel)
+        (at_place place (lists_of lists)) h.taken.takens h.taken.traces)
+        ∙ many_there place lists none reach
+
+    -- and all of them are the whole
+    pub all_parts : (i : ℕ) → length lists ≤ i
+        → flat_map (λ (part : List Rec). part) (take i h.taken.takens) ≡ recs
+    all_parts i all =
+        let many = many_parts in
+        ap (flat_map (λ (part : List Rec). part))
+        (take_all i h.taken.takens (omega (arith, many, all))) ∙ h.taken.whole
