@@ -1,6 +1,7 @@
-mod Numbering
+mod KeyNumbers
 mod AtPlace
 mod OneChannel
+mod OwnTraces
 mod KeyedRows
 mod Rooms
 mod GroupRows

@@ -1,4 +1,4 @@
--- What was taken in one channel stays so, and a thread's part of it.
+-- What was taken in one channel stays so.
 use Rattle.std.proofs.Common.{◌≡◌, ℕ, ◌+◌, ◌<◌, ◌≤◌, true, List, [], length, get_or, take, sym, ap}
 use Rattle.std.proofs.Common.{◌∙◌, subst, arith, refl, true≢false}
 use Rattle.std.specs.Prelude.{IfSome, None, Option, Some, is_some, slice_get}
@@ -38,7 +38,7 @@ use Rattle.cal_words.specs.declared.sort.NodeSort.{NodeSort}
 module _ (script : Script) (tree : Tree) (was is : RowSeat NodeSort)
     (more : KnowsMore (view was) (view is)) where
   module _ (attributes : List Attribute) (channel : Channel) where
-    trace_later : (c : ChannelValue) (taken : List Rec)
+    pub trace_later : (c : ChannelValue) (taken : List Rec)
         → HasTrace attributes script tree was channel c taken
         → HasTrace attributes script tree is channel c taken
     trace_later c taken h =
@@ -119,79 +119,10 @@ module _ (script : Script) (tree : Tree) (seat : RowSeat NodeSort) (context : co
       (λ (own : List ChannelValue). place < length own)
       (λ own long. omega (arith, long, less)) channels h.taken.own
 
--- ---- threads' parts
-
--- what threads have taken so far was taken, and so was what the next one has
-pub parts_more : (had then has : List Rec → Type 0) (parts : List (List Rec)) (i : ℕ)
-    → i < length parts
-    → TakesMore had then (flat_map (λ (part : List Rec). part) (take i parts))
-    → TakesMore then has (get_or parts i [])
-    → TakesMore had has (flat_map (λ (part : List Rec). part) (take (i + 1) parts))
-parts_more had then has parts i less so_far next = taken-more (λ (part : List Rec). part) had then
-    has parts i (get_or parts i []) less (get_or-inside parts i [] (get_or parts i []) less) so_far
-    next
-
--- a channel has no trace and means one
-pub no_trace : (own : ChannelValue) → is_some own.trace ≡ true → None ≡ own.trace → ⊥
-no_trace own has is = true≢false (sym has ∙ ap is_some (sym is))
-
--- a trace that is there means the records
-pub trace_means : (context : contexts.Tree) (script : Script) (tree : Tree)
-    (seat : RowSeat NodeSort) (own : ChannelValue) (recs : List Rec) (snaps : List ShownSnap)
-    → IsOwnTrace context script tree seat own recs → Some snaps ≡ own.trace
-    → TraceMeans context script tree seat snaps recs
-trace_means context script tree seat own recs snaps h is =
-    subst (λ (o : Option (List ShownSnap)). IfSome o
-    (λ (s : List ShownSnap). TraceMeans context script tree seat s recs)) (sym is) h.means
-
-module _ (context : contexts.Tree) (script : Script) (tree : Tree) (seat : RowSeat NodeSort)
-    (channel : Channel) where
-  -- the script's attributes are the first of the context
-  pub script_named : (kept : List ChannelValue) (table : TableValue) (recs : List Rec)
-      → IsTakenIn context script tree seat channel kept table recs
-      → IsFront script.attributes context.attributes
-  script_named kept table recs h = IsFront-trans script.attributes h.attributes context.attributes
-      h.declared h.numbered
-
-  module _ {Z : Type 0} (on : channel.trace ≡ true) (place : ℕ)
-      (lists : List (Vec ChannelValue Z)) (table : TableValue) (recs : List Rec)
-      (reach : All (λ (own : List ChannelValue). place < length own) (lists_of lists))
-      (h : IsTakenIn context script tree seat channel (at_place place (lists_of lists)) table
-      recs) where
-    -- a thread's trace means its part
-    pub own_trace : (i : ℕ) (own : Vec ChannelValue Z) (x : ChannelValue) → i < length lists
-        → own ≡ get_or lists i own → x ≡ get_or own.items place x
-        → IsOwnTrace context script tree seat x (get_or h.taken.takens i [])
-    own_trace i own x less own_is x_is =
-        let part = get_or h.taken.takens i [] in
-        let has = there place (HasTrace h.attributes script tree seat channel) lists
-        h.taken.takens i own x [] reach h.taken.traces less own_is x_is in
-        record {
-          has = has.has ∙ on;
-          means = IfSome_then x.trace
-              {P = λ (snaps : List ShownSnap).
-              AllZip (IsTraced h.attributes script tree seat) snaps part}
-              {Q = λ (snaps : List ShownSnap). TraceMeans context script tree seat snaps part}
-              has.means
-              (λ snaps traced. record {
-                attributes = h.attributes;
-                front = h.numbered;
-                traced = traced;
-              });
-        }
-
-    -- each thread has one
-    pub many_parts : length h.taken.takens ≡ length lists
-    many_parts =
-        let none : ChannelValue = record { previous = 0; trace = None; table = None } in
-        sym (zip_length (HasTrace h.attributes script tree seat channel)
-        (at_place place (lists_of lists)) h.taken.takens h.taken.traces)
-        ∙ many_there place lists none reach
-
-    -- and all of them are the whole
-    pub all_parts : (i : ℕ) → length lists ≤ i
-        → flat_map (λ (part : List Rec). part) (take i h.taken.takens) ≡ recs
-    all_parts i all =
-        let many = many_parts in
-        ap (flat_map (λ (part : List Rec). part))
-        (take_all i h.taken.takens (omega (arith, many, all))) ∙ h.taken.whole
+-- the script's attributes are the first of the context
+pub script_named : (context : contexts.Tree) (script : Script) (tree : Tree)
+    (seat : RowSeat NodeSort) (channel : Channel) (kept : List ChannelValue) (table : TableValue)
+    (recs : List Rec) → IsTakenIn context script tree seat channel kept table recs
+    → IsFront script.attributes context.attributes
+script_named context script tree seat channel kept table recs h =
+    IsFront-trans script.attributes h.attributes context.attributes h.declared h.numbered

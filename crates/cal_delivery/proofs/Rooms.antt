@@ -1,7 +1,7 @@
 -- The rows of a channel's table are within the limits of numbers.
 use Rattle.std.proofs.Common.{◌≡◌, ℕ, suc, ◌+◌, ◌<◌, ◌≤◌, ◌^◌, Bool, true, false, List, [], ◌∷◌, ◌++◌}
 use Rattle.std.proofs.Common.{length, filter, refl, sym, ap, ◌∙◌, subst, arith, if◌then◌else◌}
-use Rattle.std.specs.List.{All, AllByRecursion}
+use Rattle.std.specs.List.{All, AllByRecursion, list_any}
 use Rattle.std.proofs.lemmas.List.Elements.{All-filter, All-from_recursion, recursion_from_All}
 use Rattle.cal_agg.specs.Numbers.{IsWithin}
 use Rattle.cal_agg.specs.declared.row.AggRow.{AggRow}
@@ -10,6 +10,7 @@ use Rattle.cal_filter.specs.Named.{HasSmallNumbers}
 use Rattle.cal_groups.specs.ContextRows.{HasRoom}
 use Rattle.cal_profile.proofs.Lists.{all-filter, all_weaker}
 use Rattle.cal_profile.specs.TableRows.{AreRowsOf, IsRowOf, KeyedRow, row_over, table_key, with_key}
+use Rattle.cal_rowset.specs.Texts.{is_same}
 use Rattle.cal_script.specs.declared.script.ChannelQuery.{ChannelQuery}
 use Rattle.cal_value.specs.ExactOrder.{exact_decides}
 use Rattle.cal_value.specs.Flat.{flat, joined}
@@ -57,16 +58,17 @@ module _ (channel : ChannelQuery) where
   key_small : (m : Rec) → HasSmallNumbers m → HasSmallNumbers (table_key channel m)
   key_small m small = All-from_recursion (λ (e : Entry). IsSmall e.value)
       (flat (table_key channel m))
-      (all-behind (λ (e : Entry). IsSmall e.value) _ (joined m.paths) m.imms
+      (all-behind (λ (e : Entry). IsSmall e.value)
+      (λ (e : Entry). list_any (is_same e.attr.name) channel.keys) (joined m.paths) m.imms
       (recursion_from_All (λ (e : Entry). IsSmall e.value) (flat m) small))
 
   module _ (recs : List Rec) (few : length recs ≤ 2 ^ 20) (small : All HasSmallNumbers recs) where
     row_room : (row : KeyedRow) → IsRowOf channel recs row → HasRoom row
     row_room row is =
-        let with : Rec → Bool = λ m. is_group (table_key channel m) row.key in
-        let one = some_pass HasSmallNumbers with recs
+        let keyed_so : Rec → Bool = λ m. is_group (table_key channel m) row.key in
+        let one = some_pass HasSmallNumbers keyed_so recs
         (recursion_from_All HasSmallNumbers recs small) is.some in
-        let less = few_pass with recs in
+        let less = few_pass keyed_so recs in
         record {
           count = subst (λ (held : AggRow). IsWithin 40 held.count) (sym is.held)
               (omega (arith, less, few));

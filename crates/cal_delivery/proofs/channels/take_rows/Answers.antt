@@ -25,32 +25,29 @@ loop-place-init g c = record {
 pub bounds-tables-place : goal.bounds-tables-place
 bounds-tables-place g c =
     let test = c.loop-place-test.true in
-    let end = c.len-place-end.ensures in
     let all = ap (λ (cs : List Channel). length cs) c.as_slice-declared.ensures in
     let many = c.requires.taken.1.taken.many in
-    omega (arith, test, end, all, many)
+    omega (arith, test, all, many)
 
 pub take_channel-requires-clause-within : goal.take_channel-requires-clause-within
 take_channel-requires-clause-within g c =
     let test = c.loop-place-test.true in
-    let end = c.len-place-end.ensures in
     let all = ap (λ (cs : List Channel). length cs) c.as_slice-declared.ensures in
     each_reaches c.args.script.now c.args.tree.now c.args.seat.now c.args.context.now
     c.requires.taken.0 (lists_of c.args.channels.now) c.args.tables.now c.requires.taken.1
-    c.loop-place.place (omega (arith, test, end, all))
+    c.loop-place.place (omega (arith, test, all))
 
 pub take_channel-requires-clause-taken : goal.take_channel-requires-clause-taken
 take_channel-requires-clause-taken g c =
     let inv = c.loop-place.invariant in
     let test = c.loop-place-test.true in
-    let end = c.len-place-end.ensures in
     let declared = c.as_slice-declared.result.now in
     let channel = c.index-declared-place.result in
     let table = c.index-tables-place.result in
     let place = c.loop-place.place in
     let lists = lists_of c.args.channels.now in
     let of = c.requires.taken.0 in
-    let less : place < length declared = omega (arith, test, end) in
+    let less : place < length declared = omega (arith, test) in
     let here = taken_read c.args.script.now c.args.tree.now c.args.seat.now c.args.context.now of
     lists c.args.tables.now c.requires.taken.1 declared c.as_slice-declared.ensures place channel
     table less c.index-declared-place.is c.index-tables-place.is in (
@@ -65,7 +62,6 @@ loop-place-preserved g c =
     let inv = c.loop-place.invariant in
     let done = c.take_channel.ensures in
     let test = c.loop-place-test.true in
-    let end = c.len-place-end.ensures in
     let declared = c.as_slice-declared.result.now in
     let all = c.as_slice-declared.ensures in
     let channel = c.index-declared-place.result in
@@ -74,7 +70,7 @@ loop-place-preserved g c =
     let lists = lists_of c.args.channels.now in
     let old = c.loop-place.context in
     let new = c.take_channel.new.context in
-    let less : place < length declared = omega (arith, test, end) in
+    let less : place < length declared = omega (arith, test) in
     let has = g.T.Taker.has_taken in
     record {
       seat = done.seat;
@@ -100,11 +96,10 @@ loop-place-preserved g c =
 pub returns-clause-taken : goal.returns-clause-taken
 returns-clause-taken g c of taken =
     let test = c.loop-place-test.false in
-    let end = c.len-place-end.ensures in
     let all = ap (λ (cs : List Channel). length cs) c.as_slice-declared.ensures in
     let has = g.T.Taker.has_taken in
     subst (λ (cs : List Channel). TakesMore (has c.args.taker.now c.args.context.now)
     (has c.loop-place.taker c.loop-place.context)
     (flat_map (λ (c : Channel). rows_of c (of c)) cs))
-    (take_all c.loop-place.place c.args.script.now.channels (omega (arith, test, end, all)))
+    (take_all c.loop-place.place c.args.script.now.channels (omega (arith, test, all)))
     (c.loop-place.invariant.taken of taken)

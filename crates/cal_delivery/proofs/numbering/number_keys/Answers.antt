@@ -1,7 +1,7 @@
 use Rattle.std.proofs.Common.{◌<◌, ◌∙◌, length, sym, subst, arith}
 use Rattle.std.specs.List.{All}
 use Rattle.cal_context.proofs.CallerLemmas.{Grows-trans}
-use Rattle.cal_delivery.proofs.Numbering.{key_can_later, keys_more}
+use Rattle.cal_delivery.proofs.KeyNumbers.{key_can_later, keys_more}
 use Rattle.cal_delivery.specs.KeyNodes.{CanNumberKey}
 use Rattle.cal_nodes.specs.Numbers.{CanNumber, IsNumbered}
 use Rattle.cal_once.proofs.Learning.{learns_then}

@@ -4,8 +4,9 @@ use Rattle.cal_channel.specs.Places.{at_place, lists_of}
 use Rattle.cal_context.proofs.CallerLemmas.{Grows-refl, Grows-trans}
 use Rattle.cal_context.proofs.ListLemmas.{IsFront-trans}
 use Rattle.cal_context.specs.Taking.{TakesMore}
-use Rattle.cal_delivery.proofs.OneChannel.{all_parts, many_parts, own_trace, parts_more}
-use Rattle.cal_delivery.proofs.OneChannel.{script_named, taken_in_later}
+use Rattle.cal_delivery.proofs.AtPlace.{reaches}
+use Rattle.cal_delivery.proofs.OneChannel.{script_named}
+use Rattle.cal_delivery.proofs.OwnTraces.{all_parts, many_parts, own_trace, parts_more}
 use Rattle.cal_once.proofs.Learning.{learns_nothing, learns_then}
 use Rattle.cal_once.specs.Seats.{view}
 use Rattle.cal_records.proofs.TakingLemmas.{takes-none}
@@ -19,6 +20,15 @@ loop-own-init g c = record {
   numbered = c.requires.numbered;
   taken = λ table recs h. takes-none (g.T.Taker.has_taken c.args.taker.now c.args.context.now);
 }
+
+pub index-requires : goal.index-requires
+index-requires g c =
+    let test = c.loop-own-test.true in
+    let own = c.own-item.result in
+    let within = reaches c.args.place c.args.channels.now c.loop-own.own-index own
+    c.requires.within (omega arith) c.own-item.is in
+    let ok = own.ok in
+    omega (arith, within, ok)
 
 pub take_own_trace-requires-clause-named : goal.take_own_trace-requires-clause-named
 take_own_trace-requires-clause-named g c =
@@ -34,21 +44,15 @@ take_own_trace-requires-clause-own g c =
     let inv = c.loop-own.invariant in
     let test = c.loop-own-test.true in
     let on : c.args.channel.now.trace ≡ true = cc in
-    let script = c.args.script.now in
-    let tree = c.args.tree.now in
-    let channel = c.args.channel.now in
-    let table = c.requires.taken.0 in
-    let recs = c.requires.taken.1 in
-    let kept = at_place c.args.place (lists_of c.args.channels.now) in
     let i = c.loop-own.own-index in
     let less : i < length c.args.channels.now = omega arith in
-    let later = taken_in_later script tree c.args.seat.now c.loop-own.seat inv.learns.more
-    c.args.context.now c.loop-own.context inv.grows.attributes channel kept table recs
-    c.requires.taken.2 in (
-      get_or later.taken.takens i [],
-      own_trace c.loop-own.context script tree c.loop-own.seat channel on c.args.place
-          c.args.channels.now table recs c.requires.within later i c.own-item.result
-          c.index.result.now less c.own-item.is c.index.ensures.value,
+    let h = c.requires.taken.2 in (
+      get_or h.taken.takens i [],
+      own_trace c.args.script.now c.args.tree.now c.args.seat.now c.args.context.now
+          c.args.channel.now on c.args.place c.args.channels.now c.requires.taken.0
+          c.requires.taken.1 c.requires.within h c.loop-own.seat inv.learns.more
+          c.loop-own.context inv.grows.attributes i c.own-item.result c.index.result.now less
+          c.own-item.is c.index.ensures,
     )
 
 pub loop-own-preserved : goal.loop-own-preserved
@@ -59,9 +63,8 @@ loop-own-preserved g c =
     let on : c.args.channel.now.trace ≡ true = cc in
     let script = c.args.script.now in
     let tree = c.args.tree.now in
-    let channel = c.args.channel.now in
+    let start = c.args.context.now in
     let old = c.loop-own.context in
-    let kept = at_place c.args.place (lists_of c.args.channels.now) in
     let i = c.loop-own.own-index in
     let less : i < length c.args.channels.now = omega arith in
     let has = g.T.Taker.has_taken in
@@ -69,17 +72,17 @@ loop-own-preserved g c =
       seat = done.seat;
       learns = learns_then (view c.args.seat.now) (view c.loop-own.seat)
           (view c.take_own_trace.new.seat) inv.learns done.learns;
-      grows = Grows-trans c.args.context.now old c.take_own_trace.new.context inv.grows done.grows;
+      grows = Grows-trans start old c.take_own_trace.new.context inv.grows done.grows;
       numbered = done.numbered;
       taken = λ table recs h.
-          let later = taken_in_later script tree c.args.seat.now c.loop-own.seat inv.learns.more
-          c.args.context.now old inv.grows.attributes channel kept table recs h in
-          let own = own_trace old script tree c.loop-own.seat channel on c.args.place
-          c.args.channels.now table recs c.requires.within later i c.own-item.result
-          c.index.result.now less c.own-item.is c.index.ensures.value in
-          let many = many_parts old script tree c.loop-own.seat channel on c.args.place
-          c.args.channels.now table recs c.requires.within later in
-          parts_more (has c.args.taker.now c.args.context.now) (has c.loop-own.taker old)
+          let own = own_trace script tree c.args.seat.now start c.args.channel.now on c.args.place
+          c.args.channels.now table recs c.requires.within h c.loop-own.seat inv.learns.more old
+          inv.grows.attributes i c.own-item.result c.index.result.now less c.own-item.is
+          c.index.ensures in
+          let many : length h.taken.takens ≡ length c.args.channels.now = many_parts script tree
+          c.args.seat.now start c.args.channel.now on c.args.place c.args.channels.now table recs
+          c.requires.within h in
+          parts_more (has c.args.taker.now start) (has c.loop-own.taker old)
           (has c.take_own_trace.new.taker c.take_own_trace.new.context) h.taken.takens i
           (omega (arith, many, less)) (inv.taken table recs h)
           (c.in_ok-take_own_trace.ensures.taken (get_or h.taken.takens i []) own);
@@ -91,7 +94,7 @@ returns-clause-taken g c table recs h =
     let test = c.loop-own-test.false in
     let on : c.args.channel.now.trace ≡ true = cc in
     let has = g.T.Taker.has_taken in
-    let whole = all_parts c.args.context.now c.args.script.now c.args.tree.now c.args.seat.now
+    let whole = all_parts c.args.script.now c.args.tree.now c.args.seat.now c.args.context.now
     c.args.channel.now on c.args.place c.args.channels.now table recs c.requires.within h
     c.loop-own.own-index (omega arith) in
     subst (TakesMore (has c.args.taker.now c.args.context.now)
