@@ -1,7 +1,6 @@
 -- The keys so far, whose nodes have numbers, and one more.
 use Rattle.std.proofs.Common.{◌≡◌, ℕ, ◌+◌, ◌<◌, ◌≤◌, List, length, get_or, Option, sym, ap, ◌∙◌}
 use Rattle.std.proofs.Common.{subst, ⊎_elim, arith}
-use Rattle.std.specs.List.{All}
 use Rattle.std.proofs.lemmas.Bool.{cases_lt}
 use Rattle.std.proofs.lemmas.List.{get_or_default}
 use Rattle.cal_context.specs.Tree as contexts
@@ -15,7 +14,6 @@ use Rattle.cal_once.specs.Views.{KnowsMore}
 use Rattle.cal_once.specs.declared.seat.RowSeat.{RowSeat}
 use Rattle.cal_table.specs.declared.key.TableKey.{TableKey}
 use Rattle.cal_tree.specs.declared.tree.Tree.{Tree}
-use Rattle.cal_words.specs.declared.node.NodeId.{NodeId}
 use Rattle.cal_words.specs.declared.sort.NodeSort.{NodeSort}
 
 -- the nodes of a key can be numbered still

@@ -1,30 +1,22 @@
 -- What was taken in one channel stays so.
-use Rattle.std.proofs.Common.{◌≡◌, ℕ, ◌+◌, ◌<◌, ◌≤◌, true, List, [], length, get_or, take, sym, ap}
-use Rattle.std.proofs.Common.{◌∙◌, subst, arith, refl, true≢false}
-use Rattle.std.specs.Prelude.{IfSome, None, Option, Some, is_some, slice_get}
-use Rattle.std.specs.List.{All, AllZip, flat_map}
-use Rattle.std.specs.declared.vec.Vec.{Vec}
-use Rattle.std.proofs.lemmas.List.{take_all}
+use Rattle.std.proofs.Common.{◌≡◌, ℕ, ◌<◌, List, [], length, get_or, sym, ap}
+use Rattle.std.proofs.Common.{◌∙◌, subst, arith, refl}
+use Rattle.std.specs.Prelude.{None, Some, slice_get}
+use Rattle.std.specs.List.{All}
 use Rattle.std.proofs.lemmas.List.Elements.{All-weaker}
-use Rattle.std.proofs.lemmas.Option.{IfSome_then, slice_get_read}
+use Rattle.std.proofs.lemmas.Option.{slice_get_read}
 use Rattle.cal_channel.proofs.LawLemmas.{counts-later, taken-later}
-use Rattle.cal_channel.specs.Channels.{IsTraced}
-use Rattle.cal_channel.specs.Places.{at_place, lists_of}
-use Rattle.cal_channel.specs.Traces.{ShownSnap}
+use Rattle.cal_channel.specs.Places.{at_place}
 use Rattle.cal_channel.specs.Values.{ChannelValue}
 use Rattle.cal_context.proofs.ListLemmas.{IsFront-trans}
 use Rattle.cal_context.specs.Lists.{IsFront}
-use Rattle.cal_context.specs.Taking.{TakesMore}
 use Rattle.cal_context.specs.Tree as contexts
-use Rattle.cal_delivery.proofs.AtPlace.{many_there, there}
-use Rattle.cal_delivery.specs.OneChannel.{IsOwnTrace, IsTakenIn}
+use Rattle.cal_delivery.specs.OneChannel.{IsTakenIn}
 use Rattle.cal_delivery.specs.Taken.{HasTable, HasTrace, IsTaken}
-use Rattle.cal_filter.proofs.Zips.{get_or-inside, zip_length, zip_weaker}
+use Rattle.cal_filter.proofs.Zips.{zip_weaker}
 use Rattle.cal_once.specs.Seats.{view}
 use Rattle.cal_once.specs.Views.{KnowsMore}
 use Rattle.cal_once.specs.declared.seat.RowSeat.{RowSeat}
-use Rattle.cal_records.proofs.TakingLemmas.{taken-more}
-use Rattle.cal_results.specs.Tracing.{TraceMeans}
 use Rattle.cal_script.specs.declared.script.Channel.{Channel}
 use Rattle.cal_script.specs.declared.script.Script.{Script}
 use Rattle.cal_table.specs.Tables.{TableValue}

@@ -1,5 +1,5 @@
 //! The traces of a channel, thread by thread.
-ghost use Rattle.std.specs.Prelude.{◌≡◌, ◌<◌, [], List, All, OnOk, if◌then◌else◌, length};
+ghost use Rattle.std.specs.Prelude.{◌<◌, [], List, All, OnOk, if◌then◌else◌, length};
 ghost use Rattle.cal_channel.specs.Places.{at_place, lists_of};
 ghost use Rattle.cal_channel.specs.Values.{ChannelValue};
 ghost use Rattle.cal_context.specs.Lists.{IsFront};
