@@ -10,13 +10,14 @@ mod probes;
 mod words;
 
 use crate::clocks::clocks_of;
-use crate::probes::probes;
+use crate::probes::{count_of, depth_of};
 use crate::words::words_of;
 use cal_base::{OpenGate, Sink, StdSink, StdSource};
 pub use cal_call::{
     Command, Fault, INPUT_LIMIT, InputKind, Outcome, Print, RunText, UsedJournal, WordsEnd, about,
     put_fault, read_words, run, run_text, serve, written_journal_law,
 };
+use cal_probe::{Probe, ProbeKind, Probes};
 use std::hash::RandomState;
 use std::process::ExitCode;
 
@@ -31,6 +32,8 @@ fn main(rt: HostRuntime) -> ExitCode {
     let Ok(mut clocks) = clocks_of(rt.alloc(), &rt) else {
         return out_of_memory(&mut errors);
     };
+    let depth = Probe::new(ProbeKind::Depth, depth_of);
+    let count = Probe::new(ProbeKind::Count, count_of);
     serve(
         &rt,
         rt.alloc(),
@@ -41,7 +44,7 @@ fn main(rt: HostRuntime) -> ExitCode {
         &mut errors,
         &mut clocks,
         &OpenGate,
-        &probes(),
+        &Probes::new(depth, count),
     )
 }
 

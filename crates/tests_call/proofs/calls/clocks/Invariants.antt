@@ -2,5 +2,5 @@ use Rattle.std.proofs.Common.{◌≡◌, length}
 use Rattle.tests_call.proofs.calls.clocks.Given as goal
 
 -- one for each thread so far
-abbrev pub invariant-loop-_thread : goal.invariant-loop-_thread
-invariant-loop-_thread l = length l.clocks.items ≡ l._thread
+abbrev pub invariant-loop-thread : goal.invariant-loop-thread
+invariant-loop-thread l = length l.clocks.items ≡ l._thread
