@@ -11,8 +11,8 @@ use cal_script::Journal;
 use cal_value::Seq;
 use std::alloc::Global;
 
-/// How a call ended: the status of the program, and why it isn't 0. Where `serial` came to write,
-/// the journal is the one that its run used; else it has nothing.
+/// How a call ended: the status of the program, and why it isn't 0. Where `serial`, `replay` or
+/// `journal` came to write, the journal is the one that the run used or left; else it has nothing.
 #[derive(Debug, Drop)]
 pub struct Outcome {
     pub status: u8,
