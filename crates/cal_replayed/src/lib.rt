@@ -1,14 +1,11 @@
-//! A run in threads, whole: to the text of its records, or to the records.
+//! The text of a run in threads.
 //!
 //! `replay_text` runs a script, each of its threads as a thread, and makes the `.cali` text of its
 //! records; the journal of what happened comes with it. What stands above uses that this text is
 //! that of the records that the plain meaning gives for the script and this journal, however the
-//! threads interleaved. `replay` gives the records themselves, with how large the run was. Nothing
-//! is promised of a run that ran out of memory.
+//! threads interleaved. Nothing is promised of a run that ran out of memory.
 #![tactic(auto)]
 
 mod replaying;
-mod whole;
 
 pub use replaying::{Replayed, replay_text};
-pub use whole::{Ran, replay};

@@ -8,8 +8,10 @@ use Rattle.cal_write.specs.Writer.{HasTaken}
 use Rattle.cal_replayed.proofs.replaying.write_rows.Goals as goal
 
 pub take_rows-requires : goal.take_rows-requires
-take_rows-requires c = subst (λ (s : Script). IsEnded s c.args.ended.now)
-    (sym c.requires.ended.script_is) c.requires.ended
+take_rows-requires c = record {
+  ended = subst (λ (s : Script). IsEnded s c.args.ended.now) (sym c.requires.ended.script_is)
+      c.requires.ended;
+}
 
 pub returns-clause-taken : goal.returns-clause-taken
 returns-clause-taken c =

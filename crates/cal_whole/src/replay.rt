@@ -4,7 +4,7 @@ ghost use Rattle.cal_counts.specs.Counts.{group_count, snapshot_count};
 ghost use Rattle.cal_ran.specs.Ended.{IsEnded};
 ghost use Rattle.cal_ran.specs.Told.{HaveToldAll};
 ghost use Rattle.cal_records.specs.Records.{records_of};
-ghost use Rattle.cal_replayed.specs.Whole.{HasCounts};
+ghost use Rattle.cal_whole.specs.Counts.{HasCounts};
 ghost use Rattle.cal_run.specs.Lawful.{Lawful};
 ghost use Rattle.cal_run.specs.Paths.{nodes};
 ghost use Rattle.cal_script.specs.Reading.{IsValidScript};

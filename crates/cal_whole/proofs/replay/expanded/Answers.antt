@@ -1,12 +1,14 @@
-use Rattle.std.proofs.Common.{[], ap, ◌∙◌, subst, sym, List, ◌≡◌}
+use Rattle.std.proofs.Common.{[], ap, ◌∙◌, subst, sym}
 use Rattle.cal_ran.specs.Ended.{IsEnded}
 use Rattle.cal_records.specs.Records.{globals_of, run_rows}
 use Rattle.cal_script.specs.declared.script.Script.{Script}
-use Rattle.cal_replayed.proofs.whole.expanded.Goals as goal
+use Rattle.cal_whole.proofs.replay.expanded.Goals as goal
 
 pub take_rows-requires : goal.take_rows-requires
-take_rows-requires c = subst (λ (s : Script). IsEnded s c.args.ended.now)
-    (sym c.requires.script_is) c.requires
+take_rows-requires c = record {
+  ended = subst (λ (s : Script). IsEnded s c.args.ended.now) (sym c.requires.script_is)
+      c.requires;
+}
 
 pub expand-requires : goal.expand-requires
 expand-requires c = c.in_ok-globals.ensures.means.within
