@@ -48,8 +48,7 @@ pub said_again : ReadsBehind → (bytes written : List ℕ) (real : Bool) (journ
     → IsSaidAgain bytes written real journal
 unfolding records_text
 said_again law bytes written real journal ends makes written_text used =
-    let says = says_again law bytes written real journal ends makes in
-    (
+    let says = says_again law bytes written real journal ends makes in (
       λ made.
           let one = one_run (bytes ++ written) makes.0 made.0 journal used says made.1 in
           let text : records_text makes.0 journal ≡ records_text made.0 used =

@@ -13,7 +13,7 @@ use crate::made::Made;
 use crate::{RunText, UsedJournal};
 use cal_base::{Clock, Gate};
 use cal_journal::print_journal;
-use cal_ran::run_script;
+use cal_ran::{EndedRun, run_script};
 use cal_replayed::{Replayed, replay_text};
 use cal_run::{Prober, lawful_journal_law};
 use cal_script::{Journal, Script};
@@ -105,13 +105,21 @@ fn run_to_journal<R: Threads + Sync, P: Prober + Sync, K: Clock + Send + Drop, G
         (λ made. HaveToldAll K.given made.journal clocks.old.items clocks.new.items) }
 {
     valid_script_law();
-    let journal = run_script(rt, alloc, hashers, script, real, clocks, gate, probes)?;
+    let ended = run_script(rt, alloc, hashers, script, real, clocks, gate, probes)?;
+    let journal = journal_of(ended);
     let text = print_journal(alloc, &journal)?;
     Ok(Made {
         text,
         refused: lawful_refused(script, &journal),
         journal: UsedJournal::given(journal),
     })
+}
+
+/// The journal of a run that has ended. What else it left is dropped.
+fn journal_of(ended: EndedRun<'_>) -> Journal
+    ensures { result ≡ ended.entry.journal }
+{
+    ended.journal
 }
 
 /// How many lines of a lawful journal were refused.

@@ -1,1 +1,3 @@
 pub mod Taken
+pub mod OneChannel
+pub mod KeyNodes

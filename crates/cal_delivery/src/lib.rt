@@ -8,5 +8,8 @@
 #![tactic(auto)]
 
 mod channels;
+mod groups;
+mod numbering;
+mod traces;
 
 pub use channels::take_rows;

@@ -30,6 +30,7 @@ pub record MayClose (book : BookOf) (first : SeatOf) (seats : List SeatOf)
 pub record IsClosed (book : BookOf) (seats : List SeatOf) (left : List TableValue)
     (table : TableValue) : Type 0 where
   pub merged : Same table (all_taken book seats left)
+  pub given : AreMadeFor (shape_of book) (accounts_of seats)
   pub met : AllMetHadTurns (accounts_of seats)
 
 -- For each book, at its place: the first seat, and of each thread a seat and a channel. All books

@@ -2,3 +2,13 @@ pub mod OperationLemmas
 pub mod TakingLemmas
 pub mod ScriptLemmas
 pub mod UsedWords
+pub mod Apart
+pub mod Slots
+pub mod Ranks
+pub mod Arenas
+pub mod Fours
+pub mod Nodes
+pub mod Words
+pub mod Lines
+pub mod Seen
+pub mod SevenEach

@@ -1,4 +1,5 @@
 pub mod Operations
 pub mod Boards
+pub mod Rooms
 pub mod Replicas
 pub mod Takings

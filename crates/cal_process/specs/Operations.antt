@@ -1,7 +1,7 @@
 -- The operations of a script's process lines: as records of the shared history, and as the journal
 -- has them.
 use Rattle.std.specs.Prelude.{◌≡◌, ℕ, ◌<◌, ◌^◌, List, Option, Some, None, map, option_map}
-use Rattle.std.specs.Prelude.{if◌then◌else◌}
+use Rattle.std.specs.Prelude.{if◌then◌else◌, sum_by}
 use Rattle.std.specs.List.{Contains}
 use Rattle.cal_run.specs.Held.{HasPlaces}
 use Rattle.cal_run.specs.History.{placed_operation}
@@ -76,6 +76,10 @@ words_by code.Set v = node_length v
 abbrev pub words_made : Script → Operation → ℕ
 words_made script op = if is_as_value (attribute_of script op.attr).props then 0
     else words_by op.code (value_of script op)
+
+-- those of the nodes that operations may make
+abbrev pub words_of_ops : Script → List OpRec → ℕ
+words_of_ops script ops = sum_by (λ op. words_made script (operation_in op)) ops
 
 -- the words of the node that a line may make, and that one may make which is its thread's own
 abbrev pub words_if : Script → Option Operation → ℕ

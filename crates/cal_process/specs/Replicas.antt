@@ -9,28 +9,35 @@ use Rattle.cal_plog.specs.History.{HasOp, HasSeen}
 use Rattle.cal_plog.specs.Seats.{IsLogSeat, ops_of, plan_of, slots_of}
 use Rattle.cal_process.specs.Boards.{Held}
 use Rattle.cal_process.specs.Operations.{HasAll, IsOpOf, history_of, operation_in, words_made}
+use Rattle.cal_process.specs.Rooms.{UsesSevenEach}
 use Rattle.cal_process.specs.declared.common.Common.{Common}
 use Rattle.cal_process.specs.declared.replica.Replica.{Replica}
 use Rattle.cal_run.specs.History.{process_board}
+use Rattle.cal_script.specs.Shapes.{history_shape, tree_shape}
 use Rattle.cal_script.specs.Valid.{IsRunnable}
+use Rattle.cal_tree.specs.Seats as tree
 use Rattle.cal_tree.specs.Seats.{IsTreeSeat}
 use Rattle.cal_words.specs.declared.op.OpRec.{OpRec}
 use Rattle.cal_words.specs.declared.sort.NodeSort.{NodeSort}
 
--- The script can be run, and the history was made for the operations of its process lines.
+-- The script can be run, and the history was made for the operations of its process lines; it and
+-- the tree have the room that the script's lines need.
 pub record IsCommon (common : Common) : Type 0 where
   pub runnable : IsRunnable common.script.now
   pub ops : All (IsOpOf common.script.now) (ops_of common.log)
   pub all : HasAll common.script.now (ops_of common.log)
+  pub shape_of_log : (plan_of common.log).shape ≡ history_shape common.script.now
+  pub shape_of_tree : (tree.plan_of common.tree).shape ≡ tree_shape common.script.now
 
 module _ (common : Common) where
   -- A replica has seen exactly these operations, with which the history begins, and its board is
-  -- the process's behind them.
+  -- the process's behind them. Of the history's words its seat uses those of its own operations.
   pub record HasTaken (seat : RowSeat NodeSort) (p : Replica) (h : List OpRec) : Type 0 where
     pub at_tree : IsTreeSeat common.tree seat
     pub at_log : IsLogSeat common.log p.log
     pub read : HasSeen (slots_of common.log) (view p.log) h
     pub long : length h ≡ p.seen
+    pub words : UsesSevenEach (view p.log)
     pub held : Held common seat p.board (process_board common.script.now (history_of h) p.seen)
 
   -- the words that the seat has in use in the tree have grown by at most so many

@@ -1,15 +1,14 @@
 -- What a thread learns by operations one after another.
-use Rattle.std.specs.Prelude.{◌≡◌, ◌⊎◌, ℕ, List, [], ◌∷◌, ◌++◌, sum_by}
+use Rattle.std.specs.Prelude.{◌≡◌, ◌⊎◌, List, [], ◌∷◌, ◌++◌}
 use Rattle.cal_once.specs.Seats.{view}
 use Rattle.cal_once.specs.Views.{KnowsMore}
 use Rattle.cal_once.specs.declared.seat.RowSeat.{RowSeat}
 use Rattle.cal_once.specs.declared.view.View.{View}
 use Rattle.cal_plog.specs.Seats.{slots_of}
-use Rattle.cal_process.specs.Operations.{operation_in, words_made}
+pub use Rattle.cal_process.specs.Operations.{words_of_ops}
 use Rattle.cal_process.specs.Replicas.{AddsWords, HasTaken}
 use Rattle.cal_process.specs.declared.common.Common.{Common}
 use Rattle.cal_process.specs.declared.replica.Replica.{Replica}
-use Rattle.cal_script.specs.declared.script.Script.{Script}
 use Rattle.cal_words.specs.declared.op.OpRec.{OpRec}
 use Rattle.cal_words.specs.declared.sort.NodeSort.{NodeSort}
 use Rattle.cal_words.specs.declared.sort.OpSort.{OpSort}
@@ -25,10 +24,6 @@ pub record OnlyLearns (v w : View OpSort) : Type 0 where
 -- nothing was found empty
 abbrev pub KeepsLooks : Replica → Replica → Type 0
 KeepsLooks old new = (view new.log).looks ≡ (view old.log).looks
-
--- the words of the nodes that operations may make
-abbrev pub words_of_ops : Script → List OpRec → ℕ
-words_of_ops script ops = sum_by (λ op. words_made script (operation_in op)) ops
 
 -- More operations were taken in: those that stand next in the history.
 pub record TakesMore (common : Common) (was is : RowSeat NodeSort) (old new : Replica)

@@ -3,6 +3,7 @@ ghost use Rattle.cal_once.specs.Seats.{view};
 ghost use Rattle.cal_once.specs.Views.{first_seat};
 ghost use Rattle.cal_plog.specs.Seats as history;
 ghost use Rattle.cal_process.specs.Replicas.{IsCommon};
+ghost use Rattle.cal_process.specs.Rooms.{UsesSevenEach};
 ghost use Rattle.cal_script.specs.Shapes.{history_shape, tree_shape};
 ghost use Rattle.cal_script.specs.Valid.{IsRunnable};
 ghost use Rattle.cal_tree.specs.Seats as tree;
@@ -33,6 +34,7 @@ impl<'a> Common<'a> {
         requires { IsRunnable script.now }
         ensures common { IfOk result (λ r. IsCommon r.0) }
         ensures script { IfOk result (λ r. r.0.script.now ≡ script.now) }
+        ensures unused { IfOk result (λ r. UsesSevenEach (view r.2)) }
         ensures tree { IfOk result (λ r. ((tree.plan_of r.0.tree).shape ≡ tree_shape script.now)
             × tree.IsTreeSeat r.0.tree r.1 × (view r.1 ≡ first_seat (tree.plan_of r.0.tree))) }
         ensures log { IfOk result (λ r.

@@ -14,10 +14,14 @@ mod performing;
 mod placing;
 mod process_ops;
 mod replica;
+mod room_laws;
 mod taking;
+mod tree_laws;
 
 pub use common::Common;
 pub use laws::process_line_law;
 pub use performing::perform;
 pub use process_ops::op_of_line;
 pub use replica::Replica;
+pub use room_laws::{history_never_full_law, words_in_use_law};
+pub use tree_laws::{room_for_nodes_law, tree_never_full_law, words_in_tree_law};

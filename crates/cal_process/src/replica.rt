@@ -5,6 +5,7 @@ ghost use Rattle.cal_once.specs.Views.{IsLater};
 ghost use Rattle.cal_once.specs.declared.seat.RowSeat as seats;
 ghost use Rattle.cal_plog.specs.Seats.{IsLogSeat};
 ghost use Rattle.cal_process.specs.Replicas.{HasTaken, IsCommon, Takes};
+ghost use Rattle.cal_process.specs.Rooms.{UsesSevenEach};
 ghost use Rattle.cal_process.specs.declared.common.Common as commons;
 ghost use Rattle.cal_tree.specs.Seats.{IsTreeSeat};
 ghost use Rattle.cal_words.specs.declared.op.OpRec as words;
@@ -35,7 +36,7 @@ impl Replica {
         ensures board { result.board ≡ nothing_open }
         ensures seen { result.seen ≡ 0 }
         ensures taken { (common : commons.Common) (seat : seats.RowSeat sorts.NodeSort)
-            → IsTreeSeat common.tree seat → IsLogSeat common.log log
+            → IsTreeSeat common.tree seat → IsLogSeat common.log log → UsesSevenEach (view log)
             → HasTaken common seat result [] }
     {
         Replica {

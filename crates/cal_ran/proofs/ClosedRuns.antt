@@ -17,8 +17,9 @@ use Rattle.cal_handover.specs.Closing.{AreClosed, MayClose, MayCloseAll}
 use Rattle.cal_channel.specs.Places.{at_place, lists_of}
 use Rattle.cal_handover.specs.Places.{tables_at}
 use Rattle.cal_keeping.specs.declared.runner.Runner.{Runner}
-use Rattle.cal_ran.proofs.Standing.{AllStand, Stands, accounts-at, all-stand, channels_of}
-use Rattle.cal_ran.proofs.Standing.{few-at, length-at, made-at, own-at, seats_of}
+use Rattle.cal_ran.proofs.Places.{channels_of, seats_of}
+use Rattle.cal_ran.proofs.Standing.{AllStand, Stands, accounts-at, all-stand, few-at}
+use Rattle.cal_ran.proofs.Standing.{length-at, made-at, own-at}
 use Rattle.cal_ran.specs.Runs.{AreDone, IsDone}
 use Rattle.cal_replay.specs.Flushing.{BookOf, SeatOf}
 use Rattle.cal_replay.specs.Workers.{script_of}
@@ -28,7 +29,7 @@ use Rattle.cal_start.specs.declared.run.Run.{Run}
 use Rattle.cal_table.specs.Tables.{TableValue}
 
 -- a fact of the list that each of some has
-all-lists : {X A Z : Type 0} (f : X → Vec A Z) (Q : List A → Type 0) (xs : List X)
+pub all-lists : {X A Z : Type 0} (f : X → Vec A Z) (Q : List A → Type 0) (xs : List X)
     → ((k : ℕ) (x : X) → slice_get xs k ≡ Some x → Q (f x).items) → All Q (lists_of (map f xs))
 all-lists f Q [] each = All-nil Q
 all-lists f Q (x ∷ xs) each = All-cons Q (f x).items (lists_of (map f xs)) (each zero x refl)
@@ -56,7 +57,8 @@ may-close place book first runners is few_runners all = record {
 
 module _ {P : Type 0} (run : Run) (is : IsRun run) (runners : List (Runner P))
     (done : AreDone run runners) where
-  books-long : length run.books.items ≡ length (script_of run.shared).channels
+  -- there is a book for each channel of the script
+  pub books-long : length run.books.items ≡ length (script_of run.shared).channels
   books-long = sym (length-map run.books.items shape_of)
       ∙ ap length (is.books.made ∙ is.shapes)
       ∙ length-map (script_of run.shared).channels

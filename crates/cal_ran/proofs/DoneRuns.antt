@@ -14,6 +14,7 @@ use Rattle.cal_ran.specs.Runs.{AreDone, IsDone}
 use Rattle.cal_ran.specs.Told.{AreToldAll}
 use Rattle.cal_replay.specs.Flushing.{BookOf}
 use Rattle.cal_replay.specs.Workers.{lines_of, script_of}
+use Rattle.cal_run.specs.declared.numbers.Numbers.{Numbers}
 use Rattle.cal_script.specs.declared.journal.ThreadNote.{ThreadNote}
 use Rattle.cal_start.specs.Hired.{AreHired}
 use Rattle.cal_start.specs.declared.run.Run.{Run}
@@ -58,6 +59,7 @@ module _ {P : Type 0} (run : Run) (old : List (Runner P)) (hired : AreHired run 
             number = number;
             all = one.ran.all ∙ ap (λ (n : ℕ). lines_of (script_of run.shared) n) number;
           };
+          numbers = ap (λ (n : Bor Numbers). n.now) one.services.numbers ∙ was_hired.numbers;
           books = ap (λ (b : Bor (List BookOf)). b.now) one.services.books ∙ was_hired.books;
         }
 

@@ -7,9 +7,10 @@ use Rattle.cal_keeping.specs.declared.runner.Runner.{Runner}
 use Rattle.cal_replay.specs.Workers.{script_of}
 use Rattle.cal_start.specs.declared.run.Run.{Run}
 
--- The thread of a number has run all its lines, with the run's books.
+-- The thread of a number has run all its lines, with the run's numbers and books.
 pub record IsDone {P : Type 0} (run : Run) (number : ℕ) (r : Runner P) : Type 0 where
   pub ran : HasRun run.shared number r
+  pub numbers : r.channels.numbers.now ≡ run.numbers
   pub books : r.channels.books.now ≡ run.books.items
 
 -- one for each thread of the script, in the order of their numbers

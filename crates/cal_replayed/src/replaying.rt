@@ -1,15 +1,23 @@
 //! A run in threads, to its text.
-ghost use Rattle.std.specs.Prelude.{◌≡◌, ◌≤◌, IfOk, length};
+ghost use Rattle.std.specs.Prelude.{◌≡◌, ◌≤◌, [], IfOk, OnOk, length};
+ghost use Rattle.cal_context.specs.Tree.{Grows};
+ghost use Rattle.cal_ran.specs.Ended.{IsEnded};
 ghost use Rattle.cal_ran.specs.Told.{HaveToldAll};
-ghost use Rattle.cal_records.specs.Records.{records_of};
+ghost use Rattle.cal_records.specs.Globals.{Means};
+ghost use Rattle.cal_records.specs.Records.{globals_of, records_of, run_rows};
 ghost use Rattle.cal_run.specs.Lawful.{Lawful};
 ghost use Rattle.cal_script.specs.Reading.{IsValidScript};
 ghost use Rattle.cal_write.specs.CanonicalText.{canonical_text};
+ghost use Rattle.cal_write.specs.Writer.{HasTaken};
 
 use cal_base::{Clock, Gate};
+use cal_context::Snapshot;
+use cal_ran::{EndedRun, run_script};
+use cal_records::put_globals;
 use cal_run::Prober;
 use cal_script::{Journal, Script};
 use cal_value::{OutOfMemory, Text};
+use cal_write::Writer;
 use std::alloc::Global;
 use std::hash::RandomState;
 use std::thread::Threads;
@@ -44,5 +52,61 @@ pub fn replay_text<R: Threads + Sync, P: Prober + Sync, K: Clock + Send + Drop, 
     ensures told { IfOk result
         (λ r. HaveToldAll K.given r.journal clocks.old.items clocks.new.items) }
 {
-    Err(OutOfMemory)
+    let ended = run_script(rt, alloc, hashers, script, real, clocks, gate, probes)?;
+    write_ended(alloc, script, ended)
+}
+
+/// The text of the records of a run that has ended, and its journal.
+fn write_ended(
+    alloc: Global,
+    script: &Script,
+    mut ended: EndedRun<'_>,
+) -> Result<Replayed, OutOfMemory>
+    requires { IsEnded script.now ended }
+    ensures journal { IfOk result (λ r. r.journal ≡ ended.entry.journal) }
+    ensures text { IfOk result
+        (λ r. r.text ≡ canonical_text (records_of script.now ended.entry.journal)) }
+{
+    match ended_text(alloc, script, &mut ended) {
+        Ok(text) => Ok(Replayed {
+            text,
+            journal: ended.journal,
+        }),
+        Err(error) => Err(error),
+    }
+}
+
+/// The text of the records of a run that has ended.
+fn ended_text(alloc: Global, script: &Script, ended: &mut EndedRun<'_>) -> Result<Text, OutOfMemory>
+    requires { IsEnded script.now ended.old }
+    ensures text { IfOk result
+        (λ text. text ≡ canonical_text (records_of script.now ended.old.journal)) }
+    ensures journal { ended.new.journal ≡ ended.old.journal }
+{
+    let mut writer = Writer::new(alloc)?;
+    let Ok(globals) = write_rows(alloc, script, ended, &mut writer) else {
+        drop(writer);
+        return Err(OutOfMemory);
+    };
+    writer.finish(&ended.context, &globals)
+}
+
+/// Hands the rows of a run that has ended to a writer that has taken none, and puts its globals
+/// into the context.
+fn write_rows(
+    alloc: Global,
+    script: &Script,
+    ended: &mut EndedRun<'_>,
+    writer: &mut Writer,
+) -> Result<Snapshot, OutOfMemory>
+    requires ended { IsEnded script.now ended.old }
+    requires none { HasTaken writer.old ended.old.context [] }
+    ensures taken { OnOk result
+        (HasTaken writer.new ended.new.context (run_rows script.now ended.old.journal)) }
+    ensures globals { IfOk result (λ globals.
+        Means ended.new.context globals (globals_of script.now.globals)) }
+    ensures journal { ended.new.journal ≡ ended.old.journal }
+{
+    ended.take_rows(alloc, writer)?;
+    put_globals(alloc, script.globals.as_slice(), &mut ended.context)
 }

@@ -1,12 +1,12 @@
 -- What is found of the run of the threads one after another: once by counting, once by measuring its
 -- text (private).
 use Rattle.std.specs.Prelude.{◌≡◌, length}
+use Rattle.cal_counts.specs.Counts.{snapshot_count, traced_count}
 use Rattle.cal_records.specs.Records.{records_of, run_rows}
 use Rattle.cal_run.specs.Paths.{nodes}
 use Rattle.cal_run.specs.Plain.{plain}
 use Rattle.cal_run.specs.declared.plain_counts.PlainCounts.{PlainCounts}
 use Rattle.cal_script.specs.declared.script.Script.{Script}
-use Rattle.cal_summary.specs.Summaries.{snapshot_count, traced_count}
 use Rattle.cal_write.specs.CanonicalText.{canonical_text}
 use Rattle.cal_write.specs.declared.measurer.Measure.{Measure}
 

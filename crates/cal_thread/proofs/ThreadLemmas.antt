@@ -53,6 +53,7 @@ taken-later common was is p h at more t = record {
   at_log = t.at_log;
   read = t.read;
   long = t.long;
+  words = t.words;
   held = Held-later common was is more p.board
       (process_board common.script.now (history_of h) p.seen) t.held;
 }

@@ -42,8 +42,8 @@ impl Thread {
         ensures number { OnOk result (self.new.number ≡ self.old.number) }
         ensures timed { OnOk result (self.new.timed ≡ self.old.timed) }
     {
-        let place = self.process.place(common, op)?;
-        self.process.take_to(alloc, common, &mut self.tree, place)?;
+        let at = self.process.place(common, op);
+        self.process.take_to(alloc, common, &mut self.tree, at)?;
         Ok(reply_to_line(common.script, line, &self.process.board))
     }
 

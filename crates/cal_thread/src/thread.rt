@@ -36,6 +36,7 @@ impl Thread {
         requires number { (view log).number ≡ number + 1 }
         requires at_nodes { (view tree).number ≡ number + 1 }
         requires fresh { (view log).published ≡ [] }
+        requires unused { (view log).used ≡ 0 }
         ensures number { result.number ≡ number }
         ensures timed { result.timed ≡ timed }
         ensures tree { result.tree ≡ tree }

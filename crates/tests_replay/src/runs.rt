@@ -1,4 +1,5 @@
 //! Runs of a script, and whether their journals are those that were expected.
+ghost use Rattle.cal_script.specs.Reading.{IsValidScript};
 ghost use Rattle.cal_script.specs.Valid.{IsRunnable};
 
 use cal_base::{MemClock, OpenGate};
@@ -21,15 +22,17 @@ pub(crate) fn run<R: Threads + Sync>(
     real: bool,
     clocks: &mut Vec<MemClock>,
 ) -> Option<Journal>
-    requires { IsRunnable script.now }
+    requires { IsValidScript script.now }
 {
     if clocks.len() < script.threads.len() {
         return None;
     }
-    run_script(
+    match run_script(
         rt, alloc, hashers, script, real, clocks, &OpenGate, &Formulas,
-    )
-    .ok()
+    ) {
+        Ok(ended) => Some(ended.journal),
+        Err(_) => None,
+    }
 }
 
 /// Whether a journal has this text.

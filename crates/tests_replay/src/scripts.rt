@@ -1,6 +1,6 @@
 //! Scripts that can be run, and clocks for their threads.
 ghost use Rattle.std.specs.Prelude.{IfOk};
-ghost use Rattle.cal_script.specs.Reading.{Means};
+ghost use Rattle.cal_script.specs.Reading.{IsValidScript, Means};
 ghost use Rattle.cal_script.specs.Valid.{IsRunnable};
 
 use cal_base::MemClock;
@@ -18,9 +18,10 @@ fn script_of(alloc: Global, text: &str) -> Result<Script, Fail>
     Ok(script)
 }
 
-/// A script that can be run.
+/// A valid script, which can be run.
 pub(crate) fn runnable(alloc: Global, text: &str) -> Result<Script, Fail>
-    ensures { IfOk result IsRunnable }
+    ensures valid { IfOk result IsValidScript }
+    ensures runnable { IfOk result IsRunnable }
 {
     valid_script_law();
     let script = script_of(alloc, text)?;

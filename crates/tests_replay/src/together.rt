@@ -1,4 +1,5 @@
 //! Runs of several threads side by side, whose journals depend on the schedule and are lawful.
+ghost use Rattle.cal_script.specs.Reading.{IsValidScript};
 ghost use Rattle.cal_script.specs.Valid.{IsRunnable};
 
 use crate::runs::{is_lawful, run};
@@ -42,7 +43,8 @@ fn runs_lawfully<R: Threads + Sync>(
     script: &Script,
     clocks: &mut Vec<MemClock>,
 ) -> bool
-    requires { IsRunnable script.now }
+    requires valid { IsValidScript script.now }
+    requires runnable { IsRunnable script.now }
 {
     match run(rt, alloc, hashers, script, false, clocks) {
         Some(journal) => is_lawful(alloc, script, &journal),
@@ -59,7 +61,8 @@ fn all_run_lawfully<R: Threads + Sync>(
     clocks: &mut Vec<MemClock>,
     rounds: u32,
 ) -> bool
-    requires { IsRunnable script.now }
+    requires valid { IsValidScript script.now }
+    requires runnable { IsRunnable script.now }
 {
     let mut lawful = true;
     for _round in 0..rounds {

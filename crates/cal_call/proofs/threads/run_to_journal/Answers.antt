@@ -1,9 +1,5 @@
 use Rattle.cal_call.proofs.threads.run_to_journal.Goals as goal
 
-pub run_script-requires-clause-script : goal.run_script-requires-clause-script
-run_script-requires-clause-script g c lifetimes outlive =
-    c.valid_script_law.ensures c.args.script.now c.requires.script
-
 pub lawful_refused-requires-clause-runnable : goal.lawful_refused-requires-clause-runnable
 lawful_refused-requires-clause-runnable g c =
     c.valid_script_law.ensures c.args.script.now c.requires.script

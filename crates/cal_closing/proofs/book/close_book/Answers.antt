@@ -1,14 +1,12 @@
 use Rattle.std.proofs.Common.{◌∙◌, IsSome, All, sym, ap, subst}
-use Rattle.std.proofs.lemmas.List.Elements.{All-weaker}
 use Rattle.cal_book.proofs.Joined.{all_joined-all, joined_accounts-all}
 use Rattle.cal_book.specs.Closing.{AllMetHadTurns}
 use Rattle.cal_book.specs.Seats.{shape_of}
 use Rattle.cal_book.specs.Views.{joined_accounts}
-use Rattle.cal_book.specs.declared.view.Account.{Account}
 use Rattle.cal_closing.proofs.Given.{given-all, given_tables}
-use Rattle.cal_closing.specs.Parts.{AreMadeFor, AreOfShape}
+use Rattle.cal_closing.specs.Parts.{AreMadeFor}
 use Rattle.cal_closing.specs.Seats.{accounts_of}
-use Rattle.cal_table.specs.Tables.{Same, TableValue}
+use Rattle.cal_table.specs.Tables.{Same}
 use Rattle.cal_closing.proofs.book.close_book.Goals as goal
 
 pub close-requires-clause-all_joined : goal.close-requires-clause-all_joined
@@ -26,8 +24,7 @@ pub returns-clause-given : goal.returns-clause-given
 returns-clause-given c = subst (AreMadeFor (shape_of c.args.book))
     (ap joined_accounts c.join_seats.ensures.told
     ∙ joined_accounts-all (accounts_of c.args.seats.items))
-    (All-weaker _ (λ (account : Account TableValue). AreOfShape (shape_of c.args.book) account.given)
-    (λ account lawful. lawful.made) _ c.close.ensures.given)
+    (λ k d l. (c.close.ensures.given k d l).made)
 
 pub returns-clause-met : goal.returns-clause-met
 returns-clause-met c = subst AllMetHadTurns

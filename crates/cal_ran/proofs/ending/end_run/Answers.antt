@@ -1,10 +1,12 @@
-use Rattle.std.proofs.Common.{ℕ, All, List, length, subst, sym, ap, ◌∙◌}
+use Rattle.std.proofs.Common.{ℕ, All, List, drop, length, map, subst, sym, ap, ◌∙◌, arith, refl}
+use Rattle.std.proofs.lemmas.List.{take_at}
+use Rattle.cal_channel.specs.Places.{lists_of}
 use Rattle.cal_channel.specs.Values.{ChannelValue}
 use Rattle.cal_ending.specs.Joining.{AreInOrder}
-use Rattle.cal_finish.specs.Threads.{IsWholeFor}
-use Rattle.cal_handover.specs.Closing.{AreClosed, MayCloseAll}
-use Rattle.cal_channel.specs.Places.{lists_of}
-use Rattle.cal_ran.proofs.HandedRuns.{handed-closable, handed-ran}
+use Rattle.cal_handover.specs.Closing.{MayCloseAll}
+use Rattle.cal_handover.specs.Places.{emptied}
+use Rattle.cal_ran.proofs.HandedRuns.{handed-closable, handed-ended, handed-ran, handed-taken}
+use Rattle.cal_ran.proofs.Places.{length-left}
 use Rattle.cal_thread.specs.Hiring.{HasHired}
 use Rattle.cal_thread.specs.Threads.{HasSomeState}
 use Rattle.cal_thread.specs.declared.thread.Thread.{Thread}
@@ -26,13 +28,9 @@ end_threads-requires g c =
     let from = c.requires.handed.from in
     let threads = c.requires.handed.parts.threads in
     let law = c.ended_threads_law.ensures in
-    let books = c.args.run.books.items in
-    let seats = lists_of c.args.handed.seats.items in
     let ran = handed-ran c.args.run c.requires.run c.args.handed c.requires.handed
-    c.in_ok-_tables._tables.items
-    (subst (λ (channels : List (List ChannelValue)). AreClosed books seats channels
-    c.in_ok-_tables._tables.items)
-    (ap lists_of c.as_mut_slice.ensures.value) c.in_ok-_tables.ensures.closed) in
+    c.in_ok-tables.tables.items _ (ap lists_of c.as_mut_slice.ensures.value)
+    c.in_ok-tables.ensures.closed in
     record {
       shared = c.requires.run.shared;
       hired = subst (λ (n : ℕ). HasHired shared.common c.args.first.tree c.args.first.log n)
@@ -44,23 +42,44 @@ end_threads-requires g c =
           (law.order shared from ran);
     }
 
-pub returns-clause-lawful : goal.returns-clause-lawful
-returns-clause-lawful g c =
-    let shared = c.args.run.shared in
-    let from = c.requires.handed.from in
-    let parts = c.requires.handed.parts in
+pub returns-clause-ended : goal.returns-clause-ended
+returns-clause-ended g c =
+    let run = c.args.run in
     let journal = c.in_ok-journal.journal in
-    let law = c.ended_runners_law.ensures in
-    let books = c.args.run.books.items in
-    let seats = lists_of c.args.handed.seats.items in
-    let ran = handed-ran c.args.run c.requires.run c.args.handed c.requires.handed
-    c.in_ok-_tables._tables.items
-    (subst (λ (channels : List (List ChannelValue)). AreClosed books seats channels
-    c.in_ok-_tables._tables.items)
-    (ap lists_of c.as_mut_slice.ensures.value) c.in_ok-_tables.ensures.closed) in
-    law.lawful shared from journal c.requires.run.shared
-    (law.ended shared from journal.ops ran c.in_ok-journal.ensures.known
-    (subst (λ (ts : List Thread). IsWholeFor shared.common ts journal.ops) parts.threads
-    c.in_ok-journal.ensures.begins))
-    c.in_ok-journal.ensures.real
-    (c.in_ok-journal.ensures.noted ∙ parts.notes)
+    let tables = c.in_ok-tables.tables.items in
+    let lent = ap lists_of c.as_mut_slice.ensures.value in
+    let closed = c.in_ok-tables.ensures.closed in
+    let valid = c.requires.valid in
+    let new = c.close_books.new.channels in
+    let was = c.args.handed.channels.items in
+    let left = c.in_ok-tables.ensures.left in
+    let many = length-left new was
+    (left ∙ ap (λ cs. map (map emptied) (lists_of cs)) c.as_mut_slice.ensures.value) in
+    let ok = c.args.handed.channels.ok in
+    record {
+      script_is = refl;
+      runnable = c.requires.run.shared.common.runnable;
+      layout = c.requires.run.tree;
+      seat = c.in_ok-journal.ensures.seat;
+      lawful = c.ended_runners_law.ensures.lawful run.shared c.requires.handed.from journal
+          c.requires.run.shared
+          (handed-ended run c.requires.run c.args.handed c.requires.handed tables _ lent closed
+          journal c.in_ok-journal.ensures.known c.in_ok-journal.ensures.begins)
+          c.in_ok-journal.ensures.real
+          (c.in_ok-journal.ensures.noted ∙ c.requires.handed.parts.notes);
+      taken = handed-taken run c.requires.run c.args.handed c.requires.handed tables _ lent closed
+          journal c.in_ok-journal.ensures.known c.in_ok-journal.ensures.begins
+          c.in_ok-journal.ensures.noted _ c.in_ok-journal.ensures.joined
+          record {
+            declared = c.names_law.ensures.declared run.shared.common.script.now valid;
+            all = c.names_law.ensures.all run.shared.common.script.now run.context.attributes
+                valid c.requires.run.only c.has_each_once.ensures.attributes;
+          }
+          (λ channel there. record {
+            trace = c.traces_law.ensures run.shared.common.script.now journal channel valid there;
+            few = c.limits_law.ensures.few run.shared.common.script.now journal channel valid;
+            small = c.limits_law.ensures.small run.shared.common.script.now journal channel valid;
+          })
+          _ (ap lists_of (take_at new (drop (length new) was) c.args.handed.channels.len
+          (omega (arith, many, ok))) ∙ left);
+    }

@@ -2,7 +2,7 @@ use Rattle.std.proofs.Common.{◌≡◌, [], ap, ◌∙◌}
 use Rattle.std.proofs.lemmas.Result.{IfOk-weaker}
 use Rattle.cal_records.specs.Records.{globals_of, run_rows}
 use Rattle.cal_run.specs.Plain.{plain}
-use Rattle.cal_summary.proofs.RowLemmas.{measure_of}
+use Rattle.cal_summary.proofs.NumberLemmas.{measure_of}
 use Rattle.cal_summary.specs.Counted.{IsMeasured}
 use Rattle.cal_write.specs.Measuring.{HasMeasured-stays}
 use Rattle.cal_write.specs.declared.measurer.Measure.{Measure}

@@ -1,7 +1,8 @@
 use Rattle.std.proofs.Common.{◌≡◌, ◌-◌, arith}
+use Rattle.cal_counts.proofs.RowLemmas.{rows-split}
+use Rattle.cal_counts.specs.Counts.{group_count}
 use Rattle.cal_run.specs.Plain.{plain}
-use Rattle.cal_summary.specs.Summaries.{group_count}
-use Rattle.cal_summary.proofs.RowLemmas.{rows-split, summary_one}
+use Rattle.cal_summary.proofs.NumberLemmas.{summary_one}
 use Rattle.cal_summary.proofs.summarizing.summary_by.Goals as goal
 
 pub overflow_sub-groups : goal.overflow_sub-groups

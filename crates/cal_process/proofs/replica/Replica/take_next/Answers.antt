@@ -6,8 +6,9 @@ use Rattle.cal_board.specs.Blackboard.{Blackboard}
 use Rattle.cal_once.specs.Seats.{view}
 use Rattle.cal_once.specs.Views.{KnowsMore}
 use Rattle.cal_once.specs.declared.view.View.{View}
-use Rattle.cal_plog.specs.Seats.{ops_of, slots_of}
+use Rattle.cal_plog.specs.Seats.{ops_of, plan_of, slots_of}
 use Rattle.cal_process.proofs.OperationLemmas.{op-may}
+use Rattle.cal_process.proofs.SevenEach.{seven-learns, seven-looks}
 use Rattle.cal_process.proofs.TakingLemmas.{board-more, seen-later, seen-more, seen-within}
 use Rattle.cal_process.specs.Boards.{Held}
 use Rattle.cal_process.specs.Operations.{IsOpOf, history_of}
@@ -44,6 +45,8 @@ returns-in-None-clause-takes c h t =
         at_log = c.in-None.ensures.seat;
         read = seen-later (slots_of c.args.common.now.log) v w h more t.read;
         long = t.long;
+        words = seven-looks (plan_of c.args.common.now.log) v w c.args.self.now.seen
+            c.in-None.ensures.answer t.words;
         held = t.held;
       };
       seat = refl;
@@ -74,6 +77,7 @@ returns-in_ok-perform-in-Some-clause-takes c h t =
         at_log = c.in-Some.ensures.seat;
         read = seen-more (slots_of common.log) v w h op c.args.self.now.seen answer.learns.more
             t.read long answer.has_op;
+        words = seven-learns v w answer.learns t.words;
         long = length-append h (op ∷ []) ∙ ap (λ (n : ℕ). n + 1) long;
         held = subst (λ (n : ℕ). Held common c.perform.new.seat c.perform.new.board
             (process_board script (history_of (h ++ op ∷ [])) (n + 1))) long

@@ -31,6 +31,10 @@ pub new-requires-clause-fresh : goal.new-requires-clause-fresh
 new-requires-clause-fresh c =
     ap (λ (v : View OpSort). v.published) c.split-own_log.ensures.new.same
 
+pub new-requires-clause-unused : goal.new-requires-clause-unused
+new-requires-clause-unused c =
+    ap (λ (v : View OpSort). v.used) c.split-own_log.ensures.new.same
+
 pub returns-clause-hired : goal.returns-clause-hired
 returns-clause-hired c =
     let h = c.requires.hired in

@@ -1,4 +1,4 @@
-use Rattle.std.proofs.Common.{◌≡◌, ◌∙◌, ◌<◌, ℕ, List, [], refl, sym, ap, subst, arith}
+use Rattle.std.proofs.Common.{◌≡◌, ◌∙◌, ◌*◌, ◌<◌, ℕ, List, [], length, refl, sym, ap, subst, arith}
 use Rattle.cal_board.specs.Blackboard.{Blackboard, nothing_open}
 use Rattle.cal_once.specs.Layout.{times}
 use Rattle.cal_once.specs.Seats.{view}
@@ -16,7 +16,8 @@ returns-clause-thread c common at_tree at_log =
     ap (λ (s : RowSeat OpSort). (view s).published) log ∙ c.requires.fresh in
     record {
       has = record {
-        taken = c.new-process.ensures.taken common c.args.tree at_tree at_log;
+        taken = c.new-process.ensures.taken common c.args.tree at_tree at_log
+            (c.requires.unused ∙ ap (λ (ps : List ℕ). 7 * length ps) (sym c.requires.fresh));
         number = ap (λ (s : RowSeat OpSort). (view s).number) log ∙ c.requires.number;
         at_nodes = c.requires.at_nodes;
         mine = subst (λ (b : Blackboard NodeId). Held common c.args.tree b nothing_open)

@@ -16,16 +16,16 @@ use Rattle.cal_words.specs.declared.op.OpRec.{OpRec}
 use Rattle.cal_words.specs.declared.sort.OpSort.{OpSort}
 use Rattle.cal_thread.proofs.thread.Thread.place.Goals as goal
 
-pub place-requires-clause-taken : goal.place-requires-clause-taken
-place-requires-clause-taken c =
+pub place-at-requires-clause-taken : goal.place-at-requires-clause-taken
+place-at-requires-clause-taken c =
     let t = c.requires.thread in (c.args.self.now.tree, t.1, t.3.has.taken)
 
-pub place-requires-clause-thread : goal.place-requires-clause-thread
-place-requires-clause-thread c =
+pub place-at-requires-clause-thread : goal.place-at-requires-clause-thread
+place-at-requires-clause-thread c =
     c.requires.thread.3.has.number ∙ ap (λ (n : ℕ). n + 1) (sym c.requires.own)
 
-pub place-requires-clause-line : goal.place-requires-clause-line
-place-requires-clause-line c =
+pub place-at-requires-clause-line : goal.place-at-requires-clause-line
+place-at-requires-clause-line c =
     let t = c.requires.thread in
     subst (λ (n : ℕ). OwnBefore (slots_of c.args.common.now.log)
     (view c.args.self.now.process.log) n) (sym t.4) t.3.own
@@ -33,20 +33,20 @@ place-requires-clause-line c =
 pub take_to-requires-clause-taken : goal.take_to-requires-clause-taken
 take_to-requires-clause-taken c =
     let t = c.requires.thread in
-    (t.1, c.in_ok-place.ensures.kept c.args.self.now.tree t.1 t.3.has.taken)
+    (t.1, c.place-at.ensures.kept c.args.self.now.tree t.1 t.3.has.taken)
 
 pub take_to-requires-clause-known : goal.take_to-requires-clause-known
 take_to-requires-clause-known c =
-    λ q less. c.in_ok-place.ensures.appended.up_to q (omega (arith, less))
+    λ q less. c.place-at.ensures.appended.up_to q (omega (arith, less))
 
 pub take_to-requires-clause-within : goal.take_to-requires-clause-within
 take_to-requires-clause-within c =
-    let inside = c.in_ok-place.ensures.appended.has_op.0 in omega (arith, inside)
+    let inside = c.place-at.ensures.appended.has_op.0 in omega (arith, inside)
 
 pub take_to-requires-clause-behind : goal.take_to-requires-clause-behind
 take_to-requires-clause-behind c =
-    let behind = c.in_ok-place.ensures.behind in
-    let same = c.in_ok-place.ensures.seen in
+    let behind = c.place-at.ensures.behind in
+    let same = c.place-at.ensures.seen in
     omega (arith, behind, same)
 
 pub returns-clause-meets : goal.returns-clause-meets
@@ -57,12 +57,12 @@ returns-clause-meets c done h state w line_is =
     let old = c.args.self.now in
     let op = c.args.op in
     let line = c.args.line in
-    let place = c.in_ok-place.place in
-    let placed = c.place.new.self in
+    let place = c.place-at.result in
+    let placed = c.place-at.new.self in
     let mid = c.take_to.new.self in
     let tree = c.take_to.new.seat in
-    let app = c.in_ok-place.ensures.appended in
-    let t = c.in_ok-place.ensures.kept old.tree h w.has.taken in
+    let app = c.place-at.ensures.appended in
+    let t = c.place-at.ensures.kept old.tree h w.has.taken in
     let m = c.in_ok-take_to.ensures.takes h t in
     let g : List OpRec = h ++ m.ops in
     let seen : mid.seen ≡ place = c.in_ok-take_to.ensures.seen in
@@ -72,7 +72,7 @@ returns-clause-meets c done h state w line_is =
     m.learns.published ∙ ap (λ (x : View OpSort). x.published) app.learns.same
     ∙ ap (λ (n : ℕ). (view old.process.log).published ++ n ∷ []) (sym seen) in
     let behind : old.process.seen ≤ mid.seen =
-    subst (λ (n : ℕ). old.process.seen ≤ n) (sym seen) c.in_ok-place.ensures.behind in
+    subst (λ (n : ℕ). old.process.seen ≤ n) (sym seen) c.place-at.ensures.behind in
     let later = c.in_ok-take_to.ensures.later in
     record {
       ops = m.ops;

@@ -1,0 +1,7 @@
+mod KeyNumbers
+mod AtPlace
+mod OneChannel
+mod OwnTraces
+mod KeyedRows
+mod Rooms
+mod GroupRows

@@ -1,0 +1,17 @@
+-- The nodes of a table's keys in a context (private).
+use Rattle.std.specs.Prelude.{List, All, Option}
+use Rattle.cal_context.specs.Tree as contexts
+use Rattle.cal_context.specs.declared.numbers.NodeNumber.{NodeNumber}
+use Rattle.cal_nodes.specs.Numbers.{CanNumber, IsNumbered}
+use Rattle.cal_once.specs.declared.seat.RowSeat.{RowSeat}
+use Rattle.cal_table.specs.declared.key.TableKey.{TableKey}
+use Rattle.cal_tree.specs.declared.tree.Tree.{Tree}
+use Rattle.cal_words.specs.declared.sort.NodeSort.{NodeSort}
+
+-- each node of a key can be put into the context
+abbrev pub CanNumberKey : Tree → RowSeat NodeSort → contexts.Tree → TableKey → Type 0
+CanNumberKey tree seat t key = All (CanNumber tree seat t) key.refs
+
+-- each node of a key has its number
+abbrev pub IsKeyNumbered : List (Option NodeNumber) → TableKey → Type 0
+IsKeyNumbered numbers key = All (IsNumbered numbers) key.refs

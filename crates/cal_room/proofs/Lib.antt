@@ -1,9 +1,0 @@
-pub mod Apart
-pub mod Slots
-pub mod Ranks
-pub mod Arenas
-pub mod Fours
-pub mod Nodes
-pub mod Words
-pub mod Lines
-pub mod Seen

@@ -1,0 +1,15 @@
+//! Tests of runs in threads to their texts: rows whose text no schedule changes, threads that a gate
+//! holds until another one has come, and four, sixteen and sixty-four threads side by side.
+//!
+//! Expected texts are written by hand, or made by the run of the journal alone. They show what no
+//! clause can say: that runs succeed with ample memory, and that threads do run side by side.
+#![tactic(auto)]
+
+#[cfg(test)]
+mod gates;
+#[cfg(test)]
+mod many;
+#[cfg(test)]
+mod rows;
+#[cfg(test)]
+mod runs;
