@@ -1,7 +1,7 @@
 -- How large a run is (private).
 use Rattle.std.specs.Prelude.{◌≡◌}
 use Rattle.cal_counts.specs.Counts.{group_count, snapshot_count}
-use Rattle.cal_whole.specs.declared.replay.Counts.{Counts}
+use Rattle.cal_whole.specs.declared.whole.Counts.{Counts}
 use Rattle.cal_run.specs.Paths.{nodes}
 use Rattle.cal_script.specs.declared.journal.Journal.{Journal}
 use Rattle.cal_script.specs.declared.script.Script.{Script}

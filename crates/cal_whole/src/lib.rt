@@ -6,6 +6,6 @@
 //! Nothing is promised of a run that ran out of memory.
 #![tactic(auto)]
 
-mod replay;
+mod whole;
 
-pub use replay::{Ran, replay};
+pub use whole::{Ran, replay};

@@ -1,12 +1,11 @@
-//! Tests of runs in threads to their texts: rows whose text no schedule changes, threads that a gate
-//! holds until another one has come, and four, sixteen and sixty-four threads side by side.
+//! Tests of runs in threads to their texts: rows whose text no schedule changes, and four, sixteen
+//! and sixty-four threads side by side.
 //!
 //! Expected texts are written by hand, or made by the run of the journal alone. They show what no
-//! clause can say: that runs succeed with ample memory, and that threads do run side by side.
+//! clause can say, that runs succeed with ample memory. Threads that wait for each other are tested
+//! with the top call.
 #![tactic(auto)]
 
-#[cfg(test)]
-mod gates;
 #[cfg(test)]
 mod many;
 #[cfg(test)]

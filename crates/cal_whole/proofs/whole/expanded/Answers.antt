@@ -2,7 +2,7 @@ use Rattle.std.proofs.Common.{[], ap, ◌∙◌, subst, sym}
 use Rattle.cal_ran.specs.Ended.{IsEnded}
 use Rattle.cal_records.specs.Records.{globals_of, run_rows}
 use Rattle.cal_script.specs.declared.script.Script.{Script}
-use Rattle.cal_whole.proofs.replay.expanded.Goals as goal
+use Rattle.cal_whole.proofs.whole.expanded.Goals as goal
 
 pub take_rows-requires : goal.take_rows-requires
 take_rows-requires c = record {
