@@ -5,7 +5,7 @@ use Rattle.std.proofs.lemmas.Bool.{cases_lt, eqb-true, lt-ltb, le-ltb, ltb-true,
 use Rattle.std.proofs.lemmas.Bool.Decides.{nat_tests}
 use Rattle.std.proofs.lemmas.List.{length-append, length-take}
 use Rattle.std.proofs.lemmas.List.Elements.{All-append, All-filter, All-nil, All-cons}
-use Rattle.cal_board.specs.Blackboard.{Blackboard, IsWithin, begin_reply, depth_at, room_reply, slot_number, with_values}
+use Rattle.cal_board.specs.Blackboard.{Blackboard, IsWithin, begin_reply, depth_at, most_values, room_reply, slot_number, with_values}
 use Rattle.cal_board.specs.Slots.{front, opened_in, slot_of, with_slot}
 use Rattle.cal_board.specs.declared.attr.AttrRef.{AttrRef}
 use Rattle.cal_board.specs.declared.opened.Opened.{Opened}
@@ -102,7 +102,25 @@ module _ {V : Type 0} where
 pub room-done : (slots depth : ℕ) → room_reply slots depth ≡ Done → (depth < 128) × ((depth ≡ 0) → slots < 64)
 room-done slots depth is = grind (arith, nat_tests)
 
+module _ {V : Type 0} (b : Blackboard V) where
+  -- a reference slot for which a `begin` is accepted has room
+  pub few-references : (a : AttrRef) → a.as_value ≡ false → begin_reply b a ≡ Done
+      → length (opened_in (slot_number a) b.references) < most_values
+  few-references a t done =
+      let depth : depth_at b a ≡ length (opened_in (slot_number a) b.references) =
+      (λ j. if t j then length (opened_in (slot_number a) b.as_values) else length (opened_in (slot_number a) b.references)) in
+      let room = room-done _ (depth_at b a) done in
+      let r = room.0 in
+      omega (arith, r, depth)
+
 module _ {V : Type 0} (b : Blackboard V) (is : IsWithin b) where
+  -- the values below the last one are fewer than a slot may hold
+  pub few-before : (k : ℕ) → length (front (opened_in k b.references)) < most_values
+  few-before k =
+      let less = length-take (length (opened_in k b.references) - 1) (opened_in k b.references) in
+      let few = opened_in-short k b.references is.references in
+      omega (arith, less, few)
+
   -- other values in one slot of a board: few, and no more slots than there is room for
   within-fits : (r s o d m : ℕ) → r + min 1 d ≤ s + min 1 m → s + o ≤ 64 → (d ≡ 0 → (s + o < 64) ⊎ (m ≡ 0)) → r + o ≤ 64
   within-fits r s o zero m h w room = by (room refl)

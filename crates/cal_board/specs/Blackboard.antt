@@ -24,6 +24,10 @@ pub record Blackboard (V : Type 0) : Type 0 where
 abbrev pub slot_number : AttrRef → ℕ
 slot_number a = if a.nested then 0 else a.number + 1
 
+-- the most values that one slot holds
+abbrev pub most_values : ℕ
+most_values = 128
+
 -- whether a slot is left for a first value, and whether the slot has room for one more
 abbrev pub room_reply : (slots depth : ℕ) → replies.BoardReply
 room_reply slots depth = if depth == 0 && nat_le 64 slots then reply.SlotsFull

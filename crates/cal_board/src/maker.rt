@@ -11,8 +11,9 @@ use std::alloc::Global;
 /// Whoever makes nodes for the open values of reference slots. `V` is how a value is handed in, and
 /// `N` what is made for it. A maker only grows: a node stands for the same values for good.
 pub trait NodeMaker<V: Drop, N> {
-    ghost use Rattle.std.specs.Prelude.{◌≡◌, ℕ, List, Option, IfOk, IsOk, OnErr, option_copied};
-    ghost use Rattle.cal_board.specs.Blackboard.{opened_more};
+    ghost use Rattle.std.specs.Prelude.{◌≡◌, ◌<◌, ℕ, List, Option, IfOk, IsOk, OnErr, length};
+    ghost use Rattle.std.specs.Prelude.{option_copied};
+    ghost use Rattle.cal_board.specs.Blackboard.{most_values, opened_more};
     ghost use Rattle.cal_board.specs.Standing.{IsParent};
     ghost use Rattle.cal_board.specs.declared.opened.Opened.{Opened};
     ghost use Rattle.cal_value.specs.declared.variant.Variant.{Variant};
@@ -22,6 +23,9 @@ pub trait NodeMaker<V: Drop, N> {
 
     // whether a node may be asked for by this attribute and value
     ghost knows: { Self → ℕ → V → Type 0 };
+
+    // whether there is room for the node of a value
+    ghost has_room: { Self → V → Type 0 };
 
     // whether a node stands for these open values, the outermost first
     ghost is_node: { Self → N → List (Opened Variant) → Type 0 };
@@ -38,12 +42,14 @@ pub trait NodeMaker<V: Drop, N> {
     // whether a value is copied without memory
     ghost is_plain: { Self → V → Type 0 };
 
-    /// The node of a value that is opened below the values of another node, or below none. No
-    /// other node is made.
+    /// The node of a value that is opened below the values of another node, or below none: fewer
+    /// than a slot may hold. No other node is made.
     fn child(&mut self, parent: Option<&N>, attribute: u32, value: V) -> Result<N, OutOfMemory>
         requires known { knows self.old attribute value }
+        requires room { has_room self.old value }
         requires parent { (path : List (Opened Variant))
-            × IsParent (is_node self.old) (option_copied parent) path }
+            × IsParent (is_node self.old) (option_copied parent) path
+            × (length path < most_values) }
         ensures made { IfOk result (λ n. (path : List (Opened Variant))
             → IsParent (is_node self.old) (option_copied parent.entry) path
             → is_node self.new n (opened_more attribute (value_of self.old value) path)) }
@@ -69,6 +75,8 @@ impl NodeMaker<ValueNumber, NodeNumber> for Context {
     ghost value_of = { λ t v. value_at t v };
 
     ghost knows = { λ t a v. (a < length t.attributes) × (v.0 < length t.values) };
+
+    ghost has_room = { λ _ _. Unit {0} };
 
     ghost is_node = { NodeStands };
 

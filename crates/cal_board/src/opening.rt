@@ -1,4 +1,5 @@
-ghost use Rattle.std.specs.Prelude.{◌≡◌, ◌<◌, ◌≤◌, IfOk, OnOk, OnErr, option_copied, true};
+ghost use Rattle.std.specs.Prelude.{◌≡◌, ◌<◌, ◌≤◌, IfOk, OnOk, OnErr, option_copied, false};
+ghost use Rattle.std.specs.Prelude.{true};
 ghost use Rattle.cal_board.specs.Asking.{Does, IsRefused, Puts};
 ghost use Rattle.cal_board.specs.Blackboard.{begin_reply, begun, depth_at, is_top, opened_instead};
 ghost use Rattle.cal_board.specs.Blackboard.{reply_to, top_at, with_values};
@@ -27,6 +28,7 @@ impl<N, R: Room> BoardWithRoom<N, R> {
     where
         N: Drop,
         requires known { M.knows maker.old attr.number value }
+        requires space { attr.as_value ≡ false → M.has_room maker.old value }
         requires stands { StandsForSome (M.is_node maker.old) self.old }
         ensures steps { IfOk result (Steps (M.is_node maker.old) (M.is_node maker.new)
             self.old self.new code.Begin attr (M.value_of maker.old value)) }
@@ -60,6 +62,7 @@ impl<N, R: Room> BoardWithRoom<N, R> {
     where
         N: Drop,
         requires known { M.knows maker.old attr.number value }
+        requires space { attr.as_value ≡ false → M.has_room maker.old value }
         requires stands { StandsForSome (M.is_node maker.old) self.old }
         ensures steps { IfOk result (Steps (M.is_node maker.old) (M.is_node maker.new)
             self.old self.new code.Set attr (M.value_of maker.old value)) }
@@ -91,6 +94,7 @@ impl<N, R: Room> BoardWithRoom<N, R> {
     where
         N: Drop,
         requires known { M.knows maker.old attr.number value }
+        requires space { attr.as_value ≡ false → M.has_room maker.old value }
         requires stands { StandsForSome (M.is_node maker.old) self.old }
         requires accepted { reply_to self.old code.Begin attr ≡ reply.Done }
         ensures steps { OnOk result (Steps (M.is_node maker.old) (M.is_node maker.new)
@@ -116,6 +120,7 @@ impl<N, R: Room> BoardWithRoom<N, R> {
     where
         N: Drop,
         requires known { M.knows maker.old attr.number value }
+        requires space { attr.as_value ≡ false → M.has_room maker.old value }
         requires stands { StandsForSome (M.is_node maker.old) self.old }
         requires room { begin_reply self.old attr ≡ reply.Done }
         ensures stands { OnOk result (StandsThen (M.is_node maker.old) (M.is_node maker.new)
@@ -151,6 +156,7 @@ impl<N, R: Room> BoardWithRoom<N, R> {
     where
         N: Drop,
         requires known { M.knows maker.old attr.number value }
+        requires space { attr.as_value ≡ false → M.has_room maker.old value }
         requires stands { StandsForSome (M.is_node maker.old) self.old }
         requires there { 0 < depth_at self.old attr }
         requires top { is_top (top_at self.old attr) attr.number ≡ true }

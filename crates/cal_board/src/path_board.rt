@@ -42,6 +42,8 @@ impl<'a> NodeMaker<&'a Variant, Variant> for Copies {
 
     ghost knows = { λ _ _ _. Unit {0} };
 
+    ghost has_room = { λ _ _. Unit {0} };
+
     ghost is_node = { λ _. IsLastValue };
 
     ghost grows = { λ _ _. Unit {0} };

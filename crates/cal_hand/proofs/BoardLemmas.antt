@@ -2,7 +2,7 @@
 use Rattle.std.proofs.Common.{◌≡◌, ◌≢◌, ◌⊎◌, ℕ, ◌+◌, ◌-◌, ◌<◌, ◌≤◌, Bool, true, false, if◌then◌else◌, List, [], length, map, refl, sym, ap, ◌∙◌, subst, arith}
 use Rattle.std.specs.Prelude.{Option, Some, None, Result, Ok, Err, IfOk, OnErr, IsTrue}
 use Rattle.std.proofs.lemmas.Bool.{true≢false}
-use Rattle.std.proofs.lemmas.List.{length-map, length-take}
+use Rattle.std.proofs.lemmas.List.{length-take}
 use Rattle.cal_board.proofs.LimitLemmas.{opened_in-short, room-done}
 use Rattle.cal_board.proofs.StandingLemmas.{OpenedStand-front, Stands-grows, held_long, opened_in-Stands, parent_of}
 use Rattle.cal_board.specs.Asking.{Does, IsRefused, LeavesAll, Puts, Refuses, parent_in}
@@ -13,7 +13,7 @@ use Rattle.cal_board.specs.declared.attr.AttrRef.{AttrRef}
 use Rattle.cal_board.specs.declared.opened.Opened.{Opened}
 use Rattle.cal_board.specs.declared.reply.BoardReply as replies
 use Rattle.cal_board.specs.declared.reply.BoardReply.TheVariants as reply
-use Rattle.cal_hand.proofs.HandLemmas.{parent_path}
+use Rattle.cal_hand.proofs.RoomLemmas.{not-too-deep}
 use Rattle.cal_hand.specs.Boards.{ByTable, Replies, TellsFull, TellsWhy}
 use Rattle.cal_hand.specs.Hands.{AddsByHand, GrowsHand, RefusesChild, node-stays}
 use Rattle.cal_hand.specs.Nodes.{AddsNode, IsNodeFor, IsPlain, NodeAt, node_entry, parent_number}
@@ -21,10 +21,8 @@ use Rattle.cal_hand.specs.declared.hand.Hand.{Hand}
 use Rattle.cal_once.specs.Seats.{view}
 use Rattle.cal_once.specs.Views.{IsLater}
 use Rattle.cal_once.specs.declared.seat.RowSeat.{RowSeat}
-use Rattle.cal_tree.proofs.Nodes.{depth_of_path}
-use Rattle.cal_tree.proofs.Ways.{leads_later}
 use Rattle.cal_tree.specs.Children.{IsAnswer}
-use Rattle.cal_tree.specs.Paths.{HasPath, NodeEntry}
+use Rattle.cal_tree.specs.Paths.{NodeEntry}
 use Rattle.cal_tree.specs.Seats.{IsTreeSeat, plan_of, slots_of}
 use Rattle.cal_tree.specs.declared.tree.Tree.{Tree}
 use Rattle.cal_value.specs.declared.variant.Variant.{Variant}
@@ -138,26 +136,12 @@ module _ (hand new : Hand) (grows : GrowsHand hand new) (old after : Blackboard 
         (view new.seat.now) (Err full)
         → full ≢ TooDeep
     not_deep reference accepted full answer e =
-        let slots = slots_of hand.tree.now in
-        let v = view hand.seat.now in
-        let w = view new.seat.now in
-        let parent = parent_in old c a in
         let few = few_above (NodeAt hand.tree.now hand.seat.now) old b stands within a reference c
         accepted in
-        let deep : IsAnswer (plan_of hand.tree.now) (parent_number parent)
-        (record { attr = a.number; value = hand.value.now }) v w (Err TooDeep) =
-        subst (λ (f : TreeFull). IsAnswer (plan_of hand.tree.now) (parent_number parent)
-        (record { attr = a.number; value = hand.value.now }) v w (Err f)) e answer in
-        let way : HasPath slots w (map node_entry few.0) (parent_number parent) =
-        leads_later slots v w 0 0 (map node_entry few.0) (parent_number parent) grows.later.3
-        (parent_path slots v parent few.0 few.1) in
-        let sat : IsTreeSeat hand.tree.now new.seat.now =
-        subst (λ (t : Tree). IsTreeSeat t new.seat.now) grows.tree (grows.seat seat) in
-        let long = depth_of_path (plan_of hand.tree.now) w sat.sound (map node_entry few.0)
-        (parent_number parent) deep.depth deep.is_depth way in
-        let most = deep.gives.0 in
-        let less = few.2 in
-        absurd (omega (arith, long, most, less, length-map few.0 node_entry))
+        let entry : NodeEntry = record { attr = a.number; value = hand.value.now } in
+        not-too-deep hand new grows seat (parent_in old c a) entry few.0 few.1 few.2
+        (subst (λ (f : TreeFull). IsAnswer (plan_of hand.tree.now) (parent_number (parent_in old c a))
+        entry (view hand.seat.now) (view new.seat.now) (Err f)) e answer)
 
     tells : reply_to old c a ≡ reply.Done → after ≡ old → (t : Bool) → a.as_value ≡ t
         → Refuses (λ (h i : Hand) (parent : Option NodeId) (attribute : ℕ) (u : Unit {0}).

@@ -1,3 +1,4 @@
 pub mod HandLemmas
+pub mod RoomLemmas
 pub mod BoardLemmas
 pub mod LastLemmas

@@ -3,3 +3,4 @@ pub mod Hands
 pub mod Boards
 pub mod Changes
 pub mod Lasts
+pub mod Rooms

@@ -2,6 +2,7 @@ ghost use Rattle.std.specs.Prelude.{◌≡◌, IfOk, OnErr};
 ghost use Rattle.cal_board.specs.Standing.{StandsForSome, StandsThen};
 ghost use Rattle.cal_hand.specs.Changes.{HasShortText, Operates, changed_board, words_at_most};
 ghost use Rattle.cal_hand.specs.Nodes.{NodeAt, PublishedAtMost};
+ghost use Rattle.cal_hand.specs.Rooms.{HasRoomToChange};
 ghost use Rattle.cal_once.specs.Seats.{view};
 ghost use Rattle.cal_once.specs.Views.{IsLater};
 ghost use Rattle.cal_tree.specs.Seats.{IsTreeSeat};
@@ -34,6 +35,7 @@ pub fn operate(
 ) -> Result<BoardReply, OutOfMemory>
     requires seat { IsTreeSeat tree.now seat.old }
     requires text { HasShortText change }
+    requires room { HasRoomToChange tree.now seat.old attr change }
     requires stands { StandsForSome (NodeAt tree.now seat.old) board.old }
     ensures seat { IsTreeSeat tree.now seat.new }
     ensures later { IsLater (view seat.old) (view seat.new) }

@@ -23,12 +23,14 @@ pub struct Hand<'a> {
     pub full: Option<TreeFull>,
 }
 
-/// A tree that is full is answered as want of memory; `full` tells it.
+/// A tree that is full ends the call; `full` tells why, and a `SharedBoard` answers by it.
 impl<'a> NodeMaker<(), NodeId> for Hand<'a> {
     ghost value_of = { λ hand _. hand.value.now };
 
     ghost knows = { λ hand _ _. IsTreeSeat hand.tree.now hand.seat.now
         × (text_length hand.value.now < 2 ^ 32) };
+
+    ghost has_room = { λ _ _. Unit {0} };
 
     ghost is_node = { λ hand n path.
         IsNodeFor (slots_of hand.tree.now) (view hand.seat.now) n path };

@@ -1,8 +1,8 @@
 //! Blackboards over the shared tree: a tree seat as a maker of nodes, and a board that has all its
 //! room from the start.
 //!
-//! A thread that runs opens values by `begin` and `set` on boards that grow, and a refused node is
-//! want of memory there. A `SharedBoard` takes no memory for its lines, so it tells a full tree
+//! A thread that runs opens values by `begin` and `set` on boards that grow, over a tree that has
+//! room for each node. A `SharedBoard` takes no memory for its lines, so it tells a full tree
 //! with its numbers. The layers above use what a line does to the board and to the seat: it
 //! publishes the node that it puts into a slot, or nothing.
 #![tactic(auto)]
@@ -13,6 +13,7 @@ mod hand;
 mod last;
 mod laws;
 mod opening;
+mod roomy;
 mod shared_board;
 
 pub use change::{Change, operate};

@@ -11,4 +11,5 @@ pub mod Nodes
 pub mod Words
 pub mod Lines
 pub mod Seen
+pub mod Uses
 pub mod SevenEach

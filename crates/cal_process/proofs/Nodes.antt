@@ -1,26 +1,26 @@
--- A run's tree refuses no node for which its seat has room.
-use Rattle.std.proofs.Common.{◌≡◌, ◌≢◌, ℕ, zero, suc, ◌+◌, ◌<◌, ◌≤◌, ◌⊎◌, Bool, true, false}
+-- A run's tree has room for each node for which its seat has room.
+use Rattle.std.proofs.Common.{◌≡◌, ℕ, zero, suc, ◌+◌, ◌<◌, ◌≤◌, ◌⊎◌, Bool, true, false}
 use Rattle.std.proofs.Common.{if◌then◌else◌, List, length, refl, ap, subst, inl, inr}
 use Rattle.std.proofs.Common.{⊎_elim, arith}
-use Rattle.std.specs.Prelude.{Ok, Err, IsOk, Result}
 use Rattle.std.proofs.lemmas.Bool.{cases_lt}
+use Rattle.cal_board.specs.declared.attr.AttrRef.{AttrRef}
+use Rattle.cal_hand.specs.Changes.{words_at_most}
+use Rattle.cal_hand.specs.Rooms.{HasNodeRoom, HasRoomToChange}
+use Rattle.cal_hand.specs.declared.change.Change as changes
+use Rattle.cal_hand.specs.declared.change.Change.TheVariants as change
 use Rattle.cal_once.proofs.Seen.{seen_to_be}
+use Rattle.cal_once.specs.Seats.{view}
 use Rattle.cal_once.specs.Sound.{IsSound}
 use Rattle.cal_once.specs.Views.{Knows, known_count, was_seen}
+use Rattle.cal_once.specs.declared.seat.RowSeat.{RowSeat}
 use Rattle.cal_once.specs.declared.view.View.{View}
 use Rattle.cal_process.specs.declared.common.Common.{Common}
 use Rattle.cal_process.proofs.Fours.{not-all-known}
 use Rattle.cal_process.specs.Replicas.{IsCommon}
 use Rattle.cal_process.specs.Rooms.{HasRoomFor}
 use Rattle.cal_script.specs.Shapes.{tree_arena}
-use Rattle.cal_tree.proofs.Nodes.{depth_of_path}
-use Rattle.cal_tree.specs.Children.{IsAnswer, deepest}
-use Rattle.cal_tree.specs.Paths.{HasPath, NodeEntry}
 use Rattle.cal_tree.specs.Seats.{node_law, plan_of, slots_of}
-use Rattle.cal_words.specs.Words.{node_length, node_words}
-use Rattle.cal_words.specs.declared.full.TreeFull.{TreeFull}
-use Rattle.cal_words.specs.declared.full.TreeFull.TheVariants as full
-use Rattle.cal_words.specs.declared.node.NodeId.{NodeId}
+use Rattle.cal_value.specs.declared.variant.Variant.{Variant}
 use Rattle.cal_words.specs.declared.shape.Shape.{Shape}
 use Rattle.cal_words.specs.declared.sort.NodeSort.{NodeSort}
 
@@ -67,32 +67,24 @@ module _ (common : Common) (has : IsCommon common) where
       (λ place less. seen_to_be v.seen (place + 1) (all.1 place less))))
       (count v (slots_of common.tree))
 
-  module _ (v w : View NodeSort) (sound : IsSound node_law (plan_of common.tree) w) (parent : ℕ)
-      (entry : NodeEntry) (room : HasRoomFor common v entry.value) where
-    -- no refusal comes but for the depth
-    pub only-deep : (refusal : TreeFull) → refusal ≢ full.TooDeep
-        → IsAnswer (plan_of common.tree) parent entry v w (Err refusal) → ⊥
-    only-deep full.TooDeep other a = other refl
-    only-deep full.RowsFull other a =
-        not-all-known (plan_of common.tree) w sound threads words has.shape_of_tree
-        (λ place less. let h = a.gives.1.0 place less in (h.slot, h.known))
-    only-deep (full.ArenaFull used need) other a =
-        let lacks = a.gives.1 in
+  -- where a seat's arena has room for a value's node, the tree has
+  pub node-room : (seat : RowSeat NodeSort) (value : Variant)
+      → HasRoomFor common (view seat) value → HasNodeRoom common.tree seat value
+  node-room seat value fits = record {
+    words =
         let arena = ap (λ (s : Shape). s.arena) has.shape_of_tree in
-        let long : length (node_words parent (a.depth + 1) entry.attr entry.value)
-        ≡ node_length entry.value = refl in
-        omega (arith, lacks.used_is, lacks.need_is, lacks.too_long, arena, long, room)
+        omega (arith, fits, arena);
+    slots = λ other at all. not-all-known (plan_of common.tree) (view other) at.sound threads words
+        has.shape_of_tree (λ place less. seen_to_be (view other).seen (place + 1) (all place less));
+  }
 
-    -- so whatever a call for a child of a path that isn't as deep as a slot answers is a node
-    pub child-ok : (path : List NodeEntry) → HasPath (slots_of common.tree) w path parent
-        → length path < deepest → (answer : Result NodeId TreeFull)
-        → IsAnswer (plan_of common.tree) parent entry v w answer → IsOk answer
-    child-ok path leads short (Ok node) a = refl
-    child-ok path leads short (Err full.TooDeep) a =
-        let depth = depth_of_path (plan_of common.tree) w sound path parent a.depth a.is_depth
-        leads in
-        absurd (omega (arith, depth, short, a.gives.0))
-    child-ok path leads short (Err full.RowsFull) a =
-        absurd (only-deep full.RowsFull (λ e. cc) a)
-    child-ok path leads short (Err (full.ArenaFull used need)) a =
-        absurd (only-deep (full.ArenaFull used need) (λ e. cc) a)
+  -- and has room for a change that makes such a node
+  pub room-to-change : (seat : RowSeat NodeSort) (a : AttrRef) (did : changes.Change) (n : ℕ)
+      → words_at_most did ≡ n
+      → (a.as_value ≡ false → (view seat).used + n ≤ tree_arena common.script.now)
+      → HasRoomToChange common.tree seat a did
+  room-to-change seat a (change.Begin v) n is fits =
+      λ reference. node-room seat v.now (let f = fits reference in omega (arith, f, is))
+  room-to-change seat a change.End n is fits = tt
+  room-to-change seat a (change.Set v) n is fits =
+      λ reference. node-room seat v.now (let f = fits reference in omega (arith, f, is))

@@ -18,7 +18,8 @@ use Rattle.cal_plog.specs.History.{HasOp, HasSeen, KnowsBelow}
 use Rattle.cal_plog.specs.Seats.{slots_of}
 use Rattle.cal_process.specs.Operations.{IsOpOf, history_of, operation_in, placed_as, words_made}
 use Rattle.cal_process.specs.Replicas.{AddsWords, HasTaken, Takes, TakesNone, TakesOne}
-use Rattle.cal_process.specs.Takings.{KeepsLooks, OnlyLearns, TakesAll, TakesMore, words_of_ops}
+use Rattle.cal_process.specs.Takings.{KeepsLooks, MayTake, OnlyLearns, TakesAll, TakesMore}
+use Rattle.cal_process.specs.Takings.{words_of_ops}
 use Rattle.cal_process.specs.declared.common.Common.{Common}
 use Rattle.cal_process.specs.declared.replica.Replica.{Replica}
 use Rattle.cal_run.proofs.FrontLemmas.{process_board-push}
@@ -184,6 +185,22 @@ module _ (common : Common) where
       → ((g : List OpRec) → HasTaken common t mid g → Takes common t u mid new g b)
       → (g : List OpRec) → HasTaken common t mid g → TakesOne common t u mid new g
   takes-one t u mid new b e f = takes-as t u mid new b true e f
+
+  -- and there is room for all that are still to come
+  pub may-take-more : (t u : RowSeat NodeSort) (mid new : Replica) (h : List OpRec)
+      → MayTake common t mid h → (one : TakesOne common t u mid new h)
+      → MayTake common u new (h ++ one.op ∷ [])
+  may-take-more t u mid new h may one = record {
+    taken = one.taken;
+    thread = may.thread;
+    done = may.done;
+    uses =
+        let push = sum_by_push (λ (op : OpRec). words_made common.script.now (operation_in op)) h
+        one.op in
+        let uses = may.uses in
+        let adds = one.words in
+        omega (arith, push, uses, adds);
+  }
 
   pub takes-none : (t u : RowSeat NodeSort) (mid new : Replica) (b : Bool) → b ≡ false
       → ((g : List OpRec) → HasTaken common t mid g → Takes common t u mid new g b)

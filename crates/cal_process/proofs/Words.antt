@@ -153,6 +153,22 @@ sum-next f xs i x at =
     let next : suc i ≡ i + 1 = omega arith in
     subst (λ n. sum_by f (take n xs) ≡ sum_by f (take i xs) + f x) next (sum-suc f xs i x at)
 
+-- and are no fewer for one item more, if there is one
+sum-suc-more : {X : Type 0} (f : X → ℕ) (xs : List X) (i : ℕ)
+    → sum_by f (take i xs) ≤ sum_by f (take (suc i) xs)
+sum-suc-more f [] zero = omega arith
+sum-suc-more f [] (suc i) = omega arith
+sum-suc-more f (y ∷ ys) zero = omega arith
+sum-suc-more f (y ∷ ys) (suc i) =
+    let rest = sum-suc-more f ys i in
+    omega (arith, rest, sum_by-cons f y (take i ys), sum_by-cons f y (take (suc i) ys))
+
+pub sum-more : {X : Type 0} (f : X → ℕ) (xs : List X) (i : ℕ)
+    → sum_by f (take i xs) ≤ sum_by f (take (i + 1) xs)
+sum-more f xs i =
+    let next : suc i ≡ i + 1 = omega arith in
+    subst (λ n. sum_by f (take i xs) ≤ sum_by f (take n xs)) next (sum-suc-more f xs i)
+
 pub all-at : {X : Type 0} (P : X → Type 0) (xs : List X) (i : ℕ) (d : X) → All P xs → P d
     → P (get_or xs i d)
 all-at P [] i d all none = none

@@ -1,5 +1,5 @@
 -- What a thread learns by operations one after another.
-use Rattle.std.specs.Prelude.{◌≡◌, ◌⊎◌, List, [], ◌∷◌, ◌++◌}
+use Rattle.std.specs.Prelude.{◌≡◌, ◌⊎◌, ℕ, List, [], ◌∷◌, ◌++◌}
 use Rattle.cal_once.specs.Seats.{view}
 use Rattle.cal_once.specs.Views.{KnowsMore}
 use Rattle.cal_once.specs.declared.seat.RowSeat.{RowSeat}
@@ -7,11 +7,21 @@ use Rattle.cal_once.specs.declared.view.View.{View}
 use Rattle.cal_plog.specs.Seats.{slots_of}
 pub use Rattle.cal_process.specs.Operations.{words_of_ops}
 use Rattle.cal_process.specs.Replicas.{AddsWords, HasTaken}
+use Rattle.cal_process.specs.Rooms.{UsesAtMost}
 use Rattle.cal_process.specs.declared.common.Common.{Common}
 use Rattle.cal_process.specs.declared.replica.Replica.{Replica}
 use Rattle.cal_words.specs.declared.op.OpRec.{OpRec}
 use Rattle.cal_words.specs.declared.sort.NodeSort.{NodeSort}
 use Rattle.cal_words.specs.declared.sort.OpSort.{OpSort}
+
+-- A replica has seen exactly these operations, and the tree has room for the nodes of all that are
+-- still to come: the seat uses no more words than these make and the lines that its thread has done.
+pub record MayTake (common : Common) (seat : RowSeat NodeSort) (p : Replica) (h : List OpRec)
+    : Type 0 where
+  pub taken : HasTaken common seat p h
+  pub thread : ℕ
+  pub done : ℕ
+  pub uses : UsesAtMost common (view seat) h thread done
 
 -- a seat has learned, and published nothing: all but its draft, its words and its looks stays
 pub record OnlyLearns (v w : View OpSort) : Type 0 where

@@ -5,6 +5,8 @@ ghost use Rattle.cal_once.specs.Seats.{view};
 ghost use Rattle.cal_once.specs.Views.{IsLater};
 ghost use Rattle.cal_process.specs.Boards.{HeldSome, HeldThen};
 ghost use Rattle.cal_process.specs.Operations.{MayDo, words_by, words_made};
+ghost use Rattle.cal_process.specs.Replicas.{IsCommon};
+ghost use Rattle.cal_process.specs.Rooms.{HasRoomToDo};
 ghost use Rattle.cal_run.specs.History.{board_with};
 ghost use Rattle.cal_run.specs.Lines.{attr_ref, value_of};
 ghost use Rattle.cal_tree.specs.Seats.{IsTreeSeat};
@@ -20,8 +22,8 @@ use cal_value::{OutOfMemory, Variant};
 use cal_words::{NodeId, OpCode};
 use std::alloc::Global;
 
-/// Does to a board what an operation does, which is nothing where the board refuses it. A full tree
-/// is answered as want of memory. An `Err` leaves the board; the seat may know more.
+/// Does to a board what an operation does, which is nothing where the board refuses it. The tree has
+/// room for its node. An `Err` leaves the board; the seat may know more.
 #[inline(always)]
 pub fn perform(
     alloc: Global,
@@ -30,7 +32,9 @@ pub fn perform(
     op: Operation,
     board: &mut Board<NodeId>,
 ) -> Result<(), OutOfMemory>
+    requires common { IsCommon common.now }
     requires seat { IsTreeSeat common.now.tree seat.old }
+    requires room { HasRoomToDo common.now (view seat.old) op }
     requires may { MayDo common.now.script.now op }
     requires held { HeldSome common.now seat.old board.old }
     ensures seat { IsTreeSeat common.now.tree seat.new }

@@ -6,6 +6,7 @@ ghost use Rattle.cal_once.specs.declared.seat.RowSeat as seats;
 ghost use Rattle.cal_plog.specs.Seats.{IsLogSeat};
 ghost use Rattle.cal_process.specs.Replicas.{HasTaken, IsCommon, Takes};
 ghost use Rattle.cal_process.specs.Rooms.{UsesSevenEach};
+ghost use Rattle.cal_process.specs.Takings.{MayTake};
 ghost use Rattle.cal_process.specs.declared.common.Common as commons;
 ghost use Rattle.cal_tree.specs.Seats.{IsTreeSeat};
 ghost use Rattle.cal_words.specs.declared.op.OpRec as words;
@@ -55,7 +56,7 @@ impl Replica {
         seat: &mut TreeSeat,
     ) -> Result<bool, OutOfMemory>
         requires common { IsCommon common.now }
-        requires taken { (h : List words.OpRec) × HasTaken common.now seat.old self.old h }
+        requires taken { (h : List words.OpRec) × MayTake common.now seat.old self.old h }
         ensures takes { IfOk result (λ more. (h : List words.OpRec)
             → HasTaken common.now seat.old self.old h
             → Takes common.now seat.old seat.new self.old self.new h more) }

@@ -4,7 +4,7 @@ ghost use Rattle.cal_once.specs.Views.{IsLater};
 ghost use Rattle.cal_plog.specs.History.{KnowsBelow};
 ghost use Rattle.cal_plog.specs.Seats.{slots_of};
 ghost use Rattle.cal_process.specs.Replicas.{HasTaken, IsCommon};
-ghost use Rattle.cal_process.specs.Takings.{KeepsLooks, TakesAll, TakesMore};
+ghost use Rattle.cal_process.specs.Takings.{KeepsLooks, MayTake, TakesAll, TakesMore};
 ghost use Rattle.cal_words.specs.declared.op.OpRec as words;
 
 use crate::{Common, Replica};
@@ -22,7 +22,7 @@ impl Replica {
         place: u64,
     ) -> Result<(), OutOfMemory>
         requires common { IsCommon common.now }
-        requires taken { (h : List words.OpRec) × HasTaken common.now seat.old self.old h }
+        requires taken { (h : List words.OpRec) × MayTake common.now seat.old self.old h }
         requires known { KnowsBelow (slots_of common.now.log) (view self.old.log) place }
         requires within { place ≤ slots_of common.now.log }
         requires behind { self.old.seen ≤ place }
@@ -47,7 +47,7 @@ impl Replica {
         seat: &mut TreeSeat,
     ) -> Result<(), OutOfMemory>
         requires common { IsCommon common.now }
-        requires taken { (h : List words.OpRec) × HasTaken common.now seat.old self.old h }
+        requires taken { (h : List words.OpRec) × MayTake common.now seat.old self.old h }
         ensures takes { OnOk result ((h : List words.OpRec)
             → HasTaken common.now seat.old self.old h
             → TakesAll common.now seat.old seat.new self.old self.new h) }

@@ -1,10 +1,7 @@
 //! Laws of the room in a run's tree of nodes. Nothing here is ever run.
 
-ghost use Rattle.std.specs.Prelude.{◌≡◌, ◌≢◌, ◌+◌, ◌<◌, ◌++◌, ◌∷◌, ℕ, [], IsOk, List, Result};
-ghost use Rattle.std.specs.Prelude.{Some, false, length};
-ghost use Rattle.cal_board.specs.Blackboard.{Blackboard};
-ghost use Rattle.cal_board.specs.declared.attr.AttrRef.{AttrRef};
-ghost use Rattle.cal_hand.specs.Boards.{TellsFull};
+ghost use Rattle.std.specs.Prelude.{◌≡◌, ◌≢◌, ◌+◌, ◌<◌, ◌++◌, ◌∷◌, ℕ, [], List, Some, false};
+ghost use Rattle.cal_hand.specs.Rooms.{HasNodeRoom};
 ghost use Rattle.cal_once.specs.Seats.{view};
 ghost use Rattle.cal_once.specs.Views.{Learns, known_count};
 ghost use Rattle.cal_once.specs.declared.seat.RowSeat.{RowSeat};
@@ -20,37 +17,22 @@ ghost use Rattle.cal_run.specs.Lines.{attribute_of, is_process_line, line_at, op
 ghost use Rattle.cal_run.specs.Lines.{value_of};
 ghost use Rattle.cal_run.specs.declared.operation.Operation.{Operation};
 ghost use Rattle.cal_script.specs.declared.script.Line.{Line};
-ghost use Rattle.cal_tree.specs.Children.{IsAnswer, deepest};
-ghost use Rattle.cal_tree.specs.Paths.{NodeEntry};
-ghost use Rattle.cal_tree.specs.Seats.{IsPathOf, IsTreeSeat, plan_of, slots_of};
+ghost use Rattle.cal_tree.specs.Seats.{IsTreeSeat, slots_of};
 ghost use Rattle.cal_value.specs.Props.{is_as_value};
 ghost use Rattle.cal_value.specs.declared.variant.Variant.{Variant};
-ghost use Rattle.cal_words.specs.declared.full.TreeFull.{TreeFull};
-ghost use Rattle.cal_words.specs.declared.node.NodeId.{NodeId};
-ghost use Rattle.cal_words.specs.declared.op.OpCode as codes;
 ghost use Rattle.cal_words.specs.declared.op.OpCode.TheVariants as code;
 ghost use Rattle.cal_words.specs.declared.op.OpRec.{OpRec};
 ghost use Rattle.cal_words.specs.declared.sort.NodeSort.{NodeSort};
 ghost use Rattle.cal_words.specs.declared.sort.OpSort.{OpSort};
 
-/// The law of the room in the tree. A seat knows fewer nodes than there are slots. So a child for
-/// which the seat's arena has room, below a path that isn't as deep as paths may be, is never
-/// refused; and no board is told that the tree is full.
+/// The law of the room in the tree. A seat knows fewer nodes than there are slots. So where a seat's
+/// arena has room for the node of a value, the tree has: no such node is refused.
 pub fn tree_never_full_law()
     ensures known { (common : Common) (seat : RowSeat NodeSort) → IsCommon common
         → IsTreeSeat common.tree seat
         → known_count (view seat) (slots_of common.tree) < slots_of common.tree }
-    ensures made { (common : Common) (old new : RowSeat NodeSort) (parent : ℕ)
-        (path : List NodeEntry) (entry : NodeEntry) (answer : Result NodeId TreeFull)
-        → IsCommon common → IsTreeSeat common.tree new
-        → HasRoomFor common (view old) entry.value
-        → IsPathOf common.tree new path parent → length path < deepest
-        → IsAnswer (plan_of common.tree) parent entry (view old) (view new) answer
-        → IsOk answer }
-    ensures told { (common : Common) (was is : RowSeat NodeSort) (old new : Blackboard NodeId)
-        (c : codes.OpCode) (attr : AttrRef) (value : Variant) (full : TreeFull)
-        → IsCommon common → IsTreeSeat common.tree is → HasRoomFor common (view was) value
-        → ¬ TellsFull common.tree was is old new c attr value full }
+    ensures room { (common : Common) (seat : RowSeat NodeSort) (value : Variant) → IsCommon common
+        → HasRoomFor common (view seat) value → HasNodeRoom common.tree seat value }
 {}
 
 /// The law of the words in use in the tree. A seat uses no more of them than the operations make
@@ -71,6 +53,8 @@ pub fn words_in_tree_law()
         (words_of_ops common.script.now ops + own_words common.script.now l)
         → UsesAtMost common (view was) h thread done
         → UsesAtMost common (view is) (h ++ ops) thread (done + 1) }
+    ensures later { (common : Common) (v : View NodeSort) (h : List OpRec) (thread done : ℕ)
+        → UsesAtMost common v h thread done → UsesAtMost common v h thread (done + 1) }
 {}
 
 /// The law of the room for nodes. A seat that uses no more words than that has room for the node of

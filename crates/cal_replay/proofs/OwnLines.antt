@@ -37,7 +37,7 @@ use Rattle.cal_script.specs.declared.script.Channel.{Channel}
 use Rattle.cal_script.specs.declared.script.Line as lines
 use Rattle.cal_script.specs.declared.script.Line.TheVariants as line
 use Rattle.cal_script.specs.declared.script.Script.{Script}
-use Rattle.cal_thread.proofs.ThreadLemmas.{line-done, own-after}
+use Rattle.cal_thread.proofs.ThreadLemmas.{own-after}
 use Rattle.cal_thread.specs.Lines.{Looks, MeetsOwn, words_of_line}
 use Rattle.cal_thread.specs.Threads.{IsThread}
 use Rattle.cal_thread.specs.declared.looking.Met.{Met}
@@ -178,7 +178,7 @@ module _ (shared : Shared) (old mid new : Thread) (l : lines.Line) (met : Met)
     (process : new.process ≡ mid.process)
     (makes : (note : LineNote) → reading_of note ≡ unwrap_or reading 0
     → IsThread shared.common mid done (h ++ m.ops) state
-    → IsThread shared.common new done (h ++ m.ops)
+    → IsThread shared.common new (done + 1) (h ++ m.ops)
     (if met.accepted then changed (script_of shared) (history_of (h ++ m.ops)) l note state
     else state))
     (adds : AddsWords shared.common mid.tree new.tree (words_of_line (script_of shared) l))
@@ -267,7 +267,6 @@ module _ (shared : Shared) (old mid new : Thread) (l : lines.Line) (met : Met)
           done m m.kept.has own refl (ap (λ (p : Replica). p.seen) process);
     };
     learns = learns;
-    kept = line-done shared.common new done (h ++ m.ops) (state_after script hist l note state)
-        (subst (λ (s : ThreadState). IsThread shared.common new done (h ++ m.ops) s) after
-        (makes note refl m.kept));
+    kept = subst (λ (s : ThreadState). IsThread shared.common new (done + 1) (h ++ m.ops) s) after
+        (makes note refl m.kept);
   }

@@ -10,7 +10,7 @@ use Rattle.cal_process.specs.Operations.{history_of}
 use Rattle.cal_process.specs.Replicas.{AddsWords}
 use Rattle.cal_process.specs.Takings.{KeepsLooks}
 use Rattle.cal_process.specs.declared.common.Common.{Common}
-use Rattle.cal_replay.proofs.ShowingLemmas.{thread-reads}
+use Rattle.cal_replay.proofs.ShowingLemmas.{reads-uses, thread-reads}
 use Rattle.cal_replay.specs.Showing.{OnlyReads}
 use Rattle.cal_run.specs.Steps.{ThreadState, looks}
 use Rattle.cal_script.specs.declared.journal.Reply.{Reply}
@@ -40,6 +40,7 @@ placed-reads common old new op h state reads has w = record {
       (sym reads.same) w.own;
   below = subst (λ (t : Thread). (place : ℕ) → 0 < times place (view t.process.log).published
       → place < t.process.seen + 1) (sym reads.same) w.below;
+  uses = reads-uses common old new h op.line reads w.uses;
 }
 
 module _ (common : Common) (old mid new : Thread) (l : Line) (h : List OpRec)

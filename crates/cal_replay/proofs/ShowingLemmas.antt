@@ -17,6 +17,7 @@ use Rattle.cal_once.specs.declared.view.View.{View}
 use Rattle.cal_plog.specs.History.{OwnBefore}
 use Rattle.cal_plog.specs.Seats.{slots_of}
 use Rattle.cal_process.proofs.OperationLemmas.{Held-later}
+use Rattle.cal_process.specs.Rooms.{UsesAtMost}
 use Rattle.cal_process.specs.declared.common.Common.{Common}
 use Rattle.cal_replay.specs.Showing.{AreShown, HaveRoomFor, IsShown, OnlyReads, is_taken_by}
 use Rattle.cal_replay.specs.Showing.{sight_by, taken_of}
@@ -235,6 +236,16 @@ timed-reads old new channels reads timed =
     subst (λ (t : Thread). All (λ (channel : Channel). channel.timer ≡ true → t.timed ≡ true)
     channels) (sym reads.same) timed
 
+-- it uses the words that it used
+pub reads-uses : (common : Common) (old new : Thread) (h : List OpRec) (done : ℕ)
+    → OnlyReads old new → UsesAtMost common (view old.tree) h old.number done
+    → UsesAtMost common (view new.tree) h new.number done
+reads-uses common old new h done reads uses =
+    let used = ap (λ (v : View NodeSort). v.used) reads.learns.same in
+    let number = ap (λ (t : Thread). t.number) reads.same in
+    subst (λ (n : ℕ). UsesAtMost common (view new.tree) h n done) (sym number)
+    (omega (arith, used, uses))
+
 -- a thread that has learned of the tree is behind as many lines as before
 pub thread-reads : (common : Common) (old new : Thread) (done : ℕ) (h : List OpRec)
     (state : ThreadState) → OnlyReads old new → HasState common new h state
@@ -245,4 +256,5 @@ thread-reads common old new done h state reads has w = record {
       (sym reads.same) w.own;
   below = subst (λ (t : Thread). (place : ℕ) → 0 < times place (view t.process.log).published
       → place < t.process.seen) (sym reads.same) w.below;
+  uses = reads-uses common old new h done reads w.uses;
 }

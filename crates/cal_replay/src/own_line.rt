@@ -1,5 +1,6 @@
 //! A line that is its thread's own.
-ghost use Rattle.std.specs.Prelude.{◌≡◌, ℕ, ◌+◌, false, if◌then◌else◌, List, IfOk, OnOk};
+ghost use Rattle.std.specs.Prelude.{◌≡◌, ℕ, ◌+◌, Some, false, if◌then◌else◌, List, IfOk};
+ghost use Rattle.std.specs.Prelude.{OnOk};
 ghost use Rattle.cal_channel.specs.SmallNumbers.{HasSaidValues};
 ghost use Rattle.cal_once.specs.Seats.{view};
 ghost use Rattle.cal_once.specs.Views.{KnowsMore};
@@ -8,12 +9,12 @@ ghost use Rattle.cal_process.specs.Replicas.{AddsWords, IsCommon};
 ghost use Rattle.cal_replay.specs.Readings.{Asked, off_clock};
 ghost use Rattle.cal_replay.specs.Steps.{Runs, Tells, noted_with};
 ghost use Rattle.cal_replay.specs.Workers.{IsShared, script_of};
-ghost use Rattle.cal_run.specs.Lines.{is_process_line};
+ghost use Rattle.cal_run.specs.Lines.{is_process_line, line_at};
 ghost use Rattle.cal_run.specs.Steps.{ThreadState, changed, reading_of};
 ghost use Rattle.cal_script.specs.Valid.{IsPlaced};
 ghost use Rattle.cal_script.specs.declared.journal.LineNote as notes;
 ghost use Rattle.cal_thread.specs.Lines.{words_of_line};
-ghost use Rattle.cal_thread.specs.Threads.{IsSomeThread, IsThread};
+ghost use Rattle.cal_thread.specs.Threads.{IsThread};
 ghost use Rattle.cal_words.specs.declared.op.OpRec as words;
 
 use crate::answer::{Answer, reply_or_flush};
@@ -39,6 +40,7 @@ pub(crate) fn run_own<K: Clock, F: Keeper>(
     requires shared { IsShared shared.now }
     requires thread { (done : ℕ) × (h : List words.OpRec) × (state : ThreadState)
         × IsThread shared.now.common thread.old done h state
+        × (line_at (script_of shared.now) thread.old.number (done + 1) ≡ Some line)
         × HasSaidValues (script_of shared.now) state.board }
     requires own { is_process_line (script_of shared.now) line ≡ false }
     requires keeper { F.thread keeper.old ≡ thread.old.number }
@@ -49,6 +51,7 @@ pub(crate) fn run_own<K: Clock, F: Keeper>(
     ensures runs { IfOk result (λ answer. (tells : Tells F.shown F.flushed shared.now.common
         keeper.old keeper.new line answer.reply)
         × ((done : ℕ) (h : List words.OpRec) (state : ThreadState)
+        → line_at (script_of shared.now) thread.old.number (done + 1) ≡ Some line
         → IsThread shared.now.common thread.old done h state
         → Runs shared.now thread.old tells.at thread.new tells.told line
         (noted_with answer thread.new) done h state)) }
@@ -82,7 +85,8 @@ pub(crate) fn run_own<K: Clock, F: Keeper>(
     Ok(Answer { reply, reading })
 }
 
-/// Makes the change of a line that has this reading, if it is accepted.
+/// Makes the change of the next line, which has this reading, if it is accepted. The thread then
+/// stands behind the line.
 #[inline(always)]
 fn change_if(
     alloc: Global,
@@ -93,13 +97,17 @@ fn change_if(
     reading: u64,
 ) -> Result<(), OutOfMemory>
     requires common { IsCommon common.now }
-    requires thread { IsSomeThread common.now thread.old }
+    requires thread { (done : ℕ) × (h : List words.OpRec) × (state : ThreadState)
+        × IsThread common.now thread.old done h state
+        × (line_at common.now.script.now thread.old.number (done + 1) ≡ Some line) }
+    requires own { is_process_line common.now.script.now line ≡ false }
     requires placed { IsPlaced common.now.script.now.attributes common.now.script.now.channels
         common.now.script.now.values line }
     ensures changed { OnOk result ((done : ℕ) (h : List words.OpRec) (state : ThreadState)
         (note : notes.LineNote) → reading_of note ≡ reading
+        → line_at common.now.script.now thread.old.number (done + 1) ≡ Some line
         → IsThread common.now thread.old done h state
-        → IsThread common.now thread.new done h (if accepted
+        → IsThread common.now thread.new (done + 1) h (if accepted
         then changed common.now.script.now (history_of h) line note state else state)) }
     ensures process { OnOk result (thread.new.process ≡ thread.old.process) }
     ensures words { OnOk result (AddsWords common.now thread.old.tree thread.new.tree

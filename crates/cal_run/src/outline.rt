@@ -24,6 +24,8 @@ impl<'a> NodeMaker<&'a Variant, Nothing> for Outliner {
 
     ghost knows = { λ _ _ _. Unit {0} };
 
+    ghost has_room = { λ _ _. Unit {0} };
+
     ghost is_node = { λ _ _ _. Unit {0} };
 
     ghost grows = { λ _ _. Unit {0} };

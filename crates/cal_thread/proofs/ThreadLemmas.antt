@@ -18,7 +18,9 @@ use Rattle.cal_plog.proofs.Reading.{has_op_later, knows_below_later}
 use Rattle.cal_plog.specs.History.{OwnBefore}
 use Rattle.cal_process.proofs.OperationLemmas.{Held-later}
 use Rattle.cal_process.specs.Operations.{history_of, placed_as}
+use Rattle.cal_process.proofs.Uses.{uses-later}
 use Rattle.cal_process.specs.Replicas.{HasTaken}
+use Rattle.cal_process.specs.Takings.{MayTake}
 use Rattle.cal_process.specs.declared.common.Common.{Common}
 use Rattle.cal_process.specs.declared.replica.Replica.{Replica}
 use Rattle.cal_run.proofs.FrontLemmas.{process_board-front}
@@ -83,6 +85,16 @@ below-more ps place p seen below behind is = by (cases_lt p (place + 1))
         ap (λ (b : Bool). cond b 1 0 + 0) (ne_eqb place p (λ e. omega (arith, e, more))) in
         let less = below p (omega (arith, is, sum, none)) in
         absurd (omega (arith, less, behind, more))
+
+-- a thread between two lines may take in operations
+pub may-take : (common : Common) (t : Thread) (done : ℕ) (h : List OpRec) (state : ThreadState)
+    → IsThread common t done h state → MayTake common t.tree t.process h
+may-take common t done h state w = record {
+  taken = w.has.taken;
+  thread = t.number;
+  done = done;
+  uses = w.uses;
+}
 
 -- ---- a line that is its thread's own
 
@@ -178,4 +190,5 @@ line-done common t done h state w = record {
         below = o.below;
       };
   below = w.below;
+  uses = uses-later common (view t.tree) h t.number done w.uses;
 }

@@ -7,6 +7,7 @@ use Rattle.cal_plog.specs.Seats.{slots_of}
 use Rattle.cal_process.specs.Boards.{Held}
 use Rattle.cal_process.specs.Operations.{history_of}
 use Rattle.cal_process.specs.Replicas.{HasTaken}
+use Rattle.cal_process.specs.Rooms.{UsesAtMost}
 use Rattle.cal_process.specs.declared.common.Common.{Common}
 use Rattle.cal_run.specs.History.{process_board}
 use Rattle.cal_run.specs.Snapshots.{Sight}
@@ -30,13 +31,14 @@ module _ (common : Common) where
   HasSomeState t = (h : List OpRec) × (state : ThreadState) × HasState t h state
 
   -- Between two lines, behind so many of them: the thread's own operations are of these lines, and
-  -- it has seen them all.
+  -- it has seen them all; of the tree's words its seat uses no more than they make.
   pub record IsThread (t : Thread) (done : ℕ) (h : List OpRec) (state : ThreadState)
       : Type 0 where
     pub has : HasState t h state
     pub own : OwnBefore (slots_of common.log) (view t.process.log) (done + 1)
     pub below : (place : ℕ) → 0 < times place (view t.process.log).published
         → place < t.process.seen
+    pub uses : UsesAtMost common (view t.tree) h t.number done
 
   abbrev pub IsSomeThread : Thread → Type 0
   IsSomeThread t = (done : ℕ) × (h : List OpRec) × (state : ThreadState) × IsThread t done h state
@@ -50,6 +52,7 @@ module _ (common : Common) where
     pub own : OwnBefore (slots_of common.log) (view t.process.log) (op.line + 1)
     pub below : (place : ℕ) → 0 < times place (view t.process.log).published
         → place < t.process.seen + 1
+    pub uses : UsesAtMost common (view t.tree) h t.number op.line
 
 -- what a snapshot sees behind so many operations
 abbrev pub sight_of : Script → List OpRec → (seen : ℕ) → ThreadState → (reading previous : ℕ)

@@ -1,15 +1,16 @@
-ghost use Rattle.std.specs.Prelude.{◌≡◌, ℕ, List, OnOk, true};
+ghost use Rattle.std.specs.Prelude.{◌≡◌, ◌+◌, ℕ, List, OnOk, Some, false, true};
 ghost use Rattle.cal_board.specs.Readings.{readings_after};
 ghost use Rattle.cal_once.specs.Seats.{view};
 ghost use Rattle.cal_once.specs.Views.{KnowsMore};
 ghost use Rattle.cal_process.specs.Operations.{MayDo, history_of, words_made};
 ghost use Rattle.cal_process.specs.Replicas.{AddsWords, IsCommon};
-ghost use Rattle.cal_run.specs.Lines.{operation_of};
+ghost use Rattle.cal_process.specs.Rooms.{HasRoomToDo};
+ghost use Rattle.cal_run.specs.Lines.{is_process_line, line_at};
 ghost use Rattle.cal_run.specs.Steps.{ThreadState, changed, reading_of};
 ghost use Rattle.cal_script.specs.Valid.{IsPlaced};
 ghost use Rattle.cal_script.specs.declared.journal.LineNote as notes;
 ghost use Rattle.cal_thread.specs.Lines.{HasStateThen, operated, words_of_line};
-ghost use Rattle.cal_thread.specs.Threads.{HasSomeState, IsSomeThread, IsThread};
+ghost use Rattle.cal_thread.specs.Threads.{HasSomeState, IsThread};
 ghost use Rattle.cal_words.specs.declared.op.OpRec as words;
 
 use crate::Thread;
@@ -22,7 +23,8 @@ use cal_words::OpCode;
 use std::alloc::Global;
 
 impl Thread {
-    /// Makes the change of an accepted line that is the thread's own and has this reading.
+    /// Makes the change of the next line, which is accepted, the thread's own, and has this reading:
+    /// the thread then stands behind it.
     #[inline(always)]
     pub fn change(
         &mut self,
@@ -32,13 +34,17 @@ impl Thread {
         reading: u64,
     ) -> Result<(), OutOfMemory>
         requires common { IsCommon common.now }
-        requires thread { IsSomeThread common.now self.old }
+        requires thread { (done : ℕ) × (h : List words.OpRec) × (state : ThreadState)
+            × IsThread common.now self.old done h state
+            × (line_at common.now.script.now self.old.number (done + 1) ≡ Some line) }
+        requires own { is_process_line common.now.script.now line ≡ false }
         requires placed { IsPlaced common.now.script.now.attributes common.now.script.now.channels
             common.now.script.now.values line }
         ensures changed { OnOk result ((done : ℕ) (h : List words.OpRec) (state : ThreadState)
             (note : notes.LineNote) → reading_of note ≡ reading
+            → line_at common.now.script.now self.old.number (done + 1) ≡ Some line
             → IsThread common.now self.old done h state
-            → IsThread common.now self.new done h
+            → IsThread common.now self.new (done + 1) h
             (changed common.now.script.now (history_of h) line note state)) }
         ensures process { OnOk result (self.new.process ≡ self.old.process) }
         ensures words { OnOk result (AddsWords common.now self.old.tree self.new.tree
@@ -70,6 +76,7 @@ impl Thread {
     ) -> Result<(), OutOfMemory>
         requires common { IsCommon common.now }
         requires thread { HasSomeState common.now self.old }
+        requires room { HasRoomToDo common.now (view self.old.tree) op }
         requires may { MayDo common.now.script.now op }
         ensures operated { OnOk result (HasStateThen common.now self.old self.new
             (λ h state. operated common.now.script.now op reading state)) }

@@ -35,6 +35,7 @@ impl Thread {
     pub fn new(alloc: Global, number: u32, timed: bool, tree: TreeSeat, log: LogSeat) -> Self
         requires number { (view log).number ≡ number + 1 }
         requires at_nodes { (view tree).number ≡ number + 1 }
+        requires no_nodes { (view tree).used ≡ 0 }
         requires fresh { (view log).published ≡ [] }
         requires unused { (view log).used ≡ 0 }
         ensures number { result.number ≡ number }

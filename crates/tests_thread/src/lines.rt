@@ -6,7 +6,7 @@ ghost use Rattle.cal_process.specs.Replicas.{IsCommon};
 ghost use Rattle.cal_run.specs.Lines.{is_process_line, line_at};
 ghost use Rattle.cal_run.specs.Steps.{ThreadState};
 ghost use Rattle.cal_script.specs.Valid.{IsPlaced};
-ghost use Rattle.cal_thread.specs.Threads.{IsSomeThread, IsThread};
+ghost use Rattle.cal_thread.specs.Threads.{IsThread};
 ghost use Rattle.cal_words.specs.declared.op.OpRec as words;
 ghost use Rattle.tests_thread.specs.Behind.{IsBehind};
 
@@ -77,15 +77,16 @@ fn do_own(
     reading: u64,
 ) -> Result<Option<Reply>, OutOfMemory>
     requires common { IsCommon common.now }
-    requires some { IsSomeThread common.now thread.old }
+    requires next { (done : ℕ) × IsBehind common.now thread.old done
+        × (line_at common.now.script.now thread.old.number (done + 1) ≡ Some line) }
     requires own { is_process_line common.now.script.now line ≡ false }
     requires placed { IsPlaced common.now.script.now.attributes common.now.script.now.channels
         common.now.script.now.values line }
-    ensures behind { OnOk result ((done : ℕ) → IsBehind common.now thread.old done
-        → IsBehind common.now thread.new (done + 1)) }
+    ensures behind { OnOk result ((done : ℕ)
+        → line_at common.now.script.now thread.old.number (done + 1) ≡ Some line
+        → IsBehind common.now thread.old done → IsBehind common.now thread.new (done + 1)) }
     ensures number { OnOk result (thread.new.number ≡ thread.old.number) }
 {
-    line_done_law();
     let met = thread.look(alloc, common, line)?;
     change_if(alloc, common, thread, line, reading, met.accepted)?;
     Ok(met.reply)
@@ -101,13 +102,17 @@ fn change_if(
     accepted: bool,
 ) -> Result<(), OutOfMemory>
     requires common { IsCommon common.now }
-    requires some { IsSomeThread common.now thread.old }
+    requires next { (done : ℕ) × IsBehind common.now thread.old done
+        × (line_at common.now.script.now thread.old.number (done + 1) ≡ Some line) }
+    requires own { is_process_line common.now.script.now line ≡ false }
     requires placed { IsPlaced common.now.script.now.attributes common.now.script.now.channels
         common.now.script.now.values line }
-    ensures behind { OnOk result ((done : ℕ) → IsBehind common.now thread.old done
-        → IsBehind common.now thread.new done) }
+    ensures behind { OnOk result ((done : ℕ)
+        → line_at common.now.script.now thread.old.number (done + 1) ≡ Some line
+        → IsBehind common.now thread.old done → IsBehind common.now thread.new (done + 1)) }
     ensures number { OnOk result (thread.new.number ≡ thread.old.number) }
 {
+    line_done_law();
     if accepted {
         thread.change(alloc, common, line, reading)?;
     }

@@ -1,14 +1,30 @@
-use Rattle.std.proofs.Common.{◌≡◌, ◌+◌, ◌≤◌, ℕ, Bool, if◌then◌else◌, ap, sym, subst}
+use Rattle.std.proofs.Common.{◌≡◌, ◌+◌, ◌≤◌, ℕ, Bool, if◌then◌else◌, ap, sym, subst, ◌∙◌}
+use Rattle.std.proofs.Common.{arith}
 use Rattle.cal_board.specs.Standing.{StandsThen}
 use Rattle.cal_board.specs.declared.attr.AttrRef.{AttrRef}
 use Rattle.cal_hand.specs.Changes.{changed_board}
 use Rattle.cal_hand.specs.Nodes.{NodeAt}
 use Rattle.cal_once.specs.Seats.{view}
+use Rattle.cal_process.proofs.Nodes.{room-to-change}
 use Rattle.cal_process.proofs.OperationLemmas.{Held-changed}
 use Rattle.cal_process.proofs.UsedWords.{used-at-most, used-by}
-use Rattle.cal_process.specs.Operations.{words_by}
+use Rattle.cal_process.specs.Operations.{words_by, words_made}
 use Rattle.cal_run.specs.Lines.{attr_ref, value_of}
 use Rattle.cal_process.proofs.performing.perform.Goals as goal
+
+pub operate-requires-clause-room : goal.operate-requires-clause-room
+operate-requires-clause-room c =
+    let script = c.args.common.now.script.now in
+    let op = c.args.op in
+    let as_value = ap (λ (a : AttrRef). a.as_value) (sym c.attr_ref-attr.ensures) in
+    let room = c.requires.room in
+    room-to-change c.args.common.now c.requires.common c.args.seat.now c.attr_ref-attr.result
+    c.change_of-change.result (words_by op.code (value_of script op))
+    c.change_of-change.ensures.words (λ reference.
+    let words : words_made script op ≡ words_by op.code (value_of script op) =
+    ap (λ (b : Bool). if b then 0 else words_by op.code (value_of script op))
+    (as_value ∙ reference) in
+    omega (arith, room, words))
 
 pub operate-requires-clause-stands : goal.operate-requires-clause-stands
 operate-requires-clause-stands c = (c.requires.held.0, c.requires.held.1.stands)

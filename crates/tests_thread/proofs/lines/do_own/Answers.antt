@@ -1,17 +1,25 @@
-use Rattle.std.proofs.Common.{◌++◌}
+use Rattle.std.proofs.Common.{◌≡◌, ◌+◌, ◌++◌, ℕ, Some, subst, sym}
+use Rattle.cal_run.specs.Lines.{line_at}
 use Rattle.tests_thread.proofs.lines.do_own.Goals as goal
 
-pub change_if-requires-clause-some : goal.change_if-requires-clause-some
-change_if-requires-clause-some c =
-    let t = c.requires.some in
-    let m = c.in_ok-met.ensures.meets t.0 t.1 t.2 t.3 in
-    (t.0, t.1 ++ m.ops, t.2, m.kept)
+pub look-requires-clause-thread : goal.look-requires-clause-thread
+look-requires-clause-thread c =
+    let n = c.requires.next in (n.0, n.1.0, n.1.1, n.1.2)
+
+pub change_if-requires-clause-next : goal.change_if-requires-clause-next
+change_if-requires-clause-next c =
+    let n = c.requires.next in
+    let m = c.in_ok-met.ensures.meets n.0 n.1.0 n.1.1 n.1.2 in (
+      n.0,
+      (n.1.0 ++ m.ops, n.1.1, m.kept),
+      subst (λ (k : ℕ).
+          line_at c.args.common.now.script.now k (n.0 + 1) ≡ Some c.args.line)
+          (sym c.in_ok-met.ensures.number) n.2,
+    )
 
 pub returns-clause-behind : goal.returns-clause-behind
-returns-clause-behind c done b =
+returns-clause-behind c done at b =
     let m = c.in_ok-met.ensures.meets done b.0 b.1 b.2 in
-    let k = c.in_ok-change_if.ensures.behind done (b.0 ++ m.ops, b.1, m.kept) in (
-      k.0,
-      k.1,
-      c.line_done_law.ensures c.args.common.now c.change_if.new.thread done k.0 k.1 k.2,
-    )
+    c.in_ok-change_if.ensures.behind done (subst (λ (k : ℕ).
+    line_at c.args.common.now.script.now k (done + 1) ≡ Some c.args.line)
+    (sym c.in_ok-met.ensures.number) at) (b.0 ++ m.ops, b.1, m.kept)

@@ -1,13 +1,13 @@
-use Rattle.std.proofs.Common.{List, [], ◌∷◌, ◌++◌, ◌≡◌, ap, if◌then◌else◌, subst, sym, ◌∙◌}
+use Rattle.std.proofs.Common.{List, [], ◌∷◌, ◌++◌, ◌≡◌, ap, arith, if◌then◌else◌, subst, sym, ◌∙◌}
 use Rattle.cal_board.proofs.SlotLemmas.{OnOk-then}
-use Rattle.cal_board.proofs.StandingLemmas.{begun-Stands, opened_in-Stands, parent_of}
+use Rattle.cal_board.proofs.StandingLemmas.{begun-Stands, held_long, opened_in-Stands, parent_of}
 use Rattle.cal_board.specs.Blackboard.{Blackboard, begun, opened_more, slot_number}
 use Rattle.cal_board.specs.Slots.{last_value, opened_in, with_slot}
 use Rattle.cal_board.specs.Standing.{IsParent, Stands}
 use Rattle.cal_board.specs.declared.opened.Opened.{Opened}
 use Rattle.cal_board.specs.declared.opened.Slot.{Slot}
 use Rattle.cal_value.specs.declared.variant.Variant.{Variant}
-use Rattle.cal_board.proofs.LimitLemmas.{either_way, more-as_values, more-references}
+use Rattle.cal_board.proofs.LimitLemmas.{either_way, few-references, more-as_values, more-references}
 use Rattle.cal_board.specs.Blackboard.{IsWithin, begin_reply}
 use Rattle.cal_board.specs.declared.reply.BoardReply.TheVariants as reply
 use Rattle.cal_board.proofs.board.BoardWithRoom.open.Goals as goal
@@ -19,10 +19,13 @@ child-requires-clause-parent g c =
     let b = c.requires.stands.0 in
     let e = c.last_value-parent.ensures ∙ ap last_value (c.opened.ensures
     ∙ ap (λ n. opened_in n c.self.inside.references) c.slot-else-attr.ensures
-    ∙ ap (λ (h : Blackboard g.row.N.Denot). opened_in k h.references) c.self.view_is) in (
+    ∙ ap (λ (h : Blackboard g.row.N.Denot). opened_in k h.references) c.self.view_is) in
+    let stand = opened_in-Stands P k _ _ c.requires.stands.1.references in
+    let long = held_long P _ _ stand in
+    let few = few-references c.args.self.now c.args.attr c.if-attr.false c.requires.room in (
       opened_in k b.references,
-      subst (λ o. IsParent P o (opened_in k b.references)) (sym e)
-          (parent_of P _ _ (opened_in-Stands P k _ _ c.requires.stands.1.references)),
+      subst (λ o. IsParent P o (opened_in k b.references)) (sym e) (parent_of P _ _ stand),
+      omega (arith, long, few),
     )
 
 pub returns-in_ok-value-2-clause-stands : goal.returns-in_ok-value-2-clause-stands

@@ -1,12 +1,12 @@
-use Rattle.std.proofs.Common.{List, [], ◌∷◌, ◌++◌, ◌≡◌, ap, if◌then◌else◌, subst, sym, ◌∙◌}
-use Rattle.cal_board.proofs.StandingLemmas.{OpenedStand-front, instead-Stands, opened_in-Stands, parent_of}
-use Rattle.cal_board.specs.Blackboard.{Blackboard, opened_instead, slot_number, with_values}
+use Rattle.std.proofs.Common.{List, [], ◌∷◌, ◌++◌, ◌≡◌, ap, arith, if◌then◌else◌, subst, sym, ◌∙◌}
+use Rattle.cal_board.proofs.StandingLemmas.{OpenedStand-front, held_long, instead-Stands, opened_in-Stands, parent_of}
+use Rattle.cal_board.specs.Blackboard.{Blackboard, IsWithin, opened_instead, slot_number, with_values}
 use Rattle.cal_board.specs.Slots.{front, last_value, opened_in, with_slot}
 use Rattle.cal_board.specs.Standing.{IsParent, Stands}
 use Rattle.cal_board.specs.declared.opened.Opened.{Opened}
 use Rattle.cal_value.specs.declared.variant.Variant.{Variant}
 use Rattle.std.proofs.Common.{◌<◌}
-use Rattle.cal_board.proofs.LimitLemmas.{instead-as_values, instead-references, there-as_values, there-references}
+use Rattle.cal_board.proofs.LimitLemmas.{few-before, instead-as_values, instead-references, there-as_values, there-references}
 use Rattle.cal_board.specs.Blackboard.{depth_at}
 use Rattle.cal_board.proofs.board.BoardWithRoom.open_instead.Goals as goal
 
@@ -17,10 +17,13 @@ child-requires-clause-parent g c =
     let b = c.requires.stands.0 in
     let e = c.value_before-parent.ensures ∙ ap (λ (os : List (Opened g.row.N.Denot)). last_value (front os)) (c.opened.ensures
     ∙ ap (λ n. opened_in n c.self.inside.references) c.slot-else-attr.ensures
-    ∙ ap (λ (h : Blackboard g.row.N.Denot). opened_in k h.references) c.self.view_is) in (
+    ∙ ap (λ (h : Blackboard g.row.N.Denot). opened_in k h.references) c.self.view_is) in
+    let stand = OpenedStand-front P _ _ (opened_in-Stands P k _ _ c.requires.stands.1.references) in
+    let long = held_long P _ _ stand in
+    let few = few-before c.args.self.now (subst IsWithin c.self.view_is c.self.invariant) k in (
       front (opened_in k b.references),
-      subst (λ o. IsParent P o (front (opened_in k b.references))) (sym e)
-          (parent_of P _ _ (OpenedStand-front P _ _ (opened_in-Stands P k _ _ c.requires.stands.1.references))),
+      subst (λ o. IsParent P o (front (opened_in k b.references))) (sym e) (parent_of P _ _ stand),
+      omega (arith, long, few),
     )
 
 pub returns-in_ok-value-2-clause-stands : goal.returns-in_ok-value-2-clause-stands

@@ -1,7 +1,7 @@
 use Rattle.std.proofs.Common.{◌≡◌, ◌+◌, arith, refl, ◌∙◌}
 use Rattle.cal_once.specs.Seats.{view}
 use Rattle.cal_plog.specs.Seats.{slots_of}
-use Rattle.cal_process.proofs.TakingLemmas.{count-more, count-same, seen-within, takes-end}
+use Rattle.cal_process.proofs.TakingLemmas.{count-more, count-same, may-take-more, seen-within, takes-end}
 use Rattle.cal_process.proofs.TakingLemmas.{takes-looks, takes-none, takes-nothing, takes-one}
 use Rattle.cal_process.proofs.TakingLemmas.{takes-then}
 use Rattle.cal_process.proofs.replica.Replica.take_all.Goals as goal
@@ -26,7 +26,7 @@ loop-smaller c =
     count-more b n c.loop.self.seen c.if-branch.true c.in_ok-take_next.ensures.count in
     let some = c.loop.invariant.some in
     let o = takes-one common c.loop.seat c.take_next.new.seat c.loop.self
-    c.take_next.new.self b c.if-branch.true c.in_ok-take_next.ensures.takes some.0 some.1 in
+    c.take_next.new.self b c.if-branch.true c.in_ok-take_next.ensures.takes some.0 some.1.taken in
     let long = o.taken.long in
     let within = seen-within (slots_of common.log) (view c.take_next.new.self.log) _
     o.taken.read in
@@ -42,11 +42,15 @@ loop-preserved c =
     let a = old.later in
     let z = c.in_ok-take_next.ensures.later in
     record {
-      some = (_, (one old.some.0 old.some.1).taken);
+      some = (
+        _,
+        may-take-more common c.loop.seat c.take_next.new.seat c.loop.self
+            c.take_next.new.self old.some.0 old.some.1 (one old.some.0 old.some.1.taken),
+      );
       more = λ h t. takes-then common c.args.seat.now c.loop.seat c.take_next.new.seat
           c.args.self.now c.loop.self c.take_next.new.self h (old.more h t) one;
       looks = takes-looks common c.loop.seat c.take_next.new.seat c.loop.self
-          c.take_next.new.self old.some.0 (one old.some.0 old.some.1) ∙ old.looks;
+          c.take_next.new.self old.some.0 (one old.some.0 old.some.1.taken) ∙ old.looks;
       later = (z.0 ∙ a.0, z.1 ∙ a.1, z.2 ∙ a.2, (λ i x s. z.3 i x (a.3 i x s)));
     }
 

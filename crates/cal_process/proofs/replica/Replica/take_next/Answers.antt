@@ -8,6 +8,7 @@ use Rattle.cal_once.specs.Views.{KnowsMore}
 use Rattle.cal_once.specs.declared.view.View.{View}
 use Rattle.cal_plog.specs.Seats.{ops_of, plan_of, slots_of}
 use Rattle.cal_process.proofs.OperationLemmas.{op-may}
+use Rattle.cal_process.proofs.Seen.{shared-room}
 use Rattle.cal_process.proofs.SevenEach.{seven-learns, seven-looks}
 use Rattle.cal_process.proofs.TakingLemmas.{board-more, seen-later, seen-more, seen-within}
 use Rattle.cal_process.specs.Boards.{Held}
@@ -19,7 +20,7 @@ use Rattle.cal_process.proofs.replica.Replica.take_next.Goals as goal
 
 pub next-requires-clause-place : goal.next-requires-clause-place
 next-requires-clause-place c =
-    let t = c.requires.taken.1 in
+    let t = c.requires.taken.1.taken in
     let long = t.long in
     let inside = seen-within (slots_of c.args.common.now.log) (view c.args.self.now.log)
     c.requires.taken.0 t.read in
@@ -30,6 +31,18 @@ perform-requires-clause-may c =
     op-may c.args.common.now.script.now c.in-Some.op c.requires.common.runnable
     (All-contains (IsOpOf c.args.common.now.script.now) (ops_of c.args.common.now.log) c.in-Some.op
     c.requires.common.ops c.in-Some.ensures.answer.among)
+
+pub perform-requires-clause-room : goal.perform-requires-clause-room
+perform-requires-clause-room c =
+    let common = c.args.common.now in
+    let m = c.requires.taken.1 in
+    let op = c.in-Some.op in
+    let answer = c.in-Some.ensures.answer in
+    let w = view c.next.new.seat in
+    shared-room common c.requires.common w c.in-Some.ensures.seat.sound (view c.args.seat.now)
+    c.requires.taken.0 op m.thread m.done
+    (seen-more (slots_of common.log) (view c.args.self.now.log) w c.requires.taken.0 op
+    c.args.self.now.seen answer.learns.more m.taken.read m.taken.long answer.has_op) m.uses
 
 pub returns-in-None-clause-takes : goal.returns-in-None-clause-takes
 returns-in-None-clause-takes c h t =

@@ -7,7 +7,18 @@ use Rattle.cal_process.specs.Operations.{history_of}
 use Rattle.cal_replay.specs.Workers.{script_of, state_of}
 use Rattle.cal_run.proofs.HeldLemmas.{line_at-placed}
 use Rattle.cal_run.specs.Lines.{line_at}
+use Rattle.cal_replay.specs.declared.shared.Shared.{Shared}
+use Rattle.cal_replay.specs.declared.worker.Worker.{Worker}
+use Rattle.cal_script.specs.declared.script.Line.{Line}
 use Rattle.cal_replay.proofs.worker.Worker.run_line.Goals as goal
+
+-- the next line, by how many are noted
+next-at : (shared : Shared) (worker : Worker) (l : Line) (number : ℕ)
+    → number ≡ length worker.note.lines + 1
+    → line_at (script_of shared) worker.thread.number number ≡ Some l
+    → line_at (script_of shared) worker.thread.number (length worker.note.lines + 1) ≡ Some l
+next-at shared worker l number same next =
+    subst (λ (n : ℕ). line_at (script_of shared) worker.thread.number n ≡ Some l) same next
 
 pub run_own-requires-clause-placed : goal.run_own-requires-clause-placed
 run_own-requires-clause-placed g c =
@@ -24,6 +35,7 @@ run_own-requires-clause-thread g c =
       w.0,
       state_of script w.0 self,
       w.1.thread,
+      next-at c.args.shared.now self c.args.line c.args.number c.requires.number c.requires.next,
       said-thread script (history_of w.0) self.thread.number done self.note.lines
           c.requires.shared.common.runnable,
     )
@@ -79,8 +91,7 @@ returns-in_ok-note-in-Some g c = record {
       steps-over g.K.Clock.given g.F.Keeper.shown g.F.Keeper.flushed c.args.clock.now
       c.run_shared.new.clock c.args.keeper.now c.run_shared.new.keeper shared old
       c.run_shared.new.thread c.note.new.self c.args.line answer.answer
-      (subst (λ (n : ℕ). line_at script old.thread.number n ≡ Some c.args.line)
-      c.requires.number c.requires.next)
+      (next-at shared old c.args.line c.args.number c.requires.number c.requires.next)
       noted.noted noted.start noted.thread answer.ensures.number answer.ensures.timed
       answer.ensures.asked answer.ensures.runs.0
       (λ h state w. answer.ensures.runs.1 (length old.note.lines) h state w
@@ -104,11 +115,11 @@ returns-in_ok-note-in-None g c = record {
       c.run_own.new.clock
       c.args.keeper.now c.run_own.new.keeper shared old
       c.run_own.new.thread c.note-in-None.new.self c.args.line answer.answer
-      (subst (λ (n : ℕ). line_at script old.thread.number n ≡ Some c.args.line)
-      c.requires.number c.requires.next)
+      (next-at shared old c.args.line c.args.number c.requires.number c.requires.next)
       noted.noted noted.start noted.thread answer.ensures.number answer.ensures.timed
       answer.ensures.asked answer.ensures.runs.0
-      (λ h state w. answer.ensures.runs.1 (length old.note.lines) h state w);
+      (λ h state w. answer.ensures.runs.1 (length old.note.lines) h state
+      (next-at shared old c.args.line c.args.number c.requires.number c.requires.next) w);
   keeper = c.in_ok-answer-in-None.ensures.keeper;
   ready = subst (λ (b : Bool). (left : ℕ)
       → g.F.Keeper.ready (script_of c.args.shared.now) c.args.keeper.now b (left + 1)

@@ -27,6 +27,10 @@ new-requires-clause-at_nodes c =
     ap (λ (v : View NodeSort). v.number) c.split-own_tree.ensures.new.same
     ∙ ap (λ (n : ℕ). n + 1) c.requires.hired.tree_others
 
+pub new-requires-clause-no_nodes : goal.new-requires-clause-no_nodes
+new-requires-clause-no_nodes c =
+    ap (λ (v : View NodeSort). v.used) c.split-own_tree.ensures.new.same
+
 pub new-requires-clause-fresh : goal.new-requires-clause-fresh
 new-requires-clause-fresh c =
     ap (λ (v : View OpSort). v.published) c.split-own_log.ensures.new.same

@@ -31,4 +31,5 @@ returns-clause-thread c common at_tree at_log =
       below = λ place some.
           let no = subst (λ (ps : List ℕ). 0 < times place ps) published some in
           absurd (omega (arith, no));
+      uses = let none = c.requires.no_nodes in omega (arith, none);
     }

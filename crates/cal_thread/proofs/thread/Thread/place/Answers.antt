@@ -8,7 +8,9 @@ use Rattle.cal_plog.proofs.Reading.{has_op_later, knows_below_later}
 use Rattle.cal_plog.specs.History.{HasOp, KnowsBelow, OwnBefore}
 use Rattle.cal_plog.specs.Seats.{slots_of}
 use Rattle.cal_process.proofs.OperationLemmas.{Held-later}
+use Rattle.cal_process.proofs.Uses.{uses-later, uses-taken}
 use Rattle.cal_process.specs.Operations.{history_of}
+use Rattle.cal_process.specs.Rooms.{UsesAtMost}
 use Rattle.cal_run.proofs.LineLemmas.{reply_to_line-Stands}
 use Rattle.cal_run.specs.History.{process_board}
 use Rattle.cal_thread.proofs.ThreadLemmas.{below-more, own-later, shared-found}
@@ -33,7 +35,15 @@ place-at-requires-clause-line c =
 pub take_to-requires-clause-taken : goal.take_to-requires-clause-taken
 take_to-requires-clause-taken c =
     let t = c.requires.thread in
-    (t.1, c.place-at.ensures.kept c.args.self.now.tree t.1 t.3.has.taken)
+    let old = c.args.self.now in (
+      t.1,
+      record {
+        taken = c.place-at.ensures.kept old.tree t.1 t.3.has.taken;
+        thread = old.number;
+        done = t.0;
+        uses = t.3.uses;
+      },
+    )
 
 pub take_to-requires-clause-known : goal.take_to-requires-clause-known
 take_to-requires-clause-known c =
@@ -93,6 +103,9 @@ returns-clause-meets c done h state w line_is =
             m.learns.published app.own;
         below = λ p some. below-more (view old.process.log).published mid.seen p old.process.seen
             w.below behind (subst (λ (ps : List ℕ). 0 < times p ps) published some);
+        uses = subst (λ (n : ℕ). UsesAtMost common (view tree) g old.number n) (sym line_is)
+            (uses-later common (view tree) g old.number done
+            (uses-taken common old.tree tree h old.number done m.ops m.words w.uses));
       };
       found = λ more note is.
           shared-found script g more line note state mid.seen c.requires.shared m.taken.long is
