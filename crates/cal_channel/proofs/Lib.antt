@@ -1,3 +1,4 @@
+pub mod PackedLemmas
 pub mod TraceLemmas
 pub mod MeaningLemmas
 pub mod ClosingLemmas

@@ -12,6 +12,7 @@ mod closing;
 mod draft;
 mod ends;
 mod laws;
+mod packed;
 mod shown;
 mod small_numbers;
 mod trace;
@@ -22,6 +23,7 @@ pub use draft::SnapDraft;
 pub use laws::{
     numbers_of_snapshots, parts_of_channels, room_for_snapshots, taken_at_start, taken_for_good,
 };
+pub use packed::EntrySlice;
 pub use shown::{ShownEntry, ShownValue};
 pub use small_numbers::{said_values_law, small_numbers_law};
 pub use trace::{Trace, TraceSnap};

@@ -69,7 +69,7 @@ impl ShownValue {
 }
 
 /// The script's value at a place.
-fn opened(alloc: Global, script: &Script, place: u32) -> Result<Variant, OutOfMemory>
+pub(crate) fn opened(alloc: Global, script: &Script, place: u32) -> Result<Variant, OutOfMemory>
     ensures { IfOk result (λ value. value ≡ slice_index_or script.now.values place no_value) }
 {
     match script.values.get(place as usize) {

@@ -3,8 +3,9 @@ ghost use Rattle.std.specs.Prelude.{OnErr, OnOk, slice_range, take};
 ghost use Rattle.cal_channel.specs.Traces.{ShownSnap, no_end};
 
 use crate::ends::TraceEnd;
-use crate::{ShownEntry, SnapDraft};
-use cal_value::{OutOfMemory, TryCopy};
+use crate::packed::EntryList;
+use crate::{EntrySlice, ShownEntry, SnapDraft};
+use cal_value::OutOfMemory;
 use cal_words::NodeId;
 use std::alloc::Global;
 use std::marker::Model;
@@ -14,14 +15,14 @@ use std::marker::Model;
 pub struct Trace {
     ends: Vec<TraceEnd>,
     nodes: Vec<NodeId>,
-    entries: Vec<ShownEntry>,
+    entries: EntryList,
 }
 
 /// A snapshot of a trace.
-#[derive(Clone, Copy)]
+#[derive(Drop)]
 pub struct TraceSnap<'a> {
     pub nodes: &'a [NodeId],
-    pub entries: &'a [ShownEntry],
+    pub entries: EntrySlice<'a>,
 }
 
 impl Model for Trace {
@@ -30,9 +31,9 @@ impl Model for Trace {
 
     ghost Value = { List ShownSnap };
 
-    ghost view = { λ t. snaps_from t.nodes.items t.entries.items no_end t.ends.items };
+    ghost view = { λ t. snaps_from t.nodes.items t.entries no_end t.ends.items };
 
-    ghost invariant = { λ t. CoverFrom t.nodes.items t.entries.items no_end t.ends.items };
+    ghost invariant = { λ t. CoverFrom t.nodes.items t.entries no_end t.ends.items };
 }
 
 impl Trace {
@@ -43,7 +44,7 @@ impl Trace {
         Trace {
             ends: Vec::new(alloc),
             nodes: Vec::new(alloc),
-            entries: Vec::new(alloc),
+            entries: EntryList::new(alloc),
         }
     }
 
@@ -60,13 +61,13 @@ impl Trace {
     pub fn snap(&self, place: usize) -> TraceSnap<'_>
         requires { place < length self.now }
         ensures { (d : ShownSnap) → slice_index_or self.now place d
-            ≡ record { nodes = result.nodes.now; entries = result.entries.now } }
+            ≡ record { nodes = result.nodes.now; entries = result.entries } }
     {
         let from = end_before(&self.ends, place);
         let to = end_at(&self.ends, place);
         TraceSnap {
             nodes: nodes_between(&self.nodes, from.nodes, to.nodes),
-            entries: entries_between(&self.entries, from.entries, to.entries),
+            entries: self.entries.between(from.entries, to.entries),
         }
     }
 
@@ -103,19 +104,19 @@ fn add(
     draft: &SnapDraft,
     ends: &mut Vec<TraceEnd>,
     nodes: &mut Vec<NodeId>,
-    entries: &mut Vec<ShownEntry>,
+    entries: &mut EntryList,
 ) -> Result<(), OutOfMemory>
     ensures nodes { OnOk result (nodes.new.items ≡ nodes.old.items ++ draft.now.nodes.items) }
     ensures entries { OnOk result
-        (entries.new.items ≡ entries.old.items ++ draft.now.entries.items) }
+        (entries.new ≡ entries.old ++ draft.now.entries.items) }
     ensures ends { OnOk result (ends.new.items ≡ ends.old.items ++ record {
       nodes = length nodes.new.items;
-      entries = length entries.new.items;
+      entries = length entries.new;
     } ∷ []) }
     ensures err_nodes { OnErr result
         (take (length nodes.old.items) nodes.new.items ≡ nodes.old.items) }
     ensures err_entries { OnErr result
-        (take (length entries.old.items) entries.new.items ≡ entries.old.items) }
+        (take (length entries.old) entries.new ≡ entries.old) }
     ensures err_ends { OnErr result (ends.new.items ≡ ends.old.items) }
 {
     nodes.extend_from_slice(&draft.nodes)?;
@@ -131,14 +132,14 @@ fn add(
 fn add_entries(
     alloc: Global,
     more: &[ShownEntry],
-    entries: &mut Vec<ShownEntry>,
+    entries: &mut EntryList,
 ) -> Result<(), OutOfMemory>
-    ensures ok { OnOk result (entries.new.items ≡ entries.old.items ++ more.now) }
+    ensures ok { OnOk result (entries.new ≡ entries.old ++ more.now) }
     ensures err { OnErr result
-        (take (length entries.old.items) entries.new.items ≡ entries.old.items) }
+        (take (length entries.old) entries.new ≡ entries.old) }
 {
     for entry in more {
-        entries.push(entry.copy(alloc)?)?;
+        entries.push(alloc, entry)?;
     }
     Ok(())
 }
@@ -172,12 +173,4 @@ fn nodes_between(nodes: &[NodeId], from: usize, to: usize) -> &[NodeId]
     ensures { result.now ≡ slice_range nodes.now from to }
 {
     &nodes[from..to]
-}
-
-fn entries_between(entries: &[ShownEntry], from: usize, to: usize) -> &[ShownEntry]
-    requires rises { from ≤ to }
-    requires within { to ≤ length entries.now }
-    ensures { result.now ≡ slice_range entries.now from to }
-{
-    &entries[from..to]
 }

@@ -1,6 +1,5 @@
 //! A snapshot of a trace becomes one of a context.
-ghost use Rattle.std.specs.Prelude.{◌≡◌, [], ◌++◌, List, map, All, OnOk};
-ghost use Rattle.cal_channel.specs.Shown.{immediate_shown};
+ghost use Rattle.std.specs.Prelude.{◌≡◌, [], All, OnOk};
 ghost use Rattle.cal_context.specs.Lists.{IsFront};
 ghost use Rattle.cal_context.specs.Snapshots.{IsIn, meaning};
 ghost use Rattle.cal_context.specs.Tree.{Grows};
@@ -11,8 +10,8 @@ ghost use Rattle.cal_results.specs.Tracing.{AreNumbersOf, SnapMeans};
 ghost use Rattle.cal_tree.specs.Seats.{IsTreeSeat};
 ghost use Rattle.cal_value.specs.declared.record.Rec.{Rec};
 
-use cal_channel::{ShownEntry, TraceSnap};
-use cal_context::{Context, Immediate, NodeNumber, Snapshot};
+use cal_channel::TraceSnap;
+use cal_context::{Context, NodeNumber, Snapshot};
 use cal_nodes::ContextNodes;
 use cal_script::Script;
 use cal_tree::{Tree, TreeSeat};
@@ -37,11 +36,11 @@ pub(crate) fn place_snap(
     requires numbered { AreNumbered tree.now seat.old context.old nodes.old }
     requires named { IsFront script.now.attributes context.old.attributes }
     requires means { (rec : Rec) × SnapMeans context.old script.now tree.now seat.old
-        (record { nodes = shown.nodes.now; entries = shown.entries.now }) rec }
+        (record { nodes = shown.nodes.now; entries = shown.entries }) rec }
     ensures lies { OnOk result (IsIn context.new snapshot.new) }
     ensures means { OnOk result ((rec : Rec)
         → SnapMeans context.old script.now tree.now seat.old
-        (record { nodes = shown.entry.nodes.now; entries = shown.entry.entries.now }) rec
+        (record { nodes = shown.entry.nodes.now; entries = shown.entry.entries }) rec
         → meaning context.new snapshot.new ≡ rec) }
     ensures seat { IsTreeSeat tree.now seat.new }
     ensures learns { Learns (view seat.old) (view seat.new) }
@@ -53,7 +52,9 @@ pub(crate) fn place_snap(
     snapshot.clear();
     nodes.number_all(alloc, tree, seat, context, shown.nodes)?;
     add_numbers(nodes, shown.nodes, &mut snapshot.nodes)?;
-    add_immediates(alloc, script, shown.entries, &mut snapshot.imms)?;
+    shown
+        .entries
+        .add_immediates(alloc, script, &mut snapshot.imms)?;
     Ok(())
 }
 
@@ -69,25 +70,6 @@ fn add_numbers(
 {
     for node in refs {
         numbers.push(nodes.numbered(*node))?;
-    }
-    Ok(())
-}
-
-/// Adds what entries mean by the script's values.
-fn add_immediates(
-    alloc: Global,
-    script: &Script,
-    entries: &[ShownEntry],
-    imms: &mut Vec<Immediate>,
-) -> Result<(), OutOfMemory>
-    ensures { OnOk result (imms.new.items
-        ≡ imms.old.items ++ map (immediate_shown script.now.values) entries.now) }
-{
-    for entry in entries {
-        imms.push(Immediate {
-            attribute: entry.attribute,
-            value: entry.value.whole(alloc, script)?,
-        })?;
     }
     Ok(())
 }

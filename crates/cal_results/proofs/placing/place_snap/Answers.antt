@@ -16,7 +16,7 @@ pub returns-clause-lies : goal.returns-clause-lies
 returns-clause-lies c =
     let shown : ShownSnap = record {
       nodes = c.args.shown.nodes.now;
-      entries = c.args.shown.entries.now;
+      entries = c.args.shown.entries;
     } in
     let made : Snapshot = record {
       nodes = c.add_numbers.new.numbers;
@@ -24,7 +24,7 @@ returns-clause-lies c =
     } in
     let done = c.number_all.ensures in
     let imms = c.in_ok-add_immediates.ensures ∙ ap (λ is. is ++ map (immediate_shown
-    c.args.script.now.values) c.args.shown.entries.now) c.clear.ensures.imms in
+    c.args.script.now.values) c.args.shown.entries) c.clear.ensures.imms in
     let later = record_later c.args.script.now c.args.tree.now shown c.args.context.now
     c.number_all.new.context done.grows.attributes c.args.seat.now c.number_all.new.seat
     done.learns.more c.requires.means.0 c.requires.means.1 in
@@ -36,7 +36,7 @@ pub returns-clause-means : goal.returns-clause-means
 returns-clause-means c rec means =
     let shown : ShownSnap = record {
       nodes = c.args.shown.nodes.now;
-      entries = c.args.shown.entries.now;
+      entries = c.args.shown.entries;
     } in
     let made : Snapshot = record {
       nodes = c.add_numbers.new.numbers;
@@ -44,7 +44,7 @@ returns-clause-means c rec means =
     } in
     let done = c.number_all.ensures in
     let imms = c.in_ok-add_immediates.ensures ∙ ap (λ is. is ++ map (immediate_shown
-    c.args.script.now.values) c.args.shown.entries.now) c.clear.ensures.imms in
+    c.args.script.now.values) c.args.shown.entries) c.clear.ensures.imms in
     let later = record_later c.args.script.now c.args.tree.now shown c.args.context.now
     c.number_all.new.context done.grows.attributes c.args.seat.now c.number_all.new.seat
     done.learns.more rec means in

@@ -42,7 +42,7 @@ place_snap-requires-clause-means g c =
           (record {
             nodes = c.snap-shown.result.nodes.now;
             entries =
-                c.snap-shown.result.entries.now;
+                c.snap-shown.result.entries;
           }) c.snap-shown.ensures none,
     )
 
@@ -76,7 +76,7 @@ loop-place-preserved g c =
           (record {
             nodes = c.snap-shown.result.nodes.now;
             entries =
-                c.snap-shown.result.entries.now;
+                c.snap-shown.result.entries;
           }) c.snap-shown.ensures none in
           let next = hands_on (has c.loop-place.taker old) (has c.loop-place.taker new)
           (has c.take.new.self new) (meaning new c.place_snap.new.snapshot) rec

@@ -16,17 +16,17 @@ invariant_of-self c =
       entries = length (e.entries i);
     } ∷ []) in
     subst (λ (us : List TraceEnd).
-    CoverFrom c.add.new.nodes.items c.add.new.entries.items no_end us)
-    (sym ends) (subst (λ (ns : List NodeId). CoverFrom ns c.add.new.entries.items no_end
+    CoverFrom c.add.new.nodes.items c.add.new.entries no_end us)
+    (sym ends) (subst (λ (ns : List NodeId). CoverFrom ns c.add.new.entries no_end
     (t.ends.items ++ record {
       nodes = length (t.nodes.items ++ d.nodes.items);
-      entries = length (t.entries.items ++ d.entries.items);
+      entries = length (t.entries ++ d.entries.items);
     } ∷ [])) (sym e.nodes) (subst (λ (es : List ShownEntry).
     CoverFrom (t.nodes.items ++ d.nodes.items) es no_end (t.ends.items ++ record {
       nodes = length (t.nodes.items ++ d.nodes.items);
-      entries = length (t.entries.items ++ d.entries.items);
+      entries = length (t.entries ++ d.entries.items);
     } ∷ [])) (sym e.entries)
-    (cover-more t.nodes.items t.entries.items d.nodes.items d.entries.items no_end t.ends.items
+    (cover-more t.nodes.items t.entries d.nodes.items d.entries.items no_end t.ends.items
     c.self.invariant)))
 
 pub returns-in-Ok-clause-added : goal.returns-in-Ok-clause-added
@@ -39,7 +39,7 @@ returns-in-Ok-clause-added c =
       entries = length (e.entries i);
     } ∷ []) in
     (λ i. snaps_from (e.nodes i) (e.entries i) no_end (ends i))
-    ∙ snaps-more t.nodes.items t.entries.items d.nodes.items d.entries.items no_end t.ends.items
+    ∙ snaps-more t.nodes.items t.entries d.nodes.items d.entries.items no_end t.ends.items
     c.self.invariant
     ∙ ap (λ (snaps : List ShownSnap). snaps ++ record {
       nodes = d.nodes.items;
