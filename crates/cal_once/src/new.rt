@@ -16,6 +16,13 @@ fn zeros(alloc: Global, count: usize) -> Result<Vec<u64>, OutOfMemory>
     Ok(vec![in alloc; 0; count]?)
 }
 
+/// Drops words, shrunk first: where a big block is freed at once, glibc takes later ones from its
+/// heaps, in which each that outgrows its place leaves a hole.
+fn give_back(mut words: Vec<u64>) {
+    words.truncate(1);
+    words.shrink_to_fit();
+}
+
 impl<S: RecSort> Rows<S> {
     /// A table of empty slots, for records of this sort, and its first seat.
     pub fn new(alloc: Global, shape: Shape, sort: S) -> Result<(Rows<S>, RowSeat<S>), OutOfMemory>
@@ -30,6 +37,7 @@ impl<S: RecSort> Rows<S> {
         let words = zeros(alloc, count as usize)?;
         let plan = Plan { shape, sort };
         let (table, seat) = Table::of_words(alloc, words.as_slice(), &plan)?;
+        give_back(words);
         Ok((
             Rows { table, plan },
             RowSeat {
