@@ -1,35 +1,32 @@
 //! A call over streams and clocks in memory.
+//!
+//! What owns much lends it to what has the exits, so that each is proved quickly; and where a call
+//! can't be made there is nothing.
 ghost use Rattle.std.specs.Prelude.{◌≡◌, length, IfOk};
 
-use cal_base::{Gate, MemClock, MemSink, MemSource, OpenGate};
+use cal_base::{Gate, MemClock, MemSink, MemSource};
 use cal_call::{Outcome, run};
 use cal_run::Formulas;
 use cal_value::{OutOfMemory, Seq};
 use std::alloc::Global;
 use std::hash::RandomState;
 use std::random::RandomSource;
-use std::test::Fail;
 use std::thread::Threads;
 
-/// What a call left.
+/// What a call reads, and where it writes.
 #[derive(Drop)]
-pub struct Ran {
-    pub outcome: Outcome,
+pub struct Streams {
+    pub input: MemSource,
     pub output: MemSink,
     pub errors: MemSink,
 }
 
-pub fn texts(alloc: Global, words: &[&str]) -> Result<Vec<String>, Fail> {
+pub fn texts(alloc: Global, words: &[&str]) -> Result<Vec<String>, OutOfMemory> {
     let mut texts = Vec::new(alloc);
     for word in words {
         texts.push(String::from_str(alloc, word)?)?;
     }
     Ok(texts)
-}
-
-pub fn source(alloc: Global, script: &str, failing: Seq<u64>) -> Result<MemSource, Fail> {
-    let bytes = Seq::from_vec(Vec::from_slice(alloc, script.as_bytes())?);
-    Ok(MemSource::new(bytes, failing))
 }
 
 /// A clock that shows 100, 90 and 95.
@@ -49,56 +46,109 @@ pub fn clocks(alloc: Global) -> Result<Vec<MemClock>, OutOfMemory>
     Ok(clocks)
 }
 
-/// A call over streams in memory, some of whose reads are to fail.
-pub fn call<R: Threads + Sync + RandomSource>(
-    rt: &R,
-    alloc: Global,
-    words: &[&str],
-    script: &str,
-    reads: Seq<u64>,
-    output: MemSink,
-    errors: MemSink,
-) -> Result<Ran, Fail> {
-    let input = source(alloc, script, reads)?;
-    call_through(rt, alloc, words, input, output, errors, &OpenGate)
+/// A source of a text, of whose reads none fails.
+pub fn source(alloc: Global, text: &str) -> Result<MemSource, OutOfMemory> {
+    let bytes = Vec::from_slice(alloc, text.as_bytes())?;
+    Ok(MemSource::new(Seq::from_vec(bytes), Seq::new(alloc)))
 }
 
-/// A call over streams in memory, whose threads pass a gate.
-pub fn call_through<R: Threads + Sync + RandomSource, G: Gate + Sync>(
-    rt: &R,
-    alloc: Global,
-    words: &[&str],
-    mut input: MemSource,
-    mut output: MemSink,
-    mut errors: MemSink,
-    gate: &G,
-) -> Result<Ran, Fail> {
-    let words = texts(alloc, words)?;
-    let mut clocks = clocks(alloc)?;
-    let hashers = RandomState::new(rt)?;
-    let outcome = run(
-        rt,
-        alloc,
-        hashers,
-        words.as_slice(),
-        &mut input,
-        &mut output,
-        &mut errors,
-        &mut clocks,
-        gate,
-        &Formulas,
-    );
-    Ok(Ran {
-        outcome,
+/// A source of a text, whose read of this number fails.
+pub fn failing_source(alloc: Global, text: &str, read: u64) -> Result<MemSource, OutOfMemory> {
+    let bytes = Vec::from_slice(alloc, text.as_bytes())?;
+    let failing = one(alloc, read)?;
+    Ok(MemSource::new(Seq::from_vec(bytes), failing))
+}
+
+/// A sink with room for so many bytes, of whose writes none fails.
+pub fn sink(alloc: Global, room: u64) -> Result<MemSink, OutOfMemory> {
+    MemSink::new(alloc, room, Seq::new(alloc))
+}
+
+pub fn one(alloc: Global, number: u64) -> Result<Seq<u64>, OutOfMemory> {
+    Ok(Seq::from_vec(vec![in alloc; number]?))
+}
+
+/// Streams over a source, with room for so many bytes of output.
+pub fn streams_over(alloc: Global, input: MemSource, room: u64) -> Result<Streams, OutOfMemory> {
+    let output = sink(alloc, room)?;
+    let errors = sink(alloc, 100)?;
+    Ok(Streams {
+        input,
         output,
         errors,
     })
 }
 
-pub fn sink(alloc: Global, room: u64) -> Result<MemSink, Fail> {
-    Ok(MemSink::new(alloc, room, Seq::new(alloc))?)
+/// Streams over a text.
+pub fn streams_of(alloc: Global, text: &str, room: u64) -> Result<Streams, OutOfMemory> {
+    let input = source(alloc, text)?;
+    streams_over(alloc, input, room)
 }
 
-pub fn one(alloc: Global, number: u64) -> Result<Seq<u64>, Fail> {
-    Ok(Seq::from_vec(vec![in alloc; number]?))
+/// The call of these words over streams, by these clocks.
+fn call_by<R: Threads + Sync + RandomSource, G: Gate + Sync>(
+    rt: &R,
+    alloc: Global,
+    words: &[String],
+    streams: &mut Streams,
+    clocks: &mut Vec<MemClock>,
+    gate: &G,
+) -> Option<Outcome>
+    requires { length clocks.old.items ≡ 64 }
+{
+    let hashers = RandomState::new(rt).ok()?;
+    Some(run(
+        rt,
+        alloc,
+        hashers,
+        words,
+        &mut streams.input,
+        &mut streams.output,
+        &mut streams.errors,
+        clocks,
+        gate,
+        &Formulas,
+    ))
+}
+
+/// The same, by clocks of its own.
+fn call_of<R: Threads + Sync + RandomSource, G: Gate + Sync>(
+    rt: &R,
+    alloc: Global,
+    words: &[String],
+    streams: &mut Streams,
+    gate: &G,
+) -> Option<Outcome> {
+    let mut clocks = clocks(alloc).ok()?;
+    let outcome = call_by(rt, alloc, words, streams, &mut clocks, gate);
+    drop(clocks);
+    outcome
+}
+
+/// The call of these words over streams, whose threads pass a gate.
+pub fn call<R: Threads + Sync + RandomSource, G: Gate + Sync>(
+    rt: &R,
+    alloc: Global,
+    words: &[&str],
+    streams: &mut Streams,
+    gate: &G,
+) -> Option<Outcome> {
+    let words = texts(alloc, words).ok()?;
+    let outcome = call_of(rt, alloc, words.as_slice(), streams, gate);
+    drop(words);
+    outcome
+}
+
+/// The status of such a call, whose journal is dropped.
+pub fn status_of<R: Threads + Sync + RandomSource, G: Gate + Sync>(
+    rt: &R,
+    alloc: Global,
+    words: &[&str],
+    streams: &mut Streams,
+    gate: &G,
+) -> Option<u8> {
+    let outcome = call(rt, alloc, words, streams, gate)?;
+    let status = outcome.status;
+    drop(outcome);
+    Some(status)
 }

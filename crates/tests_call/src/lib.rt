@@ -1,5 +1,5 @@
 //! Tests of the top call, over streams in memory: the rows of each command, each read, write and
-//! piece of room failing in turn, and what a whole command line is served.
+//! piece of room failing in turn, spoilt journals, and what a whole command line is served.
 //!
 //! Expected texts are written by hand, as the formats have them. They show what no clause can say,
 //! that calls succeed with ample memory.
@@ -27,5 +27,7 @@ mod runs;
 mod scripts;
 #[cfg(test)]
 mod served;
+#[cfg(test)]
+mod spoilt;
 #[cfg(test)]
 mod streams;

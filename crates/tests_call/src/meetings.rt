@@ -1,16 +1,15 @@
 //! Threads that meet: `replay` and `journal` of scripts that gates hold, and `serial` of their
 //! journals.
 
-use crate::calls::{Ran, call, call_through, sink, source};
-use cal_base::{Gate, MemSink};
+use crate::calls::{Streams, call, status_of, streams_of};
+use cal_base::{Gate, OpenGate};
 use cal_call::Outcome;
 use cal_journal::print_journal;
-use cal_value::{Seq, Text};
+use cal_script::Journal;
+use cal_value::{OutOfMemory, Text};
 use std::alloc::Global;
-use std::process::Abort;
 use std::random::RandomSource;
 use std::sync::atomic::{AtomicU64, Ordering};
-use std::test::Fail;
 use std::thread::Threads;
 
 /// How often a thread that is held looks, at most.
@@ -119,116 +118,241 @@ snapshot
 end phase
 ";
 
-/// A call with one word over a script, whose threads pass a gate.
-fn call_held<R: Threads + Sync + RandomSource>(
+/// The status and the operations of a run: of each its thread and its line.
+#[derive(Clone, Copy, Debug, PartialEq, Eq)]
+struct Order {
+    status: u8,
+    first: (u32, u32),
+    second: (u32, u32),
+}
+
+/// The two operations of a journal.
+fn two_of(status: u8, journal: &Journal) -> Option<Order> {
+    match journal.ops.as_slice() {
+        [first, second] => Some(Order {
+            status,
+            first: (first.thread, first.line),
+            second: (second.thread, second.line),
+        }),
+        _ => None,
+    }
+}
+
+/// Those of a call's outcome.
+fn order_of(alloc: Global, outcome: Outcome) -> Option<Order> {
+    let status = outcome.status;
+    match outcome.journal.into_journal(alloc) {
+        Ok(journal) => two_of(status, &journal),
+        Err(_) => None,
+    }
+}
+
+/// Those of `replay` over streams, whose threads pass a gate.
+fn replayed<R: Threads + Sync + RandomSource>(
+    rt: &R,
+    alloc: Global,
+    streams: &mut Streams,
+    gate: &Held,
+) -> Option<Order> {
+    let outcome = call(rt, alloc, &["replay"], streams, gate)?;
+    order_of(alloc, outcome)
+}
+
+/// Whether those of a run of a script are these, and its text is this.
+fn runs_as<R: Threads + Sync + RandomSource>(
     rt: &R,
     alloc: Global,
     script: &str,
     gate: &Held,
-) -> Result<Ran, Fail> {
-    let input = source(alloc, script, Seq::new(alloc))?;
-    let output = sink(alloc, 1000)?;
-    let errors = sink(alloc, 100)?;
-    call_through(rt, alloc, &["replay"], input, output, errors, gate)
+    order: Order,
+    text: &str,
+) -> bool {
+    let Ok(mut streams) = streams_of(alloc, script, 1000) else {
+        return false;
+    };
+    let found = replayed(rt, alloc, &mut streams, gate);
+    let is_written = streams.output.bytes() == text.as_bytes();
+    drop(streams);
+    found == Some(order) && is_written
+}
+
+/// The status of `replay` of a script, whose threads pass a gate.
+fn status_held<R: Threads + Sync + RandomSource>(
+    rt: &R,
+    alloc: Global,
+    script: &str,
+    gate: &Held,
+) -> Option<u8> {
+    let mut streams = streams_of(alloc, script, 1000).ok()?;
+    let status = status_of(rt, alloc, &["replay"], &mut streams, gate);
+    drop(streams);
+    status
 }
 
 #[test]
-fn threads_run_side_by_side(rt: HostRuntime) -> Result<(), Fail> {
+fn threads_run_side_by_side(rt: HostRuntime) {
     let gate = Held::new(true);
-    let ran = call_held(&rt, rt.alloc(), TWO, &gate)?;
-    assert_eq!(rt; ran.outcome.status, 0);
-    assert_eq!(rt; gate.passed.load(Ordering::SeqCst), 2);
-    assert!(rt;
-        gate.turns.load(Ordering::SeqCst) < MOST_TURNS,
-        "each waited for the other"
-    );
-    Ok(())
+    let status = status_held(&rt, rt.alloc(), TWO, &gate);
+    let passed = gate.passed.load(Ordering::SeqCst);
+    let turns = gate.turns.load(Ordering::SeqCst);
+    assert_eq!(rt; status, Some(0));
+    assert_eq!(rt; passed, 2);
+    assert!(rt; turns < MOST_TURNS, "each waited for the other");
 }
 
 #[test]
-fn the_order_of_a_run_is_the_one_that_happened(rt: HostRuntime) -> Result<(), Fail> {
+fn the_order_of_a_run_is_the_one_that_happened(rt: HostRuntime) {
     let gate = Held::new(false);
-    let ran = call_held(&rt, rt.alloc(), PHASES, &gate)?;
-    assert!(rt; gate.turns.load(Ordering::SeqCst) < MOST_TURNS);
-    assert_eq!(rt; ran.outcome.status, 0);
-    assert_eq!(rt; ran.output.bytes(), PHASES_TEXT.as_bytes());
-    let journal = ran.outcome.journal.into_journal(rt.alloc())?;
-    let ops = journal.ops.as_slice();
-    assert!(rt; ops.len() == 2 && ops[0].thread == 1 && ops[0].line == 1);
-    assert!(rt; ops[1].thread == 0 && ops[1].line == 2);
-    Ok(())
+    let order = Order {
+        status: 0,
+        first: (1, 1),
+        second: (0, 2),
+    };
+    let is_so = runs_as(&rt, rt.alloc(), PHASES, &gate, order, PHASES_TEXT);
+    let turns = gate.turns.load(Ordering::SeqCst);
+    assert!(rt; turns < MOST_TURNS);
+    assert!(rt; is_so, "the second thread was first");
 }
 
 /// A script with a journal behind it.
-fn behind(alloc: Global, script: &str, journal: &str) -> Result<Text, Fail> {
+fn behind(alloc: Global, script: &str, journal: &str) -> Result<Text, OutOfMemory> {
     let mut both = Text::from_str(alloc, script)?;
     both.push_str(journal)?;
     Ok(both)
 }
 
-/// A call with a word over an input.
-fn call_with<R: Threads + Sync + RandomSource>(
+/// The status of a word over streams.
+fn status_over<R: Threads + Sync + RandomSource>(
     rt: &R,
     alloc: Global,
     word: &str,
+    streams: &mut Streams,
+) -> Option<u8> {
+    status_of(rt, alloc, &[word], streams, &OpenGate)
+}
+
+/// Whether two calls wrote and told the same.
+fn same(left: &Streams, right: &Streams) -> bool {
+    left.output.bytes() == right.output.bytes() && left.errors.bytes() == right.errors.bytes()
+}
+
+/// Whether `serial` of an input ends with this status, and leaves what these streams have.
+fn is_written_again<R: Threads + Sync + RandomSource>(
+    rt: &R,
+    alloc: Global,
     input: &str,
-) -> Result<Ran, Fail> {
-    let reads = Seq::new(alloc);
-    let output = sink(alloc, 4000)?;
-    let errors = sink(alloc, 100)?;
-    call(rt, alloc, &[word], input, reads, output, errors)
+    status: u8,
+    wanted: &Streams,
+) -> bool {
+    let Ok(mut streams) = streams_of(alloc, input, 4000) else {
+        return false;
+    };
+    let found = status_over(rt, alloc, "serial", &mut streams);
+    let is_same = same(&streams, wanted);
+    drop(streams);
+    found == Some(status) && is_same
 }
 
-/// Whether two outputs have the same bytes.
-fn same(left: &MemSink, right: &MemSink) -> bool {
-    left.bytes() == right.bytes()
+/// The text of a journal behind a script.
+fn text_behind(alloc: Global, script: &str, journal: &Journal) -> Result<Text, OutOfMemory> {
+    let text = print_journal(alloc, journal)?;
+    let both = behind(alloc, script, text.as_str());
+    drop(text);
+    both
 }
 
-/// The text of the journal of a call.
-fn journal_text(alloc: Global, outcome: Outcome) -> Result<Text, Fail> {
-    let journal = outcome.journal.into_journal(alloc)?;
-    Ok(print_journal(alloc, &journal)?)
+/// The status of an outcome, and the text of its journal behind a script.
+fn told_of(alloc: Global, script: &str, outcome: Outcome) -> Option<(u8, Text)> {
+    let status = outcome.status;
+    match outcome.journal.into_journal(alloc) {
+        Ok(journal) => Some((status, text_behind(alloc, script, &journal).ok()?)),
+        Err(_) => None,
+    }
 }
 
-/// Asserts that `serial` writes of a run's journal what `replay` wrote of the run.
-fn assert_said_again<R: Abort + Threads + Sync + RandomSource>(
+/// Whether `replay` over these streams leaves a journal of which `serial` writes and tells the
+/// same.
+fn is_said_again<R: Threads + Sync + RandomSource>(
     rt: &R,
     alloc: Global,
     script: &str,
-) -> Result<(), Fail> {
-    let Ran {
-        outcome,
-        output,
-        errors,
-    } = call_with(rt, alloc, "replay", script)?;
-    let status = outcome.status;
-    let journal = journal_text(alloc, outcome)?;
-    let both = behind(alloc, script, journal.as_str())?;
-    let again = call_with(rt, alloc, "serial", both.as_str())?;
-    assert_eq!(rt; again.outcome.status, status);
-    assert!(rt; same(&again.output, &output), "the same text");
-    assert!(rt; same(&again.errors, &errors), "the same refusals");
-    Ok(())
+    streams: &mut Streams,
+) -> Option<bool> {
+    let outcome = call(rt, alloc, &["replay"], streams, &OpenGate)?;
+    let (status, both) = told_of(alloc, script, outcome)?;
+    let said = is_written_again(rt, alloc, both.as_str(), status, streams);
+    drop(both);
+    Some(said)
+}
+
+/// Whether a run of a script does.
+fn run_is_said_again<R: Threads + Sync + RandomSource>(
+    rt: &R,
+    alloc: Global,
+    script: &str,
+) -> Option<bool> {
+    let mut streams = streams_of(alloc, script, 4000).ok()?;
+    let said = is_said_again(rt, alloc, script, &mut streams);
+    drop(streams);
+    said
 }
 
 #[test]
-fn a_run_is_told_again_by_its_journal(rt: HostRuntime) -> Result<(), Fail> {
-    for _round in 0..100u32 {
-        assert_said_again(&rt, rt.alloc(), CROSSED)?;
+fn a_run_is_told_again_by_its_journal(rt: HostRuntime) {
+    for round in 0..100u32 {
+        let said = run_is_said_again(&rt, rt.alloc(), CROSSED);
+        assert_eq!(rt; said, Some(true), "round {round}");
     }
-    Ok(())
+}
+
+/// Whether `serial` of an input ends with this status, and tells what these streams have.
+fn is_told_again<R: Threads + Sync + RandomSource>(
+    rt: &R,
+    alloc: Global,
+    input: &str,
+    status: u8,
+    wanted: &Streams,
+) -> bool {
+    let Ok(mut streams) = streams_of(alloc, input, 4000) else {
+        return false;
+    };
+    let found = status_over(rt, alloc, "serial", &mut streams);
+    let is_same = streams.errors.bytes() == wanted.errors.bytes();
+    drop(streams);
+    found == Some(status) && is_same
+}
+
+/// Whether what `journal` over these streams writes is a journal of which `serial` tells the same.
+fn is_lawful<R: Threads + Sync + RandomSource>(
+    rt: &R,
+    alloc: Global,
+    script: &str,
+    streams: &mut Streams,
+) -> Option<bool> {
+    let status = status_over(rt, alloc, "journal", streams)?;
+    let written = std::str::from_utf8(streams.output.bytes()).unwrap_or("");
+    let both = behind(alloc, script, written).ok()?;
+    let told = is_told_again(rt, alloc, both.as_str(), status, streams);
+    drop(both);
+    Some(told)
+}
+
+/// Whether that of a script is.
+fn written_is_lawful<R: Threads + Sync + RandomSource>(
+    rt: &R,
+    alloc: Global,
+    script: &str,
+) -> Option<bool> {
+    let mut streams = streams_of(alloc, script, 4000).ok()?;
+    let lawful = is_lawful(rt, alloc, script, &mut streams);
+    drop(streams);
+    lawful
 }
 
 #[test]
-fn a_written_journal_is_lawful(rt: HostRuntime) -> Result<(), Fail> {
-    let alloc = rt.alloc();
-    for _round in 0..100u32 {
-        let noted = call_with(&rt, alloc, "journal", CROSSED)?;
-        let text = std::str::from_utf8(noted.output.bytes()).unwrap_or("");
-        let both = behind(alloc, CROSSED, text)?;
-        let again = call_with(&rt, alloc, "serial", both.as_str())?;
-        assert_eq!(rt; again.outcome.status, noted.outcome.status);
-        assert!(rt; same(&again.errors, &noted.errors), "the same refusals");
+fn a_written_journal_is_lawful(rt: HostRuntime) {
+    for round in 0..100u32 {
+        let lawful = written_is_lawful(&rt, rt.alloc(), CROSSED);
+        assert_eq!(rt; lawful, Some(true), "round {round}");
     }
-    Ok(())
 }

@@ -1,23 +1,23 @@
 //! `replay` and `journal` of scripts whose journal, or whose text, no schedule changes.
 
-use crate::calls::{call, sink};
-use crate::rows::{Row, assert_rows, lines_refused_by, refused, written_by};
+use crate::journals::{Sizes, handed_back};
+use crate::rows::{
+    Counted, Refused, Words, Written, assert_counted, assert_refused, assert_written,
+};
 use crate::runs::{GLOBALS, GLOBALS_TEXT, GROUPED, GROUPED_TEXT, REFUSED, SHARED};
 use crate::scripts::{
     ESCAPES, ESCAPES_TEXT, FIRST, FIRST_JOURNAL, FIRST_TEXT, NESTED, NESTED_TEXT,
 };
-use cal_value::Seq;
-use std::test::Fail;
 
-const REPLAY: &[&str] = &["replay"];
+const REPLAY: Words = &["replay"];
 
-const BY_SCRIPT: &[&str] = &["replay", "--clock=script"];
+const BY_SCRIPT: Words = &["replay", "--clock=script"];
 
-const BY_CLOCK: &[&str] = &["replay", "--clock=real"];
+const BY_CLOCK: Words = &["replay", "--clock=real"];
 
-const JOURNAL: &[&str] = &["journal"];
+const JOURNAL: Words = &["journal"];
 
-const JOURNAL_BY_CLOCK: &[&str] = &["journal", "--clock=real"];
+const JOURNAL_BY_CLOCK: Words = &["journal", "--clock=real"];
 
 /// A thread whose two events are timed.
 const TIMED: &str = "\
@@ -91,107 +91,145 @@ __rec=node,id=19,attr=18,data=main
 __rec=ctx,ref=19,attr=13=14=15=16,data=4=100=10=40
 ";
 
-#[test]
-fn one_thread_is_written_as_it_went(rt: HostRuntime) -> Result<(), Fail> {
-    let rows = [
-        written_by(REPLAY, FIRST, FIRST_TEXT),
-        written_by(BY_SCRIPT, FIRST, FIRST_TEXT),
-        written_by(BY_CLOCK, FIRST, FIRST_TEXT),
-        written_by(JOURNAL, FIRST, FIRST_JOURNAL),
-        written_by(REPLAY, "attribute function string 276\n", ""),
-        written_by(REPLAY, "", ""),
-        written_by(JOURNAL, "", "journal script\nend\n"),
-        written_by(REPLAY, ESCAPES, ESCAPES_TEXT),
-        written_by(REPLAY, NESTED, NESTED_TEXT),
-        written_by(REPLAY, GLOBALS, GLOBALS_TEXT),
-        written_by(REPLAY, GROUPED, GROUPED_TEXT),
-    ];
-    assert_rows(&rt, &rows)
+const ALONE: [Written; 11] = [
+    (REPLAY, FIRST, FIRST_TEXT),
+    (BY_SCRIPT, FIRST, FIRST_TEXT),
+    (BY_CLOCK, FIRST, FIRST_TEXT),
+    (JOURNAL, FIRST, FIRST_JOURNAL),
+    (REPLAY, "attribute function string 276\n", ""),
+    (REPLAY, "", ""),
+    (JOURNAL, "", "journal script\nend\n"),
+    (REPLAY, ESCAPES, ESCAPES_TEXT),
+    (REPLAY, NESTED, NESTED_TEXT),
+    (REPLAY, GLOBALS, GLOBALS_TEXT),
+    (REPLAY, GROUPED, GROUPED_TEXT),
+];
+
+const BY_THEIR_CLOCK: [Written; 2] = [
+    (JOURNAL_BY_CLOCK, TIMED, TIMED_JOURNAL),
+    (BY_CLOCK, TIMED, TIMED_TEXT),
+];
+
+const FLUSHED: [Written; 1] = [(REPLAY, PROFILED, PROFILED_TEXT)];
+
+/// The journal of a run with a refused line.
+const REFUSED_JOURNAL: &str = "\
+journal script
+start 0 -
+line 0 1 done 0 -
+line 0 2 mismatch:0 0 -
+line 0 3 done 0 -
+end
+";
+
+const REFUSED_LINES: [Counted; 2] = [
+    (REPLAY, REFUSED, FIRST_TEXT, "caliper: refused lines: 1\n"),
+    (
+        JOURNAL,
+        REFUSED,
+        REFUSED_JOURNAL,
+        "caliper: refused lines: 1\n",
+    ),
+];
+
+/// A line that stands where none may, and a name that isn't declared.
+const MISPLACED: &str = "channel t trace\nbegin function main\n";
+
+const UNNAMED: &str = "attribute function string 276\nchannel t trace\nthread\nbegin loop x\n";
+
+/// Scripts with a fault; no journal may stand behind one.
+const FAULTY: [Refused; 6] = [
+    (REPLAY, MISPLACED, "caliper: line 2: Misplaced\n", 3),
+    (REPLAY, UNNAMED, "caliper: line 4: UnknownName\n", 3),
+    (REPLAY, SHARED, "caliper: line 9: UnknownWord\n", 3),
+    (JOURNAL, MISPLACED, "caliper: line 2: Misplaced\n", 3),
+    (JOURNAL, UNNAMED, "caliper: line 4: UnknownName\n", 3),
+    (JOURNAL, SHARED, "caliper: line 9: UnknownWord\n", 3),
+];
+
+const SECOND: &str = "caliper: usage: word 2\n";
+
+const THIRD: &str = "caliper: usage: word 3\n";
+
+const USAGE: [Refused; 6] = [
+    (&["replay", "--clock=fast"], FIRST, SECOND, 2),
+    (&["replay", "--clock="], FIRST, SECOND, 2),
+    (&["journal", "now"], FIRST, SECOND, 2),
+    (&["journal", "now", "--clock=real"], FIRST, SECOND, 2),
+    (&["replay", "--clock=real", "--clock=real"], FIRST, THIRD, 2),
+    (&["journal", "--clock=script", "x"], FIRST, THIRD, 2),
+];
+
+fn alone() -> &'static [Written] {
+    &ALONE
+}
+
+fn by_their_clock() -> &'static [Written] {
+    &BY_THEIR_CLOCK
+}
+
+fn flushed() -> &'static [Written] {
+    &FLUSHED
+}
+
+fn refused_lines() -> &'static [Counted] {
+    &REFUSED_LINES
+}
+
+fn faulty() -> &'static [Refused] {
+    &FAULTY
+}
+
+fn usage() -> &'static [Refused] {
+    &USAGE
 }
 
 #[test]
-fn the_clock_of_the_thread_is_read(rt: HostRuntime) -> Result<(), Fail> {
-    let rows = [
-        written_by(JOURNAL_BY_CLOCK, TIMED, TIMED_JOURNAL),
-        written_by(BY_CLOCK, TIMED, TIMED_TEXT),
-    ];
-    assert_rows(&rt, &rows)
+fn one_thread_is_written_as_it_went(rt: HostRuntime) {
+    assert_written(&rt, alone());
 }
 
 #[test]
-fn flushes_in_any_order_give_one_profile(rt: HostRuntime) -> Result<(), Fail> {
-    assert_rows(&rt, &[written_by(REPLAY, PROFILED, PROFILED_TEXT); 8])
+fn the_clock_of_the_thread_is_read(rt: HostRuntime) {
+    assert_written(&rt, by_their_clock());
 }
 
 #[test]
-fn refused_lines_of_a_run_are_counted(rt: HostRuntime) -> Result<(), Fail> {
-    let told = "caliper: refused lines: 1\n";
-    let journal = "journal script\nstart 0 -\nline 0 1 done 0 -\nline 0 2 mismatch:0 0 -\n\
-        line 0 3 done 0 -\nend\n";
-    let rows = [
-        lines_refused_by(REPLAY, REFUSED, FIRST_TEXT, told),
-        lines_refused_by(JOURNAL, REFUSED, journal, told),
-    ];
-    assert_rows(&rt, &rows)
-}
-
-/// What either command answers to these faults.
-fn faulty(words: &'static [&'static str]) -> [Row; 3] {
-    [
-        refused(
-            words,
-            "channel t trace\nbegin function main\n",
-            "caliper: line 2: Misplaced\n",
-            3,
-        ),
-        refused(
-            words,
-            "attribute function string 276\nchannel t trace\nthread\nbegin loop x\n",
-            "caliper: line 4: UnknownName\n",
-            3,
-        ),
-        // no journal may stand behind the script
-        refused(words, SHARED, "caliper: line 9: UnknownWord\n", 3),
-    ]
-}
-
-#[test]
-fn faults_of_a_script_are_told(rt: HostRuntime) -> Result<(), Fail> {
-    assert_rows(&rt, &faulty(REPLAY))?;
-    assert_rows(&rt, &faulty(JOURNAL))
-}
-
-#[test]
-fn words_that_break_the_rule_are_told(rt: HostRuntime) -> Result<(), Fail> {
-    let second = "caliper: usage: word 2\n";
-    let third = "caliper: usage: word 3\n";
-    let rows = [
-        refused(&["replay", "--clock=fast"], FIRST, second, 2),
-        refused(&["replay", "--clock="], FIRST, second, 2),
-        refused(&["journal", "now"], FIRST, second, 2),
-        refused(&["journal", "now", "--clock=real"], FIRST, second, 2),
-        refused(&["replay", "--clock=real", "--clock=real"], FIRST, third, 2),
-        refused(&["journal", "--clock=script", "x"], FIRST, third, 2),
-    ];
-    assert_rows(&rt, &rows)
-}
-
-#[test]
-fn the_journal_of_a_run_is_handed_back(rt: HostRuntime) -> Result<(), Fail> {
-    let alloc = rt.alloc();
-    for (words, real) in [(REPLAY, false), (JOURNAL_BY_CLOCK, true)] {
-        let ran = call(
-            &rt,
-            alloc,
-            words,
-            FIRST,
-            Seq::new(alloc),
-            sink(alloc, 1000)?,
-            sink(alloc, 100)?,
-        )?;
-        let journal = ran.outcome.journal.into_journal(alloc)?;
-        assert_eq!(rt; journal.real, real);
-        assert_eq!(rt; journal.threads.len(), 1);
+fn flushes_in_any_order_give_one_profile(rt: HostRuntime) {
+    for _round in 0..8u32 {
+        assert_written(&rt, flushed());
     }
-    Ok(())
+}
+
+#[test]
+fn refused_lines_of_a_run_are_counted(rt: HostRuntime) {
+    assert_counted(&rt, refused_lines());
+}
+
+#[test]
+fn faults_of_a_script_are_told(rt: HostRuntime) {
+    assert_refused(&rt, faulty());
+}
+
+#[test]
+fn words_that_break_the_rule_are_told(rt: HostRuntime) {
+    assert_refused(&rt, usage());
+}
+
+#[test]
+fn the_journal_of_a_run_is_handed_back(rt: HostRuntime) {
+    let by_script = Sizes {
+        ops: 0,
+        threads: 1,
+        real: false,
+    };
+    let by_clock = Sizes {
+        ops: 0,
+        threads: 1,
+        real: true,
+    };
+    let found = handed_back(&rt, rt.alloc(), REPLAY, FIRST);
+    assert_eq!(rt; found, Some(by_script));
+    let found = handed_back(&rt, rt.alloc(), JOURNAL_BY_CLOCK, FIRST);
+    assert_eq!(rt; found, Some(by_clock));
 }

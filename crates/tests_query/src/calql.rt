@@ -155,7 +155,7 @@ const FORMAT_FAULTS: [Fault; 9] = [
 ];
 
 /// Texts, and the query that each means.
-const QUERIES: [(&str, &str); 30] = [
+const QUERIES: [(&str, &str); 31] = [
     ("", "expand"),
     (" \t\n", "expand"),
     ("select *", "expand"),
@@ -212,6 +212,10 @@ const QUERIES: [(&str, &str); 30] = [
     (
         "let a=first(b,c),d=sum(e)",
         "a=first(b,c)1;d=sum(e)1; expand",
+    ),
+    (
+        "let t=sum(a,b,c,d,e,f,g,h,i,j,k,l,m,n,o,p)",
+        "t=sum(a,b,c,d,e,f,g,h,i,j,k,l,m,n,o,p)1; expand",
     ),
 ];
 

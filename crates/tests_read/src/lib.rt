@@ -1,9 +1,12 @@
-//! Tests of the reader of streams: worked rows, each of the twelve faults, pieces of a stream.
+//! Tests of the reader of streams: worked rows, each of the twelve faults, pieces of a stream, and
+//! a stream that is cut after each byte.
 //!
 //! It promises nothing that a contract says; it shows what no clause can say, that calls succeed
 //! with ample memory, and that hand-written streams read as the format's page says.
 #![tactic(auto)]
 
+#[cfg(test)]
+mod cuts;
 #[cfg(test)]
 mod faults;
 #[cfg(test)]

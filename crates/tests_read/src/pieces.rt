@@ -40,7 +40,7 @@ fn feed_all(reader: &mut Reader, pieces: &[&[u8]], rows: &mut Seq<Rec>) -> Resul
 }
 
 /// Reads a stream byte by byte.
-fn in_bytes(alloc: Global, bytes: &[u8], rows: &mut Seq<Rec>) -> Result<Rec, StreamEnd> {
+pub(crate) fn in_bytes(alloc: Global, bytes: &[u8], rows: &mut Seq<Rec>) -> Result<Rec, StreamEnd> {
     let mut reader = Reader::new(alloc)?;
     let read = feed_bytes(&mut reader, bytes, rows);
     drop(reader);
