@@ -27,9 +27,9 @@ usage: caliper COMMAND < INPUT > OUTPUT
     --help      this text
     --version   the version, and what it is proved with
 
-A fault is told on standard error, and by the status. The guide is the README of the repository;
-docs/FORMATS.md there has the scripts, the journals, the streams and the faults, docs/RUNS.md the
-runs, docs/CALQL.md the queries.
+A fault is told on standard error, and by the status. In the repository docs/GUIDE.md is the guide;
+docs/FORMATS.md has the scripts, the journals, the streams and the faults, docs/RUNS.md the runs,
+docs/CALQL.md the queries.
 ";
 
 /// What `--version` tells: the version, and the logic by which the proofs were checked. Kits of the

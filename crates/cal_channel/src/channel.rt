@@ -212,7 +212,7 @@ impl ThreadChannel {
         ensures { self.new ≡ with_table self.old part }
     {
         let _ = &self.trace;
-        self.table = Some(part);
+        put_back(&mut self.table, part);
     }
 }
 
@@ -291,6 +291,17 @@ fn take_part(table: &mut Option<Table>) -> Result<Table, OutOfMemory>
             let part = table.take()?;
             Ok(part)
         }
+        None => unreachable!(),
+    }
+}
+
+/// Puts a table into the place of another one.
+fn put_back(table: &mut Option<Table>, part: Table)
+    requires { is_some table.old ≡ true }
+    ensures { table.new ≡ Some part }
+{
+    match table {
+        Some(table) => table.put_back(part),
         None => unreachable!(),
     }
 }

@@ -73,6 +73,7 @@ impl Handed {
             probes: _,
             channels,
             seats,
+            words: _,
         } = channels;
         self.threads.push(thread)?;
         self.notes.push(note)?;

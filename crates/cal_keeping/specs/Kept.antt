@@ -84,11 +84,11 @@ pub record AreReady {P : Type 0} (script : Script) (kept : Channels P) (timed : 
   pub each : AreEachReady kept.thread left script.channels kept.books.now kept.channels.items
       kept.seats.items
 
--- Each channel was shown a line, and nothing else is changed.
+-- Each channel was shown a line, and nothing else is changed but the room for words.
 pub record AreToldOf {P : Type 0} (common : Common) (old new : Channels P) (thread : Thread)
     (told : ShownLine) : Type 0 where
   pub shown : AreShown common old.numbers.now thread told old.channels.items new.channels.items
-  pub same : new ≡ record old { channels = new.channels }
+  pub same : new ≡ record old { channels = new.channels; words = new.words }
 
 -- A flush of the channel at a place was replied to so, and nothing else is changed.
 pub record IsFlushedAt {P : Type 0} (old new : Channels P) (place : ℕ) (reply : replies.Reply)

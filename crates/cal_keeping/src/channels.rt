@@ -29,6 +29,8 @@ pub struct Channels<'a, P> {
     pub probes: &'a P,
     pub channels: Vec<ThreadChannel>,
     pub seats: Vec<BookSeat>,
+    /// Room for the words of a node that is read.
+    pub words: Vec<u64>,
 }
 
 impl<'a, P: Prober> Channels<'a, P> {
@@ -70,6 +72,7 @@ impl<'a, P: Prober> Channels<'a, P> {
             probes,
             channels,
             seats,
+            words: Vec::new(alloc),
         })
     }
 
@@ -153,6 +156,7 @@ impl<'a, P: Prober> Keeper for Channels<'a, P> {
             line,
             self.channels.as_mut_slice(),
             probes,
+            &mut self.words,
         )?;
         Ok(())
     }

@@ -29,8 +29,9 @@ pub struct ShownLine {
 }
 
 /// Shows a line to each channel of its thread, behind the line's look and before its change: those
-/// that take a snapshot on it take one. It takes memory for snapshots. The channels may not be
-/// shown another line behind an `Err`.
+/// that take a snapshot on it take one. It takes memory for snapshots, and for the words of a node
+/// that is read, for which `room` serves again. The channels may not be shown another
+/// line behind an `Err`.
 pub fn show<P: Prober>(
     alloc: Global,
     common: &Common<'_>,
@@ -39,6 +40,7 @@ pub fn show<P: Prober>(
     shown: ShownLine,
     channels: &mut [ThreadChannel],
     prober: &P,
+    room: &mut Vec<u64>,
 ) -> Result<(), OutOfMemory>
     requires common { IsCommon common.now }
     requires named { AreNamedInSome common.now.script.now numbers.now }
@@ -60,19 +62,20 @@ pub fn show<P: Prober>(
     if !is_taken(common.script, shown.line, shown.accepted) {
         return Ok(());
     }
-    let closed = read_closed(alloc, common, thread, shown.line)?;
+    let closed = read_closed(alloc, common, thread, shown.line, room)?;
     show_all(
         alloc, common, numbers, thread, shown, &closed, channels, prober,
     )?;
     Ok(())
 }
 
-/// Reads the node that a line closes, if it closes one.
+/// Reads the node that a line closes, if it closes one. `room` serves for it.
 fn read_closed(
     alloc: Global,
     common: &Common<'_>,
     thread: &mut Thread,
     line: Line,
+    room: &mut Vec<u64>,
 ) -> Result<Option<ClosedNode>, OutOfMemory>
     requires thread { IsSaid common.now thread.old }
     ensures read { IfOk result (λ closed. HasRead common.now.tree thread.new.tree
@@ -82,7 +85,6 @@ fn read_closed(
     ensures state { OnOk result ((h : List words.OpRec) (state : ThreadState)
         → HasState common.now thread.old h state → HasState common.now thread.new h state) }
 {
-    let mut words = Vec::new(alloc);
     let closed = cal_channel::closed(
         alloc,
         common.script,
@@ -91,7 +93,7 @@ fn read_closed(
         operation_of(line),
         &thread.board,
         &thread.process.board,
-        &mut words,
+        room,
     )?;
     Ok(closed)
 }

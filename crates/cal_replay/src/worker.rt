@@ -9,10 +9,9 @@ ghost use Rattle.cal_replay.specs.declared.shared.Shared as shares;
 use crate::Shared;
 use crate::reading::read_start;
 use cal_base::Clock;
-use cal_script::ThreadNote;
+use cal_script::{LineNote, ThreadNote};
 use cal_thread::Thread;
 use cal_value::Seq;
-use std::alloc::Global;
 
 /// A thread of a run between two lines, and what was noted of it: its start reading, and each line
 /// so far.
@@ -24,7 +23,9 @@ pub struct Worker {
 
 impl Worker {
     /// The worker of a thread before its first line, which isn't started. It takes no memory.
-    pub fn new(alloc: Global, thread: Thread) -> Worker
+    /// `notes` is where its lines are noted, with room for as many as that has without more.
+    pub fn new(thread: Thread, notes: Seq<LineNote>) -> Worker
+        requires none { notes ≡ [] }
         ensures hired { (shared : shares.Shared) → IsThread shared.common thread 0 [] at_start
             → thread.timed ≡ shared.timers.some → IsHired shared result }
         ensures thread { result.thread ≡ thread }
@@ -33,7 +34,7 @@ impl Worker {
             thread,
             note: ThreadNote {
                 start: None,
-                lines: Seq::new(alloc),
+                lines: notes,
             },
         }
     }

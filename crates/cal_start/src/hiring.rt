@@ -1,5 +1,5 @@
 //! The running threads of a run.
-ghost use Rattle.std.specs.Prelude.{◌≡◌, ◌+◌, ◌<◌, ℕ, All, IfOk, OnOk, length};
+ghost use Rattle.std.specs.Prelude.{◌≡◌, ◌+◌, ◌<◌, ℕ, [], All, IfOk, OnOk, length};
 ghost use Rattle.cal_book.specs.Seats.{threads_of};
 ghost use Rattle.cal_replay.specs.Flushing.{BookOf};
 ghost use Rattle.cal_replay.specs.Workers.{script_of};
@@ -11,15 +11,16 @@ use crate::{FirstSeats, Run};
 use cal_keeping::{Channels, Runner};
 use cal_replay::Worker;
 use cal_run::Prober;
+use cal_script::{LineNote, Script};
 use cal_table::{Book, BookSeat};
 use cal_thread::Thread;
-use cal_value::OutOfMemory;
+use cal_value::{OutOfMemory, Seq};
 use std::alloc::Global;
 
 impl<'a> Run<'a> {
     /// A running thread for each thread of the script, in the order of their numbers, with seats of
     /// its own; none is started. It is called once, behind `new`. It takes memory for a copy of
-    /// each shape for each thread. Behind an `Err`, which is want of memory, `first` may have split
+    /// each shape for each thread, and for a note of each line. Behind an `Err`, which is want of memory, `first` may have split
     /// some seats off, and nobody is hired from it again.
     pub fn hire<'r, P: Prober>(
         &'r self,
@@ -56,6 +57,7 @@ impl<'a> Run<'a> {
         ensures hired { IfOk result (IsHiredFor self.now number) }
         ensures first { OnOk result (HaveHired self.now first.new (number + 1)) }
     {
+        let notes = room_for_notes(alloc, self.shared.common.script, number)?;
         let books = self.books.as_slice();
         let seats = split_seats(alloc, number, books, first.books.as_mut_slice())?;
         let timed = self.shared.timers.some;
@@ -63,7 +65,7 @@ impl<'a> Run<'a> {
         let tree = &mut first.tree;
         let log = &mut first.log;
         let thread = Thread::hire(alloc, common, number, timed, tree, log);
-        let worker = Worker::new(alloc, thread);
+        let worker = Worker::new(thread, notes);
         let channels = Channels::new(
             alloc,
             self.shared.common.script,
@@ -76,6 +78,15 @@ impl<'a> Run<'a> {
         )?;
         Ok(Runner { worker, channels })
     }
+}
+
+/// Room for a note of each line of a thread, and no note.
+fn room_for_notes(alloc: Global, script: &Script, thread: u32) -> Result<Seq<LineNote>, OutOfMemory>
+    requires { thread < length script.now.threads }
+    ensures { IfOk result (λ notes. notes ≡ []) }
+{
+    let lines = &script.threads.as_slice()[thread as usize];
+    Ok(Seq::from_vec(Vec::with_capacity(alloc, lines.len())?))
 }
 
 /// The seats of the thread of a number at books, for whose earlier threads theirs were split off.

@@ -4,3 +4,4 @@ pub mod Lasts
 pub mod Singles
 pub mod Standing
 pub mod Places
+pub mod NoRows

@@ -1,10 +1,15 @@
-ghost use Rattle.std.specs.Prelude.{◌<◌, ◌^◌};
+ghost use Rattle.std.specs.Prelude.{◌<◌};
 
 use crate::TableKey;
 use std::alloc::Global;
 
-/// For each node that stands first in keys, the number of the row that was last found there: where
-/// snapshots there have one key, the next one needs no look-up. What isn't known is any number.
+/// How many hints there are at most.
+const HINTS: usize = 4096;
+
+/// For the nodes that stand first in keys, the number of the row that was last found there: where
+/// snapshots there have one key, the next one needs no look-up. Nodes share a hint whose numbers
+/// differ by a multiple of 4,096, so that the list stays short however large the tree is. What isn't
+/// known is any number.
 #[derive(Drop)]
 pub(crate) struct Hints {
     last: Vec<Hint>,
@@ -29,7 +34,7 @@ impl Hints {
     /// The number of the row that was found at the first node of a key twice in a row, if there is
     /// one.
     pub(crate) fn at(&self, key: &TableKey) -> Option<usize> {
-        match self.last.get(first(key)) {
+        match self.last.get(place_of(key)) {
             Some(hint) if hint.twice => Some(hint.number as usize),
             _ => None,
         }
@@ -40,7 +45,7 @@ impl Hints {
         let Ok(number) = u32::try_from(number) else {
             return;
         };
-        let place = first(key);
+        let place = place_of(key);
         let none = Hint {
             number,
             twice: false,
@@ -55,12 +60,12 @@ impl Hints {
     }
 }
 
-/// The first node of a key, or the root.
-fn first(key: &TableKey) -> usize
-    ensures { result < 2 ^ 32 }
+/// The place of the hint of a key's first node, or of the root.
+fn place_of(key: &TableKey) -> usize
+    ensures { result < 4096 }
 {
     match key.refs.as_slice().first() {
-        Some(node) => node.0 as usize,
+        Some(node) => node.0 as usize % HINTS,
         None => 0,
     }
 }

@@ -3,13 +3,14 @@ ghost use Rattle.std.specs.Prelude.{Some, IfNone, IfSome, IsTrue};
 ghost use Rattle.indexmap.specs.IndexSet.{spare};
 ghost use Rattle.cal_context.specs.Lists.{AreApart};
 
+use cal_seeds::Seeds;
 use cal_value::{Exact, same};
 use indexmap::IndexSet;
-use std::hash::{Hash, RandomState};
+use std::hash::Hash;
 
 /// The number of a key, if it is there. A new one goes last, where there is room for one more.
 pub(crate) fn insert_key<K: Exact + Hash + Drop>(
-    keys: &mut IndexSet<K, RandomState>,
+    keys: &mut IndexSet<K, Seeds>,
     key: K,
 ) -> Option<usize>
     requires { 0 < spare keys.old }
@@ -26,7 +27,7 @@ pub(crate) fn insert_key<K: Exact + Hash + Drop>(
 
 /// The number of a key, if it is there. It may be `near`, which saves a look-up then.
 pub(crate) fn find_key<K: Exact + Hash>(
-    keys: &IndexSet<K, RandomState>,
+    keys: &IndexSet<K, Seeds>,
     near: Option<usize>,
     key: &K,
 ) -> Option<usize>
@@ -51,7 +52,7 @@ fn has_at<K: Exact>(keys: &[K], place: usize, key: &K) -> bool
 }
 
 /// The keys by their numbers, each once.
-pub(crate) fn as_slice<K: Exact + Hash>(keys: &IndexSet<K, RandomState>) -> &[K]
+pub(crate) fn as_slice<K: Exact + Hash>(keys: &IndexSet<K, Seeds>) -> &[K]
     ensures keys { result.now ≡ keys.now.keys }
     ensures apart { AreApart keys.now.keys }
 {

@@ -8,14 +8,15 @@ ghost use Rattle.cal_table.specs.Rows.{both_held, rows_of, tally};
 use crate::TableKey;
 use crate::keys::{find_key, insert_key};
 use cal_agg::AggRow;
+use cal_seeds::Seeds;
 use cal_value::{OutOfMemory, TryCopy};
 use indexmap::IndexSet;
+use indexmap::set::IntoIter;
 use std::alloc::Global;
-use std::hash::RandomState;
 
 /// Puts a row to the one of its key, or behind the last one, where there is room for one more.
 pub(crate) fn put(
-    keys: &mut IndexSet<TableKey, RandomState>,
+    keys: &mut IndexSet<TableKey, Seeds>,
     rows: &mut Vec<AggRow>,
     key: TableKey,
     row: AggRow,
@@ -40,12 +41,35 @@ pub(crate) fn put(
 
 /// Puts all rows of another list to those of their keys, where there is room for all.
 pub(crate) fn pour(
-    keys: &mut IndexSet<TableKey, RandomState>,
+    keys: &mut IndexSet<TableKey, Seeds>,
     rows: &mut Vec<AggRow>,
-    more_keys: &mut IndexSet<TableKey, RandomState>,
+    more_keys: IndexSet<TableKey, Seeds>,
+    mut more_rows: Vec<AggRow>,
+)
+    requires may { MayPour keys.old.keys rows.old.items more_keys.keys more_rows.items }
+    requires key_room { length more_rows.items ≤ spare keys.old }
+    requires row_room { vec_len rows.old + length more_rows.items ≤ vec_capacity rows.old }
+    ensures long { length keys.new.keys ≡ length rows.new.items }
+    ensures each { (cells : ℕ) → All (IsHeld cells) rows.old.items
+        → All (IsHeld cells) more_rows.items → All (IsHeld cells) rows.new.items }
+    ensures total { sum_by size rows.new.items
+        ≡ sum_by size rows.old.items + sum_by size more_rows.items }
+    ensures poured { (asked : AKey → Bool) → tally asked (rows_of keys.new.keys rows.new.items)
+        ≡ both_held (tally asked (rows_of keys.old.keys rows.old.items))
+        (tally asked (rows_of more_keys.keys more_rows.items)) }
+{
+    let mut more_keys = more_keys.into_iter();
+    pour_back(keys, rows, &mut more_keys, &mut more_rows);
+}
+
+/// The same, the last row first.
+fn pour_back(
+    keys: &mut IndexSet<TableKey, Seeds>,
+    rows: &mut Vec<AggRow>,
+    more_keys: &mut IntoIter<TableKey>,
     more_rows: &mut Vec<AggRow>,
 )
-    requires may { MayPour keys.old.keys rows.old.items more_keys.old.keys more_rows.old.items }
+    requires may { MayPour keys.old.keys rows.old.items more_keys.old more_rows.old.items }
     requires key_room { length more_rows.old.items ≤ spare keys.old }
     requires row_room { vec_len rows.old + length more_rows.old.items ≤ vec_capacity rows.old }
     ensures long { length keys.new.keys ≡ length rows.new.items }
@@ -55,10 +79,10 @@ pub(crate) fn pour(
         ≡ sum_by size rows.old.items + sum_by size more_rows.old.items }
     ensures poured { (asked : AKey → Bool) → tally asked (rows_of keys.new.keys rows.new.items)
         ≡ both_held (tally asked (rows_of keys.old.keys rows.old.items))
-        (tally asked (rows_of more_keys.old.keys more_rows.old.items)) }
+        (tally asked (rows_of more_keys.old more_rows.old.items)) }
 {
     while let Some(row) = more_rows.pop() {
-        let Some(key) = more_keys.pop() else {
+        let Some(key) = more_keys.next_back() else {
             unreachable!()
         };
         put(keys, rows, key, row);
@@ -69,7 +93,7 @@ pub(crate) fn pour(
 /// that row. It may be `near`, which saves a look-up then. An `Err` leaves all.
 pub(crate) fn add(
     alloc: Global,
-    keys: &mut IndexSet<TableKey, RandomState>,
+    keys: &mut IndexSet<TableKey, Seeds>,
     rows: &mut Vec<AggRow>,
     near: Option<usize>,
     key: &TableKey,

@@ -12,20 +12,23 @@ use crate::keys::as_slice;
 use crate::putting::{add, pour};
 use crate::{AttributeNumbers, TableKey, TableShape};
 use cal_agg::AggRow;
+use cal_seeds::Seeds;
 use cal_snap::{NumberedSnap, Snap};
 use cal_value::{OutOfMemory, TryCopy};
 use indexmap::IndexSet;
 use std::alloc::Global;
-use std::hash::RandomState;
 use std::marker::Model;
 use std::mem;
+
+/// For how many rows a table has room at most, behind one of which all were taken.
+const ROWS_AT_FIRST: usize = 256;
 
 /// What a thread keeps of its snapshots in place of them: of those with one key how many there are,
 /// and of each value attribute the sum of their numbers and the ends.
 #[derive(Drop)]
 pub struct Table {
     shape: TableShape,
-    keys: IndexSet<TableKey, RandomState>,
+    keys: IndexSet<TableKey, Seeds>,
     rows: Vec<AggRow>,
     snapshots: u64,
     draft: Draft,
@@ -64,7 +67,7 @@ impl Table {
     {
         Ok(Table {
             shape: shape.copy(alloc)?,
-            keys: IndexSet::with_hasher(alloc, shape.hashers),
+            keys: IndexSet::with_hasher(alloc, Seeds::of(&shape.hashers)),
             rows: Vec::new(alloc),
             snapshots: 0,
             draft: Draft::new(alloc),
@@ -126,36 +129,57 @@ impl Table {
     }
 
     /// Takes another table in: first it makes room for all rows, and then moves them, which can't
-    /// fail. An `Err` is want of memory: it hands the other table back, and leaves both.
-    pub fn merge(&mut self, mut other: Table) -> Result<(), Table>
+    /// fail. A table without rows becomes the other one. An `Err` is want of memory: it hands the other table back, and leaves both.
+    pub fn merge(&mut self, other: Table) -> Result<(), Table>
         requires made { other.shape ≡ self.old.shape }
         requires few { self.old.snapshots + other.snapshots ≤ 2 ^ 26 }
         ensures merged { OnOk result (Same self.new (merged_tables self.old other)) }
         ensures refused { IfErr result (λ back. (back ≡ other) × (self.new ≡ self.old)) }
     {
+        if self.rows.is_empty() {
+            self.put_back(other);
+            return Ok(());
+        }
         let more = other.rows.len();
         if self.keys.reserve(more).is_err() || self.rows.reserve(more).is_err() {
             return Err(other);
         }
-        pour(
-            &mut self.keys,
-            &mut self.rows,
-            &mut other.keys,
-            &mut other.rows,
-        );
-        self.snapshots += other.snapshots;
+        let Table {
+            shape: _,
+            keys: more_keys,
+            rows: more_rows,
+            snapshots,
+            draft: _,
+            hints: _,
+        } = other;
+        pour(&mut self.keys, &mut self.rows, more_keys, more_rows);
+        self.snapshots += snapshots;
         Ok(())
     }
 
     /// Takes all rows out, and leaves the table of the shape that stands for no snapshot. An `Err`
-    /// leaves the table. It takes memory for a copy of the shape.
+    /// leaves the table. It takes memory for a copy of the shape, and for some rows. Where rows were
+    /// found last is still known: new ones often come to stand at the same places.
     pub fn take(&mut self) -> Result<Table, OutOfMemory>
         ensures taken { IfOk result (λ table. table ≡ self.old) }
         ensures empty { OnOk result (self.new ≡ empty_table self.old.shape) }
         ensures err { OnErr result (self.new ≡ self.old) }
     {
         let alloc = *self.rows.allocator();
-        let empty = Table::new(alloc, &self.shape)?;
+        let mut empty = Table::new(alloc, &self.shape)?;
+        let room = self.rows.len().min(ROWS_AT_FIRST);
+        empty.keys.reserve(room)?;
+        empty.rows.reserve(room)?;
+        mem::swap(&mut self.hints, &mut empty.hints);
         Ok(mem::replace(self, empty))
+    }
+
+    /// Becomes another table, and drops what it was. It takes no memory. Where rows were found last
+    /// is still known.
+    pub fn put_back(&mut self, mut part: Table)
+        ensures { self.new ≡ part }
+    {
+        mem::swap(&mut self.hints, &mut part.hints);
+        *self = part;
     }
 }

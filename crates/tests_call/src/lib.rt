@@ -1,5 +1,6 @@
 //! Tests of the top call, over streams in memory: the rows of each command, each read, write and
-//! piece of room failing in turn, spoilt journals, and what a whole command line is served.
+//! piece of room failing in turn, spoilt journals, threads that cross, and what a whole command line
+//! is served.
 //!
 //! Expected texts are written by hand, as the formats have them. They show what no clause can say,
 //! that calls succeed with ample memory.
@@ -7,6 +8,8 @@
 
 #[cfg(test)]
 mod calls;
+#[cfg(test)]
+mod crossed;
 #[cfg(test)]
 mod failing;
 #[cfg(test)]

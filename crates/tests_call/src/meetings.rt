@@ -13,7 +13,10 @@ use std::sync::atomic::{AtomicU64, Ordering};
 use std::thread::Threads;
 
 /// How often a thread that is held looks, at most.
-const MOST_TURNS: u64 = 1_000_000_000;
+pub(crate) const MOST_TURNS: u64 = 1_000_000_000;
+
+/// Room for all that a run of these tests writes.
+pub(crate) const ROOM: u64 = 400_000;
 
 /// A gate that holds a thread before its first line until a word is high enough, and adds to the
 /// word at the lines that are waited for.
@@ -215,7 +218,7 @@ fn the_order_of_a_run_is_the_one_that_happened(rt: HostRuntime) {
 }
 
 /// A script with a journal behind it.
-fn behind(alloc: Global, script: &str, journal: &str) -> Result<Text, OutOfMemory> {
+pub(crate) fn behind(alloc: Global, script: &str, journal: &str) -> Result<Text, OutOfMemory> {
     let mut both = Text::from_str(alloc, script)?;
     both.push_str(journal)?;
     Ok(both)
@@ -237,14 +240,14 @@ fn same(left: &Streams, right: &Streams) -> bool {
 }
 
 /// Whether `serial` of an input ends with this status, and leaves what these streams have.
-fn is_written_again<R: Threads + Sync + RandomSource>(
+pub(crate) fn is_written_again<R: Threads + Sync + RandomSource>(
     rt: &R,
     alloc: Global,
     input: &str,
     status: u8,
     wanted: &Streams,
 ) -> bool {
-    let Ok(mut streams) = streams_of(alloc, input, 4000) else {
+    let Ok(mut streams) = streams_of(alloc, input, ROOM) else {
         return false;
     };
     let found = status_over(rt, alloc, "serial", &mut streams);
@@ -262,7 +265,7 @@ fn text_behind(alloc: Global, script: &str, journal: &Journal) -> Result<Text, O
 }
 
 /// The status of an outcome, and the text of its journal behind a script.
-fn told_of(alloc: Global, script: &str, outcome: Outcome) -> Option<(u8, Text)> {
+pub(crate) fn told_of(alloc: Global, script: &str, outcome: Outcome) -> Option<(u8, Text)> {
     let status = outcome.status;
     match outcome.journal.into_journal(alloc) {
         Ok(journal) => Some((status, text_behind(alloc, script, &journal).ok()?)),
@@ -291,7 +294,7 @@ fn run_is_said_again<R: Threads + Sync + RandomSource>(
     alloc: Global,
     script: &str,
 ) -> Option<bool> {
-    let mut streams = streams_of(alloc, script, 4000).ok()?;
+    let mut streams = streams_of(alloc, script, ROOM).ok()?;
     let said = is_said_again(rt, alloc, script, &mut streams);
     drop(streams);
     said
@@ -313,7 +316,7 @@ fn is_told_again<R: Threads + Sync + RandomSource>(
     status: u8,
     wanted: &Streams,
 ) -> bool {
-    let Ok(mut streams) = streams_of(alloc, input, 4000) else {
+    let Ok(mut streams) = streams_of(alloc, input, ROOM) else {
         return false;
     };
     let found = status_over(rt, alloc, "serial", &mut streams);
@@ -343,7 +346,7 @@ fn written_is_lawful<R: Threads + Sync + RandomSource>(
     alloc: Global,
     script: &str,
 ) -> Option<bool> {
-    let mut streams = streams_of(alloc, script, 4000).ok()?;
+    let mut streams = streams_of(alloc, script, ROOM).ok()?;
     let lawful = is_lawful(rt, alloc, script, &mut streams);
     drop(streams);
     lawful

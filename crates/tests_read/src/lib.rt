@@ -1,5 +1,5 @@
-//! Tests of the reader of streams: worked rows, each of the twelve faults, pieces of a stream, and
-//! a stream that is cut after each byte.
+//! Tests of the reader of streams: worked rows, each of the twelve faults, numbers at their limits,
+//! pieces of a stream, and a stream that is cut after each byte.
 //!
 //! It promises nothing that a contract says; it shows what no clause can say, that calls succeed
 //! with ample memory, and that hand-written streams read as the format's page says.
@@ -11,6 +11,8 @@ mod cuts;
 mod faults;
 #[cfg(test)]
 mod grammar;
+#[cfg(test)]
+mod limits;
 #[cfg(test)]
 mod pieces;
 #[cfg(test)]

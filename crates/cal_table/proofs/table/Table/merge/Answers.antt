@@ -1,5 +1,8 @@
-use Rattle.std.proofs.Common.{◌≡◌, ◌+◌, ◌++◌, ℕ, List, length, sym, ap, ◌∙◌, subst, arith}
+use Rattle.std.proofs.Common.{◌≡◌, ◌+◌, ◌++◌, ℕ, [], List, length, sym, ap, ◌∙◌, subst, arith}
 use Rattle.std.specs.Prelude.{sum_by}
+use Rattle.std.specs.Vec.{vec_len}
+use Rattle.std.proofs.lemmas.Bool.{eqb-true}
+use Rattle.std.proofs.lemmas.List.{nil_from_length}
 use Rattle.std.specs.List.{All}
 use Rattle.cal_agg.specs.declared.row.AggRow.{AggRow}
 use Rattle.cal_table.specs.declared.key.TableKey.{TableKey}
@@ -7,8 +10,9 @@ use Rattle.cal_table.specs.declared.shape.TableShape.{TableShape}
 use Rattle.cal_table.specs.Held.{AreHeld, IsHeld, MayPour, size}
 use Rattle.cal_table.specs.Rows.{both_held, rows_of, tally}
 use Rattle.cal_table.specs.TableLaws.{tally-append}
-use Rattle.cal_table.specs.Tables.{TableValue}
+use Rattle.cal_table.specs.Tables.{Same, TableValue, merged_tables}
 use Rattle.cal_table.proofs.Holding.{MayPour-held}
+use Rattle.cal_table.proofs.NoRows.{becomes}
 use Rattle.cal_table.proofs.table.Table.merge.Goals as goal
 
 pub pour-requires-clause-may : goal.pour-requires-clause-may
@@ -48,3 +52,18 @@ returns-clause-merged c =
           ∙ sym (tally-append asked (rows_of s.keys.keys s.rows.items) (rows_of o.keys.keys o.rows.items))
           ∙ (λ i. tally asked ((c.self.view_is i).rows ++ (c.other.view_is i).rows));
     }
+
+-- without rows of its own
+pub returns-then-is_empty-clause-merged : goal.returns-then-is_empty-clause-merged
+returns-then-is_empty-clause-merged c =
+    let s = c.self.inside in
+    let was = c.args.self.now in
+    let other = c.args.other in
+    let none : vec_len s.rows ≡ 0 =
+    eqb-true (vec_len s.rows) 0 (sym c.is_empty.ensures ∙ c.if-is_empty.true) in
+    let long = s.rows.ok.0 in
+    let empty : s.rows.items ≡ [] = nil_from_length s.rows.items (omega (arith, none, long)) in
+    subst (λ (t : TableValue). Same t (merged_tables was other)) (sym c.put_back.ensures)
+    (becomes (length s.shape.values) s.snapshots s.keys.keys s.rows.items c.self.invariant empty
+    was other (sym (ap (λ (v : TableValue). v.rows) c.self.view_is))
+    (sym (ap (λ (v : TableValue). v.snapshots) c.self.view_is)) c.requires.made)

@@ -1,0 +1,13 @@
+pub mod NextLemmas
+pub mod SightLemmas
+pub mod BoardLemmas
+pub mod WalkLemmas
+pub mod PlacedLemmas
+pub mod PositionLemmas
+pub mod ThreadLemmas
+pub mod ChannelLemmas
+pub mod NodeLemmas
+pub mod HeldLemmas
+pub mod WorldLemmas
+pub mod StartLemmas
+pub mod EndLemmas

@@ -1,0 +1,4 @@
+pub mod Worlds
+pub mod Nodes
+pub mod Effects
+pub mod Keeping
