@@ -1,9 +1,8 @@
-use Rattle.std.proofs.Common.{◌≡◌, ℕ, ℤ, zero, suc, ◌+◌, ◌*◌, ◌/◌, ◌%◌, ◌^◌, ◌<◌, true, false, cond}
-use Rattle.std.proofs.Common.{eqb, List, [], ◌∷◌, length, get_or, map, sym, refl, ap, ◌∙◌, lit<}
+use Rattle.std.proofs.Common.{◌≡◌, ℕ, ℤ, ◌+◌, ◌*◌, ◌/◌, ◌%◌, ◌^◌, ◌<◌, true, false}
+use Rattle.std.proofs.Common.{List, [], ◌∷◌, length, get_or, sym, refl, ap, ◌∙◌, lit<}
 use Rattle.std.proofs.Common.{arith}
 use Rattle.std.specs.Int.{cast_signed, cast_unsigned, to_le_bytes, w64, w128}
 use Rattle.std.specs.Prelude.{FitsSigned}
-use Rattle.std.specs.List.{range_with_len}
 use Rattle.std.proofs.lemmas.Int.{to_z-of_z}
 use Rattle.std.proofs.lemmas.List.FromFn.{fill_by_all}
 use Rattle.cal_value.specs.Kinds.{kind_node}

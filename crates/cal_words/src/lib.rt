@@ -8,19 +8,23 @@
 
 mod back;
 mod full;
+mod hash;
 mod laws;
 mod node;
 mod op;
 mod packed;
 mod shape;
 mod sort;
+mod text;
 mod value;
 
 pub use back::{Node, read_node};
 pub use full::TreeFull;
+pub use hash::{hash_word, start_hash};
 pub use laws::{equal_nodes, equal_ops};
 pub use node::{NodeId, NodeRec, know_node};
 pub use op::{OpCode, OpRec, know_op, read_op};
 pub use packed::Packed;
 pub use shape::Shape;
 pub use sort::{NodeSort, OpSort, RecSort};
+pub use text::{text_len, text_word};

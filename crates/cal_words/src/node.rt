@@ -4,13 +4,10 @@ ghost use Rattle.cal_words.specs.Nodes.{words_of};
 ghost use Rattle.cal_words.specs.Records.{IsNode, IsValue};
 ghost use Rattle.cal_words.specs.Words.{text_length};
 
+use crate::hash::{hash_word, start_hash};
 use crate::value::{kind_word, know_value, value_len, value_word};
 use crate::{NodeSort, Packed};
 use cal_value::Variant;
-
-const HASH_START: u64 = 14695981039346656037;
-
-const HASH_FACTOR: u64 = 1099511628211;
 
 /// A node of the context tree: 0 is the root, and `p + 1` the node at place p.
 #[derive(Clone, Copy, Debug, PartialEq, Eq, Hash)]
@@ -54,9 +51,9 @@ impl Packed<NodeSort> for NodeRec<'_> {
 fn hash(node: &NodeRec<'_>) -> u64
     ensures { result ≡ words_hash (words_of node.now) }
 {
-    let mut hash = HASH_START;
+    let mut hash = start_hash();
     for i in 0..node.len() {
-        hash = (hash ^ node.word(i)).wrapping_mul(HASH_FACTOR);
+        hash = hash_word(hash, node.word(i));
     }
     hash
 }

@@ -1,64 +1,11 @@
-ghost use Rattle.std.specs.Prelude.{◌≡◌, ℕ, ◌+◌, ◌*◌, ◌^◌, ◌<◌, drop, length, slice_index};
-ghost use Rattle.std.specs.Int.{from_le_bytes, w64};
+ghost use Rattle.std.specs.Prelude.{◌≡◌, ℕ, ◌+◌, ◌*◌, ◌^◌, ◌<◌, length, slice_index};
 ghost use Rattle.cal_value.specs.Kinds.{kind_node};
 ghost use Rattle.cal_value.specs.Values.{kind_of};
 ghost use Rattle.cal_words.specs.Records.{IsText, IsValue};
-ghost use Rattle.cal_words.specs.Words.{number_words, text_length, text_words, value_words};
+ghost use Rattle.cal_words.specs.Words.{number_words, text_length, value_words};
 
+use crate::text::{byte_len, text_len, text_word};
 use cal_value::{Text, Variant};
-
-// Its length in bytes.
-fn byte_len(text: &Text) -> u64
-    ensures length { result ≡ length text.now }
-    ensures small { result < 2 ^ 63 }
-{
-    text.as_str().as_bytes().len() as u64
-}
-
-fn text_len(text: &Text) -> u64
-    ensures length { result ≡ length (text_words text.now) }
-    ensures small { result < 2 ^ 61 }
-{
-    (byte_len(text) + 7) / 8
-}
-
-// Word i of a text: eight bytes from 8 * i on, the first lowest.
-fn text_part(text: &Text, i: u64) -> u64
-    requires { i < length (text_words text.now) }
-    ensures { result ≡ slice_index (text_words text.now) i }
-{
-    word_at(text.as_str().as_bytes(), 8 * i as usize)
-}
-
-// The number of eight bytes from a place on: one load, where so many are left.
-fn word_at(bytes: &[u8], start: usize) -> u64
-    requires { start < length bytes.now }
-    ensures { result ≡ from_le_bytes w64 (drop start bytes.now) }
-{
-    let bytes = &bytes[start..];
-    if bytes.len() >= 8 {
-        return u64::from_le_bytes([
-            bytes[0], bytes[1], bytes[2], bytes[3], bytes[4], bytes[5], bytes[6], bytes[7],
-        ]);
-    }
-    u64::from_le_bytes([
-        byte_at(bytes, 0),
-        byte_at(bytes, 1),
-        byte_at(bytes, 2),
-        byte_at(bytes, 3),
-        byte_at(bytes, 4),
-        byte_at(bytes, 5),
-        byte_at(bytes, 6),
-        byte_at(bytes, 7),
-    ])
-}
-
-// The byte at a place, and 0 where none is left.
-fn byte_at(bytes: &[u8], place: usize) -> u8
-    ensures { result ≡ slice_index bytes.now place }
-{
-    bytes.get(place).copied().unwrap_or(0)
-}
 
 /// How many words a value has.
 pub fn value_len(value: &Variant) -> u64
@@ -68,10 +15,10 @@ pub fn value_len(value: &Variant) -> u64
     match value {
         Variant::Int(_) => 2,
         Variant::Fixed(_) => 2,
-        Variant::Text(text) => text_len(text),
-        Variant::Real(text) => text_len(text),
-        Variant::Usr(text) => text_len(text),
-        Variant::Ptr(text) => text_len(text),
+        Variant::Text(text) => text_len(text.as_str()),
+        Variant::Real(text) => text_len(text.as_str()),
+        Variant::Usr(text) => text_len(text.as_str()),
+        Variant::Ptr(text) => text_len(text.as_str()),
         _ => 1,
     }
 }
@@ -85,13 +32,13 @@ pub fn value_word(value: &Variant, i: u64) -> u64
         Variant::Int(number) => half(*number, i),
         Variant::Fixed(nanos) => half(*nanos, i),
         Variant::Uint(number) => *number,
-        Variant::Text(text) => text_part(text, i),
+        Variant::Text(text) => text_word(text.as_str(), i),
         Variant::Bool(truth) => u64::from(*truth),
         Variant::Addr(address) => *address,
         Variant::Kind(kind) => kind.node(),
-        Variant::Real(text) => text_part(text, i),
-        Variant::Usr(text) => text_part(text, i),
-        Variant::Ptr(text) => text_part(text, i),
+        Variant::Real(text) => text_word(text.as_str(), i),
+        Variant::Usr(text) => text_word(text.as_str(), i),
+        Variant::Ptr(text) => text_word(text.as_str(), i),
     }
 }
 
@@ -102,14 +49,14 @@ pub fn kind_word(value: &Variant) -> u64
     match value {
         Variant::Int(_) => 1 << 32,
         Variant::Uint(_) => 2 << 32,
-        Variant::Text(text) => (3 << 32) + byte_len(text),
+        Variant::Text(text) => (3 << 32) + byte_len(text.as_str()),
         Variant::Bool(_) => 6 << 32,
         Variant::Addr(_) => 4 << 32,
         Variant::Kind(_) => 7 << 32,
-        Variant::Real(text) => (5 << 32) + byte_len(text),
+        Variant::Real(text) => (5 << 32) + byte_len(text.as_str()),
         Variant::Fixed(_) => 5 << 32,
-        Variant::Usr(text) => byte_len(text),
-        Variant::Ptr(text) => (11 << 32) + byte_len(text),
+        Variant::Usr(text) => byte_len(text.as_str()),
+        Variant::Ptr(text) => (11 << 32) + byte_len(text.as_str()),
     }
 }
 
