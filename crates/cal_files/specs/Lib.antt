@@ -1,0 +1,5 @@
+pub mod Counts
+pub mod Holding
+pub mod OpenerChange
+pub mod Files
+pub mod FilesEnds
