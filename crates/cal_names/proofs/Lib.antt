@@ -1,0 +1,4 @@
+pub mod Differing
+pub mod Reading
+pub mod Walking
+pub mod Declaring
