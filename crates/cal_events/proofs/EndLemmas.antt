@@ -44,9 +44,11 @@ use Rattle.cal_value.specs.Order.{path_cmp}
 use Rattle.cal_value.specs.OrderLaws.{path_exact}
 use Rattle.cal_world.proofs.RunLemmas.{whole-run}
 use Rattle.cal_world.proofs.TurnLemmas.{notes-long}
-use Rattle.cal_world.specs.Progress.{Progress, Reached, at_end, behind, reached_by}
+use Rattle.cal_world.specs.Progress.{AreNext, Progress, Reached, at_end, at_start, behind}
+use Rattle.cal_world.specs.Progress.{progress_behind, reached_by}
 use Rattle.cal_world.specs.Schedule.{schedule_of}
 use Rattle.cal_world.specs.Turns.{turns_by_thread, turns_from}
+use Rattle.cal_world.specs.declared.event.Event as events
 use Rattle.cal_world.specs.declared.turn.Turn.{Turn}
 
 -- ---- lists
@@ -212,7 +214,7 @@ module _ (script : Script) (journal : Journal) (lawful : Lawful script journal) 
         → get_or w.threads t d ≡ thread_in w t
     thread-at t d below = get_or_default w.threads t d no_thread below
 
-    traced-all : traced_in script journal w c ≡ snapshots script journal channel
+    traced-all : traced_in w c ≡ snapshots script journal channel
     traced-all =
         numbered (λ (v : ThreadWorld). (held_by v c).trace) 0 w.threads
         ∙ gathered (λ (z : ℕ × ThreadWorld). (held_by z.1 c).trace)
@@ -226,7 +228,7 @@ module _ (script : Script) (journal : Journal) (lawful : Lawful script journal) 
         ∙ ((is.channels t inside).each c channel at).trace
         ∙ whole-thread t p inside)
 
-    booked-all : booked_in script journal w c ≡ snapshots script journal channel
+    booked-all : booked_in w c ≡ snapshots script journal channel
     booked-all =
         gathered (λ (z : ℕ × ThreadWorld).
         given_by z.0 (book_in w c) ++ (held_by z.1 c).unflushed)
@@ -308,14 +310,20 @@ module _ (script : Script) (journal : Journal) (lawful : Lawful script journal) 
     paths = paths-all;
   }
 
+-- behind events that end all lines
+pub ended-world : (script : Script) (journal : Journal) → Lawful script journal
+    → (es : List events.Event) → AreNext script journal (at_start script journal) es
+    → progress_behind (at_start script journal) es ≡ at_end script journal
+    → EndsJournal script journal (world_behind script journal (world_at_start script journal) es)
+ended-world script journal lawful es next ends =
+    ends-journal script journal lawful
+    (world_behind script journal (world_at_start script journal) es)
+    (world-events script journal lawful es next)
+    (progress-behind script journal lawful (world_at_start script journal) es next ∙ ends)
+
 pub whole-world : (script : Script) (journal : Journal) → Lawful script journal
     → EndsJournal script journal (world_behind script journal (world_at_start script journal)
     (schedule_of script journal))
 whole-world script journal lawful =
     let run = whole-run script journal lawful in
-    let w : World = world_behind script journal (world_at_start script journal)
-    (schedule_of script journal) in
-    ends-journal script journal lawful w
-    (world-events script journal lawful (schedule_of script journal) run.next)
-    (progress-behind script journal lawful (world_at_start script journal)
-    (schedule_of script journal) run.next ∙ run.ends)
+    ended-world script journal lawful (schedule_of script journal) run.next run.ends

@@ -130,7 +130,8 @@ module _ (script : Script) (was is : List Path) (less : Within was is) where
 
 -- ---- the paths of a line by a front of the history
 
-range-front : {A : Type 0} (h more : List A) (a b : ℕ) → a ≤ b → b ≤ length h
+-- a part of a front is that of the whole
+pub range-front : {A : Type 0} (h more : List A) (a b : ℕ) → a ≤ b → b ≤ length h
     → slice_range (h ++ more) a b ≡ slice_range h a b
 range-front h more a b less inside =
     ap (take (b - a)) (drop-append-le a h more (omega (arith, less, inside)))

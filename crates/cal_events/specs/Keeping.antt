@@ -20,6 +20,19 @@ use Rattle.cal_value.specs.declared.attribute.Entry.{Entry}
 use Rattle.cal_value.specs.declared.record.Rec.{Rec}
 use Rattle.cal_world.specs.Progress.{reached_by}
 
+-- ---- what a world has of a channel
+
+-- the snapshots that the traces have, thread by thread
+abbrev pub traced_in : World → (c : ℕ) → List Rec
+traced_in w c = flat_map (λ (t : ThreadWorld). (held_by t c).trace) w.threads
+
+-- and those that its book has and the threads keep
+abbrev pub booked_in : World → (c : ℕ) → List Rec
+booked_in w c = flat_map (λ (t : ℕ × ThreadWorld).
+    given_by t.0 (book_in w c) ++ (held_by t.1 c).unflushed) (enumerate_from 0 w.threads)
+
+-- ---- what it keeps of a journal
+
 -- how many operations the last of these lines had seen
 abbrev pub seen_from : (before : ℕ) → List (Line × LineNote) → ℕ
 seen_from before [] = before
@@ -70,15 +83,6 @@ module _ (script : Script) (journal : Journal) where
     pub apart : IsDistinct (eq_by_cmp path_cmp) w.paths
 
   -- ---- at the end
-
-  -- the snapshots of a channel that the traces have, thread by thread
-  abbrev pub traced_in : World → (c : ℕ) → List Rec
-  traced_in w c = flat_map (λ (t : ThreadWorld). (held_by t c).trace) w.threads
-
-  -- and those that its book has and the threads keep
-  abbrev pub booked_in : World → (c : ℕ) → List Rec
-  booked_in w c = flat_map (λ (t : ℕ × ThreadWorld).
-      given_by t.0 (book_in w c) ++ (held_by t.1 c).unflushed) (enumerate_from 0 w.threads)
 
   -- The world is that of the whole journal.
   pub record EndsJournal (w : World) : Type 0 where

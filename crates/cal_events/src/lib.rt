@@ -8,4 +8,4 @@
 
 mod laws;
 
-pub use laws::{scheduled_world_law, world_law};
+pub use laws::{ended_world_law, scheduled_world_law, world_law};

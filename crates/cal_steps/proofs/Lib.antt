@@ -3,5 +3,13 @@ pub mod TakingLemmas
 pub mod EndingLemmas
 pub mod TurningLemmas
 pub mod FlushLemmas
+pub mod MovingLemmas
 pub mod BeginningLemmas
 pub mod ReadyLemmas
+pub mod KnownLemmas
+pub mod NeedLemmas
+pub mod NewestLemmas
+pub mod NodeReadyLemmas
+pub mod AddingLemmas
+pub mod GroupLemmas
+pub mod RowLemmas

@@ -91,7 +91,7 @@ module _ (script : Script) (journal : Journal) where
 -- ---- a thread's board is known
 
 module _ (script : Script) where
-  abbrev IsRight : Line → Type 0
+  abbrev pub IsRight : Line → Type 0
   IsRight l = IsPlaced script.attributes script.channels script.values l
 
   abbrev AreRight : Line × LineNote → Type 0
@@ -104,7 +104,7 @@ module _ (script : Script) where
       All-cons AreRight (l, n) (zip ls ns) (all 0 l (omega arith))
       (zip-right ls ns (all-rest IsRight l ls all))
 
-  known-op : (b : Blackboard Variant) (o : Option Operation) → MayHavePlaces script o
+  pub known-op : (b : Blackboard Variant) (o : Option Operation) → MayHavePlaces script o
       → IsKnown script b → IsKnown script (board_placed script b o)
   known-op b None places known = known
   known-op b (Some op) places known = after-known script b known (attr_ref script op.attr)

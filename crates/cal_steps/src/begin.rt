@@ -2,6 +2,7 @@
 ghost use Rattle.std.specs.Prelude.{◌≡◌, [], map, IfOk};
 ghost use Rattle.cal_events.specs.Worlds.{thread_at_start, world_at_start};
 ghost use Rattle.cal_run.specs.Lawful.{HasShape};
+ghost use Rattle.cal_steps.specs.Behind.{IsBehind};
 ghost use Rattle.cal_world.specs.Progress.{behind};
 
 use crate::World;
@@ -13,10 +14,12 @@ use cal_value::{OutOfMemory, Seq};
 use std::alloc::Global;
 
 impl World {
-    /// Before the first event.
+    /// The world before the first event: each thread has its start reading in the journal, and
+    /// all else is empty.
     pub fn new(alloc: Global, script: &Script, journal: &Journal) -> Result<World, OutOfMemory>
         requires shape { HasShape script.now journal.now }
-        ensures { IfOk result (λ world. world ≡ world_at_start script.now journal.now) }
+        ensures start { IfOk result (λ world. world ≡ world_at_start script.now journal.now) }
+        ensures behind { IfOk result (IsBehind script.now journal.now) }
     {
         let reached = none_reached(alloc, journal)?;
         let threads = first_threads(alloc, script, journal)?;

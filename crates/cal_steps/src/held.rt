@@ -82,4 +82,18 @@ impl Held {
     {
         replace(&mut self.kept, Seq::new(alloc))
     }
+
+    /// Its trace.
+    pub(crate) fn trace(&self) -> &[Rec]
+        ensures { result.now ≡ self.now.trace }
+    {
+        self.taken.as_slice()
+    }
+
+    /// What isn't in the book.
+    pub(crate) fn unflushed(&self) -> &[Rec]
+        ensures { result.now ≡ self.now.unflushed }
+    {
+        self.kept.as_slice()
+    }
 }

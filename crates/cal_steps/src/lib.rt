@@ -3,15 +3,22 @@
 //! It keeps boards of plain values and records with entries of their own.
 #![tactic(auto)]
 
-mod act;
 mod begin;
 mod boards;
+mod groups;
 mod held;
+mod node;
+mod node_board;
 mod noted;
 mod part;
+mod paths;
 mod reach;
+mod records;
+mod rows;
+mod scheduled;
 mod sight;
 mod snapshot;
+mod step;
 mod thread;
 mod turns;
 mod world;

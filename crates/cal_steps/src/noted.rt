@@ -1,11 +1,12 @@
 //! A thread with the notes of its lines.
-ghost use Rattle.std.specs.Prelude.{◌≡◌, ◌≤◌, ◌<◌, Some, length, IfOk, OnOk};
+ghost use Rattle.std.specs.Prelude.{◌≡◌, ◌≤◌, ◌<◌, ◌++◌, Some, length, IfOk, OnOk};
 ghost use Rattle.cal_events.specs.Effects.{handed_over, line_ended};
 ghost use Rattle.cal_events.specs.Worlds.{held_by, thread_at_start};
 ghost use Rattle.cal_run.specs.Held.{IsKnown};
 ghost use Rattle.cal_script.specs.Valid.{IsPlaced, IsRunnable};
 
 use crate::ThreadState;
+use crate::rows::push_copies;
 use cal_script::{LineNote, Placed, Script, ThreadNote};
 use cal_value::{OutOfMemory, Rec, Seq};
 use cal_world::Turn;
@@ -80,6 +81,36 @@ impl NotedThread {
         ensures kept { self.new ≡ handed_over (Some channel) self.old }
     {
         self.state.hand_over(alloc, channel)
+    }
+
+    /// Adds the trace of a channel. An `Err` may leave some of it.
+    pub(crate) fn push_trace(
+        &self,
+        alloc: Global,
+        channel: usize,
+        rows: &mut Seq<Rec>,
+    ) -> Result<(), OutOfMemory>
+        ensures { OnOk result (rows.new ≡ rows.old ++ (held_by self.now channel).trace) }
+    {
+        match self.state.channels.get(channel) {
+            None => Ok(()),
+            Some(held) => push_copies(alloc, held.trace(), rows),
+        }
+    }
+
+    /// Adds what isn't in the book of a channel. An `Err` may leave some of it.
+    pub(crate) fn push_kept(
+        &self,
+        alloc: Global,
+        channel: usize,
+        taken: &mut Seq<Rec>,
+    ) -> Result<(), OutOfMemory>
+        ensures { OnOk result (taken.new ≡ taken.old ++ (held_by self.now channel).unflushed) }
+    {
+        match self.state.channels.get(channel) {
+            None => Ok(()),
+            Some(held) => push_copies(alloc, held.unflushed(), taken),
+        }
     }
 
     /// The notes of its lines, copied.

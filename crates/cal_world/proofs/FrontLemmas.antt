@@ -1,6 +1,6 @@
 -- In whatever order events come, each the next of its thread, the history is the first of the
 -- journal's.
-use Rattle.std.proofs.Common.{◌≡◌, ℕ, suc, zero, ◌-◌, Bool, true, false, List, [], ◌∷◌, ◌++◌}
+use Rattle.std.proofs.Common.{◌≡◌, ℕ, suc, zero, Bool, true, false, List, [], ◌∷◌, ◌++◌}
 use Rattle.std.proofs.Common.{length}
 use Rattle.std.proofs.Common.{ap, subst, sym, refl, ◌∙◌, if◌then◌else◌}
 use Rattle.std.specs.Prelude.{Option, Some, None, option_and_then, slice_get, slice_range}
@@ -8,7 +8,6 @@ use Rattle.cal_context.specs.Lists.{IsFront}
 use Rattle.cal_run.specs.Lawful.{Lawful}
 use Rattle.cal_run.specs.Lines.{is_process_line}
 use Rattle.cal_script.specs.declared.journal.Journal.{Journal}
-use Rattle.cal_script.specs.declared.journal.Placed.{Placed}
 use Rattle.cal_script.specs.declared.script.Line as lines
 use Rattle.cal_script.specs.declared.script.Line.TheVariants as line
 use Rattle.cal_script.specs.declared.script.Script.{Script}

@@ -11,7 +11,7 @@ use Rattle.cal_world.proofs.JournalLemmas.{all-turns, ends-are, has-row, lists-a
 use Rattle.cal_world.proofs.JournalLemmas.{no-row, starts-are}
 use Rattle.cal_world.proofs.OrderLemmas.{LinesRun, all_of, by_key, counts_below}
 use Rattle.cal_world.proofs.OrderLemmas.{keys-run, seen-by_key}
-use Rattle.cal_world.specs.Progress.{IsWholeRun, Progress, at_end, at_start}
+use Rattle.cal_world.specs.Progress.{IsWholeRun, at_end, at_start}
 use Rattle.cal_world.specs.Schedule.{schedule_of}
 use Rattle.cal_world.specs.Turns.{turns, turns_by_seen, turns_by_thread, turns_in_order}
 use Rattle.cal_world.specs.declared.turn.Turn.{Turn}

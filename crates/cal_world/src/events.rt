@@ -1,5 +1,5 @@
 //! The events of a line.
-ghost use Rattle.std.specs.Prelude.{◌≡◌, ◌++◌, OnOk, slice_get, slice_range, flat_map};
+ghost use Rattle.std.specs.Prelude.{◌≡◌, ◌++◌, OnOk, length, slice_get, slice_range, flat_map};
 ghost use Rattle.cal_world.specs.Events.{end_event, events_of, first_events, node_if, nodes_at};
 ghost use Rattle.cal_world.specs.Events.{placed_nodes, seen_before};
 
@@ -63,8 +63,19 @@ fn push_first(script: &Script, turn: Turn, events: &mut Seq<Event>) -> Result<()
     }
 }
 
-/// How much of the history a line takes in.
-fn seen_before(script: &Script, turn: Turn) -> u64
+/// How many events of a line come before its nodes.
+pub fn first_count(script: &Script, turn: Turn) -> u64
+    ensures { result ≡ length (first_events script.now turn) }
+{
+    if is_process_line(script, turn.line) || is_looking(script, turn.line, turn.note) {
+        1
+    } else {
+        0
+    }
+}
+
+/// How much of the history a line takes in: all that it has seen, but for its own operation.
+pub fn seen_before(script: &Script, turn: Turn) -> u64
     ensures { result ≡ seen_before script.now turn }
 {
     if is_process_line(script, turn.line) {

@@ -15,6 +15,8 @@ mod sorting;
 mod turn;
 
 pub use event::Event;
+pub use events::{first_count, seen_before};
 pub use laws::{history_law, replies_law, schedule_law};
+pub use needs::placed_node;
 pub use scheduling::schedule;
 pub use turn::Turn;

@@ -15,8 +15,9 @@ pub(crate) fn is_looking(script: &Script, line: Line, note: LineNote) -> bool
     is_taken(script, line, is_accepted(Some(note.reply))) && !is_process_line(script, line)
 }
 
-/// Whether the operation of a place of the history needs a node.
-pub(crate) fn placed_node(script: &Script, journal: &Journal, placed: Placed) -> bool
+/// Whether the operation that the journal has at a place of the history needs a node, by the reply
+/// to its line.
+pub fn placed_node(script: &Script, journal: &Journal, placed: Placed) -> bool
     ensures { result ≡ placed_node script.now journal.now placed }
 {
     match line_at(script, placed) {

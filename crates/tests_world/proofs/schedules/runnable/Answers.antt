@@ -1,5 +1,0 @@
-use Rattle.tests_world.proofs.schedules.runnable.Goals as goal
-
-pub returns : goal.returns
-returns c =
-    c.valid_script_law.ensures c.in_ok-script.script (c.args.text.now, c.in_ok-script.ensures)
