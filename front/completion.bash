@@ -45,24 +45,26 @@ _caliper() {
     [ "$before" = = ] && option=${COMP_WORDS[COMP_CWORD - 2]}
     COMPREPLY=()
     if [ "$COMP_CWORD" -eq 1 ]; then
-        _cali_words 'serial replay journal query gen --help --version' "$at"
+        _cali_words 'serial replay journal query watch gen --help --version' "$at"
         return
     fi
     case $option in
     '<')
         local ending=script
-        [ "${COMP_WORDS[1]}" = query ] && ending=cali
+        [[ ${COMP_WORDS[1]} = query || ${COMP_WORDS[1]} = watch ]] && ending=cali
         _cali_files "$ending" "$at"
         return
         ;;
     --clock) _cali_words 'script real' "$at"; return ;;
     --globals) _cali_words 'off join' "$at"; return ;;
     --print) _cali_words 'script summary' "$at"; return ;;
+    --trigger) _cali_words 'main slow' "$at"; return ;;
     --q | --seed | --threads | --lines) return ;;
     esac
     case ${COMP_WORDS[1]} in
     replay | journal) _cali_words '--clock=script --clock=real' "$at" ;;
     query) _cali_words '--q= --globals=off --globals=join' "$at" ;;
+    watch) _cali_words '--q= --trigger=main --trigger=slow' "$at" ;;
     gen) _cali_words '--seed= --threads= --lines= --print=script --print=summary' "$at" ;;
     esac
     [[ ${COMPREPLY[0]} != *= ]] || compopt -o nospace 2>/dev/null

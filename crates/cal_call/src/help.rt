@@ -20,6 +20,9 @@ usage: caliper COMMAND < INPUT > OUTPUT
     query [--q=TEXT] [--globals=off|join]
                 reads a .cali stream, and writes the answer of the query TEXT over its rows, a line
                 for each; with join the globals stand at the end of each row that the query sees
+    watch --trigger=main|slow [--q=TEXT]
+                the same over those rows that a stored trigger lets through: main those with
+                function=main, slow those with time.duration.ns>=1000, as they were read
     gen --seed=N --threads=N --lines=N [--print=script|summary]
                 writes the script of a seed, with so many threads of so many lines, to try a program
                 on, or with summary how large its run is; it reads no input. At most 64 threads and

@@ -33,14 +33,16 @@ mod used;
 mod words;
 mod words_end;
 
+pub use asking::asked_query;
 pub use command_line::serve;
 pub use commands::{INPUT_LIMIT, run};
 pub use fault::{Fault, InputKind};
 pub use help::{HELP, VERSION, about};
 pub use laws::written_journal_law;
-pub use outcome::Outcome;
+pub use outcome::{Ended, Outcome, end};
 pub use report::put_fault;
 pub use running::run_text;
+pub use showing::show;
 pub use used::UsedJournal;
-pub use words::{Command, Print, RunText, read_words};
+pub use words::{Command, Print, RunText, q_text, read_words};
 pub use words_end::WordsEnd;

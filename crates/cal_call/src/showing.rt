@@ -7,7 +7,7 @@ use crate::Fault;
 use cal_base::Sink;
 
 /// Puts a text on the output.
-pub(crate) fn show<W: Sink>(text: &str, output: &mut W) -> Result<(), Fault>
+pub fn show<W: Sink>(text: &str, output: &mut W) -> Result<(), Fault>
     ensures { Shows text.now (change_of W.written W.faults output.old output.new)
         (result_err result) }
 {

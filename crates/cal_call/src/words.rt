@@ -63,7 +63,7 @@ pub struct Options {
 }
 
 /// The text of a word `--q=TEXT`.
-fn q_text(word: &str) -> Option<&str>
+pub fn q_text(word: &str) -> Option<&str>
     ensures { option_copied result ≡ q_text word.now }
 {
     word.strip_prefix("--q=")

@@ -1,10 +1,13 @@
 -- What a query sees of what was read, and the layout of its answer.
 use Rattle.std.proofs.Common.{◌≡◌, ℕ, Bool, true, false, List, [], map, subst}
+use Rattle.std.specs.Prelude.{filter}
 use Rattle.cal_base.specs.Change.{Change}
 use Rattle.cal_base.specs.ReadEnds.{ReadsAll}
 use Rattle.cal_context.specs.Snapshots.{meaning}
 use Rattle.cal_context.specs.Taking.{TakesMore}
 use Rattle.cal_context.specs.Tree.{Tree}
+use Rattle.cal_filter.specs.Conditions.{where_holds}
+use Rattle.cal_ql.specs.declared.query.Cond.{Cond}
 use Rattle.cal_ql.specs.declared.query.Query.{Query}
 use Rattle.cal_value.specs.Flat.{flat}
 use Rattle.cal_value.specs.declared.record.Rec.{Rec}
@@ -12,7 +15,7 @@ use Rattle.cal_value.specs.declared.record.Records.{Records}
 use Rattle.cal_read.specs.Stream.{IsStream, IsStreamOf, Stream}
 use Rattle.cal_query.specs.Joining.{rows_seen, with_entries}
 use Rattle.cal_query.specs.Keeping.{HasKept}
-use Rattle.cal_query.specs.Layout.{LaysOut, answer_text}
+use Rattle.cal_query.specs.Layout.{LaysOut, LaysOutWhere, answer_text}
 use Rattle.cal_query.specs.Seeing.{HasSeen, SeesRows}
 use Rattle.cal_query.specs.Streaming.{HasFinished}
 use Rattle.cal_query.specs.declared.joining.Kept.{Kept}
@@ -81,3 +84,19 @@ module _ (join : Bool) (limit : ℕ) (input : Change) where
       is = then (rows_seen join sees.records) sees.is;
     };
   }
+
+-- and so is what is printed of the rows of which conditions hold
+pub lays_out_where : (conditions : List Cond) (limit : ℕ) (input : Change) (query : Query)
+    (text : List ℕ) (P : List Rec → Type 0)
+    → ((rows : List Rec) → P rows
+    → text ≡ answer_text query (filter (where_holds conditions) rows))
+    → SeesRows false limit input P → LaysOutWhere conditions query limit input text
+lays_out_where conditions limit input query text P then sees = record {
+  bytes = sees.bytes;
+  reads = sees.reads;
+  layout = record {
+    records = sees.records;
+    stream = sees.stream;
+    is = then sees.records.rows sees.is;
+  };
+}

@@ -1,12 +1,14 @@
 -- What is laid out of an input, or why it isn't (ours).
-use Rattle.std.specs.Prelude.{◌≡◌, ℕ, Bool, List}
+use Rattle.std.specs.Prelude.{◌≡◌, ℕ, Bool, List, filter}
 use Rattle.cal_base.specs.Change.{Change}
 use Rattle.cal_base.specs.ReadEnds.{ReadsAll, StopsAt}
 use Rattle.cal_base.specs.declared.reading.ReadEnd.TheVariants as read_end
 use Rattle.cal_engine.specs.Answers.{answer_of}
+use Rattle.cal_filter.specs.Conditions.{where_holds}
 use Rattle.cal_jsonfmt.specs.Json.{json}
 use Rattle.cal_ql.specs.declared.names.Format as formats
 use Rattle.cal_ql.specs.declared.names.Format.TheVariants as format
+use Rattle.cal_ql.specs.declared.query.Cond.{Cond}
 use Rattle.cal_ql.specs.declared.query.Query.{Query}
 use Rattle.cal_read.specs.Stream.{IsFault, IsStreamOf}
 use Rattle.cal_read.specs.declared.kind.StreamKind.{StreamKind}
@@ -43,6 +45,21 @@ pub record LaysOut (query : Query) (join : Bool) (limit : ℕ) (input : Change) 
   pub bytes : List ℕ
   pub reads : ReadsAll limit input bytes
   pub layout : IsLayout query join bytes text
+
+-- the bytes are a stream, and this is what a query prints of those of its rows of which conditions
+-- hold, as they were read
+pub record IsLayoutWhere (conditions : List Cond) (query : Query) (bytes text : List ℕ)
+    : Type 0 where
+  pub records : Records
+  pub stream : IsStreamOf bytes records
+  pub is : text ≡ answer_text query (filter (where_holds conditions) records.rows)
+
+-- the same of what an input had left
+pub record LaysOutWhere (conditions : List Cond) (query : Query) (limit : ℕ) (input : Change)
+    (text : List ℕ) : Type 0 where
+  pub bytes : List ℕ
+  pub reads : ReadsAll limit input bytes
+  pub layout : IsLayoutWhere conditions query bytes text
 
 -- what an input had left goes wrong first at this line
 pub record Falls (limit : ℕ) (input : Change) (line : ℕ) (kind : StreamKind) : Type 0 where

@@ -3,6 +3,7 @@ pub mod Plain
 pub mod Joining
 pub mod Seeing
 pub mod Keeping
+pub mod Guarding
 pub mod Pieces
 pub mod Streaming
 pub mod Ends

@@ -52,7 +52,11 @@ pub fn query_text<S: Source>(
 }
 
 /// The layout of an answer that was found.
-fn lay_out_found(alloc: Global, format: Format, answer: &SnapshotRowset) -> Result<Text, RowsEnd>
+pub(crate) fn lay_out_found(
+    alloc: Global,
+    format: Format,
+    answer: &SnapshotRowset,
+) -> Result<Text, RowsEnd>
     ensures text { IfOk result (λ text. text ≡ layout format (rowset_of answer.now)) }
     ensures refused { IfErr result (λ end. end ≡ ends.OutOfMemory) }
 {
@@ -60,7 +64,7 @@ fn lay_out_found(alloc: Global, format: Format, answer: &SnapshotRowset) -> Resu
 }
 
 /// Whether a query has no clause but FORMAT expand.
-fn is_plain(query: &Query) -> bool
+pub(crate) fn is_plain(query: &Query) -> bool
     ensures { result ≡ is_plain query.now }
 {
     query.lets.is_empty()

@@ -33,7 +33,7 @@ module _ (c : Cond) (plain : c.not ≡ false) (r : Rec) where
   some = list_any (test_holds c.test) (entries_named c.name r)
 
   -- one condition holds where some entry has its name and passes its test
-  one_holds : list_any (speaks_of c) (flat r) ≡ where_holds (c ∷ []) r
+  pub one_holds : list_any (speaks_of c) (flat r) ≡ where_holds (c ∷ []) r
   one_holds =
       some_filtered (is_named c.name) (test_holds c.test) (flat r)
       ∙ and_true some

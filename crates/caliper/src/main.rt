@@ -1,22 +1,26 @@
-//! The program `caliper`: it lends its runtime, its words, its clocks, its probes and its standard
-//! streams to `serve`.
+//! The program `caliper`: it lends its runtime, its words, its clocks, its probes, its triggers and
+//! its standard streams to the top call that the first word picks.
 //!
-//! What is promised of a run stands in `cal_call`, which is handed on here. What standard input
-//! holds, where standard output leads and what the machine's clock shows, no contract can say.
+//! What is promised of a run stands in `cal_call` and `cal_call_watch`, which are handed on here.
+//! What standard input holds, where standard output leads and what the machine's clock shows, no
+//! contract can say.
 #![tactic(auto)]
 
 mod clocks;
 mod probes;
+mod watching;
 mod words;
 
 use crate::clocks::clocks_of;
 use crate::probes::{count_of, depth_of};
+use crate::watching::watch;
 use crate::words::words_of;
 use cal_base::{OpenGate, Sink, StdSink, StdSource};
 pub use cal_call::{
     Command, Fault, INPUT_LIMIT, InputKind, Outcome, Print, RunText, UsedJournal, WordsEnd, about,
     put_fault, read_words, run, run_text, serve, written_journal_law,
 };
+pub use cal_call_watch::{TriggerName, WatchCommand, asks_to_watch, read_watch_words, run_watch};
 use cal_probe::{Probe, ProbeKind, Probes};
 use std::hash::RandomState;
 use std::process::ExitCode;
@@ -26,6 +30,13 @@ fn main(rt: HostRuntime) -> ExitCode {
     let mut input = StdSource::new(rt.stdin());
     let mut output = StdSink::new(rt.stdout());
     let mut errors = StdSink::new(rt.stderr());
+    let words = words_of(&rt);
+    if let Ok(words) = &words
+        && asks_to_watch(words.as_slice())
+    {
+        let words = words.as_slice();
+        return watch(rt.alloc(), words, &mut input, &mut output, &mut errors);
+    }
     let Ok(hashers) = RandomState::new(&rt) else {
         return out_of_memory(&mut errors);
     };
@@ -38,7 +49,7 @@ fn main(rt: HostRuntime) -> ExitCode {
         &rt,
         rt.alloc(),
         hashers,
-        words_of(&rt),
+        words,
         &mut input,
         &mut output,
         &mut errors,

@@ -9,7 +9,7 @@ use crate::worlds::is_world_of;
 use cal_base::{MemClock, OpenGate};
 use cal_run::Formulas;
 use cal_script::Script;
-use cal_value::{OutOfMemory, Seq};
+use cal_value::{OutOfMemory, Seq, Text};
 use cal_whole::{Ran, replay};
 use std::alloc::Global;
 use std::hash::RandomState;
@@ -102,13 +102,24 @@ fn runs_end_alike<R: Threads + Sync>(
     Ok(alike)
 }
 
+/// The same of four threads, ten times.
+fn four_end_alike<R: Threads + Sync>(
+    rt: &R,
+    alloc: Global,
+    hashers: RandomState,
+    text: Text,
+) -> Result<bool, Fail> {
+    let alike = runs_end_alike(rt, alloc, hashers, text.as_str(), 4, 10);
+    drop(text);
+    alike
+}
+
 #[test]
 fn four_threads_with_one_profile_and_their_world_end_alike(rt: HostRuntime) -> Result<(), Fail> {
     let hashers = RandomState::new(&rt)?;
     let text = profile_of(rt.alloc(), 4)?;
-    let alike = runs_end_alike(&rt, rt.alloc(), hashers, text.as_str(), 4, 10);
-    drop(text);
-    assert!(rt; alike.unwrap_or(false));
+    let alike = four_end_alike(&rt, rt.alloc(), hashers, text)?;
+    assert!(rt; alike);
     Ok(())
 }
 
@@ -116,8 +127,7 @@ fn four_threads_with_one_profile_and_their_world_end_alike(rt: HostRuntime) -> R
 fn four_threads_that_share_phases_and_their_world_end_alike(rt: HostRuntime) -> Result<(), Fail> {
     let hashers = RandomState::new(&rt)?;
     let text = phases_of(rt.alloc(), 4)?;
-    let alike = runs_end_alike(&rt, rt.alloc(), hashers, text.as_str(), 4, 10);
-    drop(text);
-    assert!(rt; alike.unwrap_or(false));
+    let alike = four_end_alike(&rt, rt.alloc(), hashers, text)?;
+    assert!(rt; alike);
     Ok(())
 }
