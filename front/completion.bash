@@ -45,13 +45,14 @@ _caliper() {
     [ "$before" = = ] && option=${COMP_WORDS[COMP_CWORD - 2]}
     COMPREPLY=()
     if [ "$COMP_CWORD" -eq 1 ]; then
-        _cali_words 'serial replay journal query watch gen --help --version' "$at"
+        _cali_words 'serial replay journal query watch names gen --help --version' "$at"
         return
     fi
     case $option in
     '<')
         local ending=script
         [[ ${COMP_WORDS[1]} = query || ${COMP_WORDS[1]} = watch ]] && ending=cali
+        [[ ${COMP_WORDS[1]} = names ]] && ending=names
         _cali_files "$ending" "$at"
         return
         ;;

@@ -190,7 +190,7 @@ module _ (law : IsOneRule) (task : Task) (bytes : List ℕ) (output : Change) wh
     }
 
 -- what was taken beyond the limit was left before
-left_over : (limit : ℕ) (old new : Option (List ℕ)) → TakesOver limit old new
+pub left_over : (limit : ℕ) (old new : Option (List ℕ)) → TakesOver limit old new
     → IfSome old (λ left. limit < length left)
 left_over limit None new taken = tt
 left_over limit (Some old) None taken = absurd taken.2
@@ -198,7 +198,7 @@ left_over limit (Some old) (Some new) taken =
     omega (arith, taken.1, ap length taken.2, length-append taken.0 new)
 
 -- what holds of the bytes that were read holds of those that were left
-of_the_left : (input : Change) (P Q : List ℕ → Type 0) → ReadsInput input P
+pub of_the_left : (input : Change) (P Q : List ℕ → Type 0) → ReadsInput input P
     → ((bytes : List ℕ) → length bytes ≤ input_limit → P bytes → Q bytes) → IfSome input.old Q
 of_the_left input P Q reads then =
     IfSome_then input.old (ReadsAll-left input_limit input reads.0 reads.1) (λ left same.

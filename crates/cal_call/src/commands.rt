@@ -17,6 +17,7 @@ use crate::{Command, Fault, Outcome, RunText, read_words};
 use cal_base::{Clock, Gate, Sink, Source};
 use cal_lawful::first_broken_law;
 use cal_run::Prober;
+use cal_seeds::Seeds;
 use std::alloc::Global;
 use std::hash::RandomState;
 use std::thread::Threads;
@@ -32,9 +33,9 @@ pub const INPUT_LIMIT: u64 = 268_435_456;
 /// input and the text, and for each channel in the lines of a script.
 ///
 /// `rt` runs the threads of `replay` and `journal`, and joins the two calls that a summary is made
-/// of. The tables of such a run hash by `hashers`, its channels' probes are answered by `probes`,
-/// each line passes the `gate`, and thread t reads the clock at the place t of `clocks`, where the
-/// words ask for a real one. Behind want of memory some of the clocks may be lost.
+/// of. The probes of such a run's channels are answered by `probes`, each line passes the `gate`, and
+/// thread t reads the clock at the place t of `clocks`, where the words ask for a real one. Behind
+/// want of memory some of the clocks may be lost. What the input chooses is hashed by `hashers`.
 pub fn run<
     R: Threads + Sync,
     S: Source,
@@ -114,8 +115,9 @@ fn carry_out<
     ensures asked { AskedClocks K.given (tasked words.now) result.journal result.fault
         clocks.old.items clocks.new.items }
 {
+    let seeds = Seeds::of(&hashers);
     let fault = match read_words(words) {
-        Ok(Command::Serial) => return serial(alloc, input, output),
+        Ok(Command::Serial) => return serial(alloc, seeds, input, output),
         Ok(Command::Replay { real }) => {
             let shown = RunText::Records;
             return replay(
@@ -128,7 +130,7 @@ fn carry_out<
                 rt, alloc, hashers, shown, real, input, output, clocks, gate, probes,
             );
         }
-        Ok(Command::Query { q, join }) => query(alloc, words, q, join, input, output).err(),
+        Ok(Command::Query { q, join }) => query(alloc, seeds, words, q, join, input, output).err(),
         Ok(
             Command::Gen {
                 seed,
@@ -136,7 +138,7 @@ fn carry_out<
                 lines,
                 print,
             },
-        ) => write_generated(rt, alloc, seed, threads, lines, print, input, output).err(),
+        ) => write_generated(rt, alloc, seeds, seed, threads, lines, print, input, output).err(),
         Err(word) => Some(Fault::Usage { word }),
     };
     Ended::without_journal(alloc, fault)

@@ -14,6 +14,7 @@ use crate::summarizing::summary_lines;
 use crate::{Fault, Print};
 use cal_base::{Sink, Source};
 use cal_gen::generate;
+use cal_seeds::Seeds;
 use cal_value::{OutOfMemory, Text};
 use std::alloc::Global;
 use std::thread::Threads;
@@ -23,6 +24,7 @@ use std::thread::Threads;
 pub fn write_generated<R: Threads + Sync, S: Source, W: Sink>(
     rt: &R,
     alloc: Global,
+    seeds: Seeds,
     seed: u32,
     threads: u32,
     lines: u32,
@@ -39,7 +41,7 @@ pub fn write_generated<R: Threads + Sync, S: Source, W: Sink>(
     ensures output { writes (result_err result) ≡ false → output.new ≡ output.old }
 {
     let _ = input;
-    let Ok(text) = printed(rt, alloc, seed, threads, lines, print) else {
+    let Ok(text) = printed(rt, alloc, seeds, seed, threads, lines, print) else {
         return Err(Fault::OutOfMemory);
     };
     show(text.as_str(), output)
@@ -49,6 +51,7 @@ pub fn write_generated<R: Threads + Sync, S: Source, W: Sink>(
 fn printed<R: Threads + Sync>(
     rt: &R,
     alloc: Global,
+    seeds: Seeds,
     seed: u32,
     threads: u32,
     lines: u32,
@@ -60,6 +63,6 @@ fn printed<R: Threads + Sync>(
 {
     match print {
         Print::Script => generate(alloc, seed, threads, lines),
-        Print::Summary => summary_lines(rt, alloc, seed, threads, lines),
+        Print::Summary => summary_lines(rt, alloc, seeds, seed, threads, lines),
     }
 }

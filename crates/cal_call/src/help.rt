@@ -23,6 +23,8 @@ usage: caliper COMMAND < INPUT > OUTPUT
     watch --trigger=main|slow [--q=TEXT]
                 the same over those rows that a stored trigger lets through: main those with
                 function=main, slow those with time.duration.ns>=1000, as they were read
+    names       reads what threads declare, has a thread for each declare its names, and writes
+                what stands for each name, in byte order: the first declaration of it that came
     gen --seed=N --threads=N --lines=N [--print=script|summary]
                 writes the script of a seed, with so many threads of so many lines, to try a program
                 on, or with summary how large its run is; it reads no input. At most 64 threads and

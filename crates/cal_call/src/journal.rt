@@ -18,6 +18,7 @@ use crate::{Fault, InputKind, UsedJournal};
 use cal_lawful::{CoreEnd, check_journal};
 use cal_run::{lawful_journal_law, plain_journal, plain_journal_law};
 use cal_script::{Journal, JournalText, Script};
+use cal_seeds::Seeds;
 use cal_value::{OutOfMemory, Text};
 use std::alloc::Global;
 
@@ -30,7 +31,12 @@ struct Written {
 
 /// Makes a run by the journal that it uses: the one behind its script, which is to be lawful, or
 /// else that of the threads one after another.
-pub fn make_run(alloc: Global, script: Script, behind: Option<JournalText>) -> Result<Made, Fault>
+pub fn make_run(
+    alloc: Global,
+    seeds: Seeds,
+    script: Script,
+    behind: Option<JournalText>,
+) -> Result<Made, Fault>
     requires { IsRunnable script }
     ensures used { IfOk result (λ made. Uses script behind made.journal) }
     ensures text { IfOk result (λ made. made.text
@@ -39,13 +45,13 @@ pub fn make_run(alloc: Global, script: Script, behind: Option<JournalText>) -> R
     ensures fault { IfErr result (λ fault. CannotUse script behind fault) }
 {
     match behind {
-        None => plain_one(alloc, script),
-        Some(text) => lawful_one(alloc, script, text),
+        None => plain_one(alloc, seeds, script),
+        Some(text) => lawful_one(alloc, seeds, script, text),
     }
 }
 
 /// Makes the run of the threads one after another. No note is kept of a line.
-fn plain_one(alloc: Global, script: Script) -> Result<Made, Fault>
+fn plain_one(alloc: Global, seeds: Seeds, script: Script) -> Result<Made, Fault>
     requires { IsRunnable script }
     ensures used { IfOk result (λ made. Uses script None made.journal) }
     ensures text { IfOk result (λ made. made.text
@@ -53,7 +59,7 @@ fn plain_one(alloc: Global, script: Script) -> Result<Made, Fault>
     ensures refused { IfOk result (λ made. made.refused ≡ refused_lines made.journal) }
     ensures fault { IfErr result (λ fault. CannotUse script None fault) }
 {
-    match plain_written(alloc, &script) {
+    match plain_written(alloc, seeds, &script) {
         Ok(written) => Ok(Made {
             text: written.text,
             journal: UsedJournal::plain(script),
@@ -64,11 +70,11 @@ fn plain_one(alloc: Global, script: Script) -> Result<Made, Fault>
 }
 
 /// Writes the run of the threads one after another.
-fn plain_written(alloc: Global, script: &Script) -> Result<Written, OutOfMemory>
+fn plain_written(alloc: Global, seeds: Seeds, script: &Script) -> Result<Written, OutOfMemory>
     requires { IsRunnable script.now }
     ensures { IfOk result (IsWritten script.now (plain script.now)) }
 {
-    let (text, counted) = plain_text(alloc, script)?;
+    let (text, counted) = plain_text(alloc, seeds, script)?;
     let refused = refused_of_plain(alloc, script, counted)?;
     Ok(Written { text, refused })
 }
@@ -95,7 +101,7 @@ fn refused_of_plain(
 }
 
 /// Makes the run by a journal behind its script, if it is lawful.
-fn lawful_one(alloc: Global, script: Script, text: JournalText) -> Result<Made, Fault>
+fn lawful_one(alloc: Global, seeds: Seeds, script: Script, text: JournalText) -> Result<Made, Fault>
     requires { IsRunnable script }
     ensures used { IfOk result (λ made. Uses script (Some text) made.journal) }
     ensures text { IfOk result (λ made. made.text
@@ -103,7 +109,7 @@ fn lawful_one(alloc: Global, script: Script, text: JournalText) -> Result<Made, 
     ensures refused { IfOk result (λ made. made.refused ≡ refused_lines made.journal) }
     ensures fault { IfErr result (λ fault. CannotUse script (Some text) fault) }
 {
-    let written = lawful_written(alloc, &script, &text);
+    let written = lawful_written(alloc, seeds, &script, &text);
     drop(script);
     match written {
         Ok(written) => Ok(Made {
@@ -116,15 +122,20 @@ fn lawful_one(alloc: Global, script: Script, text: JournalText) -> Result<Made, 
 }
 
 /// Writes the run by a journal behind its script, if it is lawful.
-fn lawful_written(alloc: Global, script: &Script, text: &JournalText) -> Result<Written, Fault>
+fn lawful_written(
+    alloc: Global,
+    seeds: Seeds,
+    script: &Script,
+    text: &JournalText,
+) -> Result<Written, Fault>
     requires { IsRunnable script.now }
     ensures lawful { IfOk result (λ written. IsLawfulText script.now text.now) }
     ensures written { IfOk result (IsWritten script.now text.now.journal) }
     ensures fault { IfErr result (λ fault. CannotUse script.now (Some text.now) fault) }
 {
     lawful_journal_law();
-    match check_journal(alloc, script, text) {
-        Ok(()) => match given_written(alloc, script, &text.journal) {
+    match check_journal(alloc, seeds, script, text) {
+        Ok(()) => match given_written(alloc, seeds, script, &text.journal) {
             Ok(written) => Ok(written),
             Err(OutOfMemory) => Err(Fault::OutOfMemory),
         },
@@ -137,12 +148,17 @@ fn lawful_written(alloc: Global, script: &Script, text: &JournalText) -> Result<
 }
 
 /// Writes the run by a journal by which it can be read.
-fn given_written(alloc: Global, script: &Script, journal: &Journal) -> Result<Written, OutOfMemory>
+fn given_written(
+    alloc: Global,
+    seeds: Seeds,
+    script: &Script,
+    journal: &Journal,
+) -> Result<Written, OutOfMemory>
     requires runnable { IsRunnable script.now }
     requires read { CanBeRead script.now journal.now }
     ensures { IfOk result (IsWritten script.now journal.now) }
 {
-    let text = run_text(alloc, script, journal)?;
+    let text = run_text(alloc, seeds, script, journal)?;
     Ok(Written {
         text,
         refused: count_refused(journal),

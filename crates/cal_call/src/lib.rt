@@ -42,6 +42,7 @@ pub use laws::written_journal_law;
 pub use outcome::{Ended, Outcome, end};
 pub use report::put_fault;
 pub use running::run_text;
+pub use serial::give_back;
 pub use showing::show;
 pub use used::UsedJournal;
 pub use words::{Command, Print, RunText, q_text, read_words};

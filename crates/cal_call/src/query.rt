@@ -15,12 +15,14 @@ use crate::{Command, Fault, INPUT_LIMIT, InputKind};
 use cal_base::{Sink, Source};
 use cal_ql::Query;
 use cal_query::{RowsEnd, query_text};
+use cal_seeds::Seeds;
 use cal_value::Text;
 use std::alloc::Global;
 
 /// Reads the text of a query, then a stream, and writes the layout of the answer.
 pub fn query<S: Source, W: Sink>(
     alloc: Global,
+    seeds: Seeds,
     words: &[String],
     q: Option<u32>,
     join: bool,
@@ -34,7 +36,7 @@ pub fn query<S: Source, W: Sink>(
     ensures output { writes (result_err result) ≡ false → output.new ≡ output.old }
 {
     match asked_query(alloc, words, q) {
-        Ok(query) => answer(alloc, &query, join, input, output),
+        Ok(query) => answer(alloc, seeds, &query, join, input, output),
         Err(fault) => Err(fault),
     }
 }
@@ -42,6 +44,7 @@ pub fn query<S: Source, W: Sink>(
 /// Writes the layout of a query's answer over the stream that the input has left.
 fn answer<S: Source, W: Sink>(
     alloc: Global,
+    seeds: Seeds,
     query: &Query,
     join: bool,
     input: &mut S,
@@ -53,12 +56,18 @@ fn answer<S: Source, W: Sink>(
         (change_of W.written W.faults output.old output.new) no_journal (result_err result) }
     ensures output { writes (result_err result) ≡ false → output.new ≡ output.old }
 {
-    let text = layout(alloc, query, join, input)?;
+    let text = layout(alloc, seeds, query, join, input)?;
     show(text.as_str(), output)
 }
 
 /// The layout of a query's answer over the stream that the input has left.
-fn layout<S: Source>(alloc: Global, query: &Query, join: bool, input: &mut S) -> Result<Text, Fault>
+fn layout<S: Source>(
+    alloc: Global,
+    seeds: Seeds,
+    query: &Query,
+    join: bool,
+    input: &mut S,
+) -> Result<Text, Fault>
     requires { IsValidQuery query.now }
     ensures read { IfOk result (λ text. ReadsInput
         (change_of S.left S.faults input.old input.new)
@@ -69,7 +78,7 @@ fn layout<S: Source>(alloc: Global, query: &Query, join: bool, input: &mut S) ->
         → Causes (QueryTask query.now join)
         (change_of S.left S.faults input.old input.new) output no_journal fault) }
 {
-    match query_text(alloc, input, INPUT_LIMIT, join, query) {
+    match query_text(alloc, seeds, input, INPUT_LIMIT, join, query) {
         Ok(text) => Ok(text),
         Err(RowsEnd::BadLine { line, kind }) => Err(Fault::BadInput {
             line,

@@ -14,18 +14,25 @@ use cal_context::{Context, Snapshot};
 use cal_records::{put_globals, take_plain_run, take_run};
 use cal_run::Numbers;
 use cal_script::{Journal, Script};
+use cal_seeds::Seeds;
 use cal_value::{OutOfMemory, Text};
 use cal_write::Writer;
 use std::alloc::Global;
 
 /// The `.cali` text of the records of a run. It takes time in the lines of the script for each
-/// channel, in the groups and in the length of the text, however deep the open values are.
-pub fn run_text(alloc: Global, script: &Script, journal: &Journal) -> Result<Text, OutOfMemory>
+/// channel, in the groups and in the length of the text, however deep the open values are. What the
+/// script chooses is hashed by the seeds.
+pub fn run_text(
+    alloc: Global,
+    seeds: Seeds,
+    script: &Script,
+    journal: &Journal,
+) -> Result<Text, OutOfMemory>
     requires runnable { IsRunnable script.now }
     requires read { CanBeRead script.now journal.now }
     ensures { IfOk result (λ text. text ≡ canonical_text (records_of script.now journal.now)) }
 {
-    let mut context = Context::new(alloc);
+    let mut context = Context::seeded(alloc, seeds);
     run_text_in(alloc, script, journal, &mut context)
 }
 
@@ -74,13 +81,17 @@ fn write_run(
 
 /// The `.cali` text of the records of the run of the threads one after another, and how many lines
 /// were refused, where some channel was run. Nothing is kept of a line.
-pub(crate) fn plain_text(alloc: Global, script: &Script) -> Result<(Text, Option<u64>), OutOfMemory>
+pub(crate) fn plain_text(
+    alloc: Global,
+    seeds: Seeds,
+    script: &Script,
+) -> Result<(Text, Option<u64>), OutOfMemory>
     requires runnable { IsRunnable script.now }
     ensures text { IfOk result (λ made. made.0
         ≡ canonical_text (records_of script.now (plain script.now))) }
     ensures refused { IfOk result (λ made. CountsRefused script.now made.1) }
 {
-    let mut context = Context::new(alloc);
+    let mut context = Context::seeded(alloc, seeds);
     plain_text_in(alloc, script, &mut context)
 }
 

@@ -16,17 +16,23 @@ use crate::{Fault, INPUT_LIMIT, InputKind};
 use cal_base::{ReadEnd, Sink, Source, read_all};
 use cal_journal::{BothEnd, read_both};
 use cal_script::{JournalText, Script};
+use cal_seeds::Seeds;
 use cal_valid::valid_script_law;
 use std::alloc::Global;
 
 /// Reads a script and a journal behind it, or none, and writes the text of the run.
-pub fn serial<S: Source, W: Sink>(alloc: Global, input: &mut S, output: &mut W) -> Ended
+pub fn serial<S: Source, W: Sink>(
+    alloc: Global,
+    seeds: Seeds,
+    input: &mut S,
+    output: &mut W,
+) -> Ended
     ensures answers { Answers (Ok SerialTask) (change_of S.left S.faults input.old input.new)
         (change_of W.written W.faults output.old output.new) result.journal result.fault }
     ensures output { writes result.fault ≡ false → output.new ≡ output.old }
     ensures journal { writes result.fault ≡ false → result.journal ≡ no_journal }
 {
-    match made_run(alloc, input) {
+    match made_run(alloc, seeds, input) {
         Ok(made) => {
             let fault = write_made(&made, output);
             Ended {
@@ -39,7 +45,7 @@ pub fn serial<S: Source, W: Sink>(alloc: Global, input: &mut S, output: &mut W) 
 }
 
 /// The run of the script that the input has left, with the journal behind it, if there is one.
-fn made_run<S: Source>(alloc: Global, input: &mut S) -> Result<Made, Fault>
+fn made_run<S: Source>(alloc: Global, seeds: Seeds, input: &mut S) -> Result<Made, Fault>
     ensures read { IfOk result (λ made. ReadsInput (change_of S.left S.faults input.old input.new)
         (λ bytes. Makes SerialTask bytes made.text made.journal)) }
     ensures refused { IfOk result (λ made. made.refused ≡ refused_lines made.journal) }
@@ -49,7 +55,7 @@ fn made_run<S: Source>(alloc: Global, input: &mut S) -> Result<Made, Fault>
         (change_of S.left S.faults input.old input.new) output no_journal fault) }
 {
     let (script, behind) = read_input(alloc, input)?;
-    let made = make_run(alloc, script, behind)?;
+    let made = make_run(alloc, seeds, script, behind)?;
     Ok(made)
 }
 
@@ -105,7 +111,7 @@ fn read_bytes(alloc: Global, bytes: &[u8]) -> Result<(Script, Option<JournalText
 
 /// Drops the input, shrunk first: where a big block is freed at once, glibc takes later ones from
 /// its heap, in which each that outgrows its place leaves a hole.
-pub(crate) fn give_back(mut bytes: Vec<u8>) {
+pub fn give_back(mut bytes: Vec<u8>) {
     bytes.truncate(1);
     bytes.shrink_to_fit();
 }

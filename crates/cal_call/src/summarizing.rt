@@ -9,6 +9,7 @@ ghost use Rattle.cal_call.specs.declared.words.Print.TheVariants as print;
 
 use cal_gen::generate_script;
 use cal_script::Script;
+use cal_seeds::Seeds;
 use cal_summary::{summarize, summary_text};
 use cal_valid::valid_script_law;
 use cal_value::{OutOfMemory, Text};
@@ -20,6 +21,7 @@ use std::thread::Threads;
 pub fn summary_lines<R: Threads + Sync>(
     rt: &R,
     alloc: Global,
+    seeds: Seeds,
     seed: u32,
     threads: u32,
     lines: u32,
@@ -30,18 +32,23 @@ pub fn summary_lines<R: Threads + Sync>(
 {
     valid_script_law();
     match generate_script(alloc, seed, threads, lines) {
-        Ok(script) => lines_of(rt, alloc, &script),
+        Ok(script) => lines_of(rt, alloc, seeds, &script),
         Err(OutOfMemory) => Err(OutOfMemory),
     }
 }
 
 /// The six lines of how large the run of a script's threads one after another is.
-fn lines_of<R: Threads + Sync>(rt: &R, alloc: Global, script: &Script) -> Result<Text, OutOfMemory>
+fn lines_of<R: Threads + Sync>(
+    rt: &R,
+    alloc: Global,
+    seeds: Seeds,
+    script: &Script,
+) -> Result<Text, OutOfMemory>
     requires { IsRunnable script.now }
     ensures { IfOk result (λ text.
         text ≡ text_of_summary (summary_of script.now (plain script.now))) }
 {
-    let summary = summarize(rt, alloc, script)?;
+    let summary = summarize(rt, alloc, seeds, script)?;
     let text = summary_text(alloc, &summary)?;
     Ok(text)
 }

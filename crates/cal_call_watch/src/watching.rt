@@ -18,6 +18,7 @@ use cal_call::{Ended, Fault, INPUT_LIMIT, InputKind, Outcome, asked_query, end, 
 use cal_lawful::first_broken_law;
 use cal_ql::Query;
 use cal_query::RowsEnd;
+use cal_seeds::Seeds;
 use cal_trigger::{Triggers, conditions_in_front_law};
 use cal_value::Text;
 use cal_watch::watched_text;
@@ -31,9 +32,11 @@ use std::alloc::Global;
 /// refused at any point before the first byte is written. The outcome's journal has nothing.
 ///
 /// It takes time in the bytes of the input and the text. A trigger is asked once about each node of
-/// its name, and about each row's immediates of its name.
+/// its name, and about each row's immediates of its name. What the stream chooses is hashed by
+/// the seeds.
 pub fn run_watch<S: Source, W: Sink, E: Sink>(
     alloc: Global,
+    seeds: Seeds,
     words: &[String],
     input: &mut S,
     output: &mut W,
@@ -67,13 +70,14 @@ pub fn run_watch<S: Source, W: Sink, E: Sink>(
 {
     first_broken_law();
     conditions_in_front_law();
-    let fault = watch(alloc, words, input, output, triggers);
+    let fault = watch(alloc, seeds, words, input, output, triggers);
     end(errors, Ended::without_journal(alloc, fault))
 }
 
 /// Does what the words ask for, and gives the fault where it does less.
 fn watch<S: Source, W: Sink>(
     alloc: Global,
+    seeds: Seeds,
     words: &[String],
     input: &mut S,
     output: &mut W,
@@ -85,7 +89,7 @@ fn watch<S: Source, W: Sink>(
     ensures output { writes result ≡ false → output.new ≡ output.old }
 {
     match read_watch_words(words) {
-        Ok(command) => watch_by(alloc, words, command, input, output, triggers).err(),
+        Ok(command) => watch_by(alloc, seeds, words, command, input, output, triggers).err(),
         Err(word) => Some(Fault::Usage { word }),
     }
 }
@@ -93,6 +97,7 @@ fn watch<S: Source, W: Sink>(
 /// Reads the text of the query, then the stream, and writes the layout of the answer.
 fn watch_by<S: Source, W: Sink>(
     alloc: Global,
+    seeds: Seeds,
     words: &[String],
     command: WatchCommand,
     input: &mut S,
@@ -106,7 +111,15 @@ fn watch_by<S: Source, W: Sink>(
     ensures output { writes (result_err result) ≡ false → output.new ≡ output.old }
 {
     match asked_query(alloc, words, command.q) {
-        Ok(query) => answer(alloc, &query, command.trigger, input, output, triggers),
+        Ok(query) => answer(
+            alloc,
+            seeds,
+            &query,
+            command.trigger,
+            input,
+            output,
+            triggers,
+        ),
         Err(fault) => Err(fault),
     }
 }
@@ -114,6 +127,7 @@ fn watch_by<S: Source, W: Sink>(
 /// Writes the layout of a query's answer over the rows that a trigger lets through.
 fn answer<S: Source, W: Sink>(
     alloc: Global,
+    seeds: Seeds,
     query: &Query,
     name: TriggerName,
     input: &mut S,
@@ -126,13 +140,14 @@ fn answer<S: Source, W: Sink>(
         (change_of W.written W.faults output.old output.new) (result_err result) }
     ensures output { writes (result_err result) ≡ false → output.new ≡ output.old }
 {
-    let text = layout(alloc, query, name, input, triggers)?;
+    let text = layout(alloc, seeds, query, name, input, triggers)?;
     show(text.as_str(), output)
 }
 
 /// The layout of a query's answer over the rows that a trigger lets through.
 fn layout<S: Source>(
     alloc: Global,
+    seeds: Seeds,
     query: &Query,
     name: TriggerName,
     input: &mut S,
@@ -148,7 +163,7 @@ fn layout<S: Source>(
         → Causes (record { trigger = name; query = query.now })
         (change_of S.left S.faults input.old input.new) output fault) }
 {
-    match watched_text(alloc, input, INPUT_LIMIT, query, name, triggers) {
+    match watched_text(alloc, seeds, input, INPUT_LIMIT, query, name, triggers) {
         Ok(text) => Ok(text),
         Err(RowsEnd::BadLine { line, kind }) => Err(Fault::BadInput {
             line,

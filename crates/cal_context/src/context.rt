@@ -5,6 +5,7 @@ ghost use Rattle.cal_context.specs.Children.{CanLink, IsLinked};
 
 use crate::links::Links;
 use crate::{AttributeNumber, Interner, Link, NodeNumber, ValueNumber};
+use cal_seeds::Seeds;
 use cal_value::{Attribute, OutOfMemory, Variant};
 use std::alloc::Global;
 use std::marker::Model;
@@ -16,6 +17,7 @@ pub struct Context {
     values: Interner<Variant>,
     // of each node but the root
     links: Links,
+    seeds: Seeds,
 }
 
 impl Model for Context {
@@ -30,15 +32,28 @@ impl Model for Context {
 }
 
 impl Context {
-    /// The root alone. It takes no memory.
+    /// The root alone. It takes no memory. Its maps hash by numbers that everybody knows.
     pub fn new(alloc: Global) -> Self
         ensures { result ≡ record { attributes = []; values = []; paths = [] ∷ [] } }
     {
+        Context::seeded(alloc, Seeds::fixed())
+    }
+
+    /// The root alone, where the maps hash by the seeds of a run. It takes no memory.
+    pub fn seeded(alloc: Global, seeds: Seeds) -> Self
+        ensures { result ≡ record { attributes = []; values = []; paths = [] ∷ [] } }
+    {
         Context {
-            attributes: Interner::new(alloc),
-            values: Interner::new(alloc),
-            links: Links::new(alloc),
+            attributes: Interner::seeded(alloc, seeds),
+            values: Interner::seeded(alloc, seeds),
+            links: Links::new(alloc, seeds),
+            seeds,
         }
+    }
+
+    /// By what the maps of this context hash, and those of whoever stands over it may too.
+    pub fn seeds(&self) -> Seeds {
+        self.seeds
     }
 
     /// The number of an attribute, which is copied where it is new.

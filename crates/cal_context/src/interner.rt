@@ -1,6 +1,7 @@
 ghost use Rattle.std.specs.Prelude.{◌≡◌, ◌+◌, ◌<◌, ◌^◌, [], length, take, IfOk, OnErr};
 ghost use Rattle.cal_context.specs.Lists.{AreApart, Interns};
 
+use cal_seeds::Seeds;
 use cal_value::{Exact, OutOfMemory, TryCopy};
 use indexmap::IndexSet;
 use std::alloc::Global;
@@ -10,7 +11,7 @@ use std::marker::Model;
 /// Each item once, with its number from 0 for good.
 #[derive(Drop)]
 pub struct Interner<T: Exact + Hash> {
-    items: IndexSet<T>,
+    items: IndexSet<T, Seeds>,
 }
 
 impl<T: Exact + Hash> Model for Interner<T> {
@@ -24,12 +25,19 @@ impl<T: Exact + Hash> Model for Interner<T> {
 }
 
 impl<T: Exact + Hash> Interner<T> {
-    /// No item. It takes no memory.
+    /// No item. It takes no memory. Items are hashed by numbers that everybody knows.
     pub fn new(alloc: Global) -> Self
         ensures { result ≡ [] }
     {
+        Interner::seeded(alloc, Seeds::fixed())
+    }
+
+    /// No item, where the items are hashed by the seeds of a run. It takes no memory.
+    pub fn seeded(alloc: Global, seeds: Seeds) -> Self
+        ensures { result ≡ [] }
+    {
         Interner {
-            items: IndexSet::new(alloc),
+            items: IndexSet::with_hasher(alloc, seeds),
         }
     }
 

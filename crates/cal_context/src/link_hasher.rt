@@ -1,6 +1,7 @@
 ghost use Rattle.std.specs.Prelude.{◌≡◌};
 ghost use Rattle.cal_context.specs.LinkHash as hash;
 
+use cal_seeds::Seeds;
 use std::hash::{BuildHasher, Hasher};
 
 /// Makes the hasher of each link.
@@ -13,10 +14,11 @@ use std::hash::{BuildHasher, Hasher};
 /// The pages lie all over the table, and which place is a page's first is mixed too. So the nodes
 /// below one parent lie all over, and where each of the parents has a node by all four values, a
 /// page has four to a place. Then a search goes on over some ten places, however large the tree
-/// is. As under the library's own hasher, whoever picks names and their order can make links meet
-/// on purpose.
+/// is. Which pages meet, and where, follows from the seeds: nobody outside of a run can know it.
 #[derive(Clone, Copy, Drop)]
-pub(crate) struct LinkHashers;
+pub(crate) struct LinkHashers {
+    pub(crate) seeds: Seeds,
+}
 
 /// The last three numbers written: of a link its parent, its attribute and its value.
 #[derive(Clone, Copy)]
@@ -24,12 +26,13 @@ pub(crate) struct LinkHasher {
     parent: u32,
     attribute: u32,
     value: u32,
+    seeds: Seeds,
 }
 
 impl BuildHasher for LinkHashers {
     type Hasher = LinkHasher;
 
-    ghost build_hasher = { λ _. record { parent = 0; attribute = 0; value = 0 } };
+    ghost build_hasher = { λ s. record { parent = 0; attribute = 0; value = 0; seeds = s.seeds } };
 
     #[inline(always)]
     fn build_hasher(&self) -> LinkHasher {
@@ -37,6 +40,7 @@ impl BuildHasher for LinkHashers {
             parent: 0,
             attribute: 0,
             value: 0,
+            seeds: self.seeds,
         }
     }
 }
@@ -52,9 +56,9 @@ impl Hasher for LinkHasher {
     fn finish(&self) -> u64 {
         let parent = self.parent as u64;
         let value = self.value as u64;
-        let start = mixed((self.attribute as u64) << 32 | value / 4);
-        let page = mixed(start.wrapping_add(parent / 32));
-        let place = (page & 0x7_FFFF) << 5 | start.wrapping_add(parent) % 32;
+        let group = self.seeds.mixed((self.attribute as u64) << 32 | value / 4);
+        let page = self.seeds.mixed(group.wrapping_add(parent / 32));
+        let place = (page & 0x7_FFFF) << 5 | group.wrapping_add(parent) % 32;
         let tag = (page >> 40 ^ parent * 8 ^ value * 2) & 0xFF;
         place | tag << 24
     }
@@ -65,6 +69,7 @@ impl Hasher for LinkHasher {
             parent: self.attribute,
             attribute: self.value,
             value: number(bytes),
+            seeds: self.seeds,
         };
     }
 }
@@ -78,13 +83,4 @@ fn number(bytes: &[u8]) -> u32
         return 0;
     }
     u32::from_le_bytes([bytes[0], bytes[1], bytes[2], bytes[3]])
-}
-
-// Both halves of a product, joined by xor, so that each bit depends on all.
-#[inline(always)]
-fn mixed(word: u64) -> u64
-    ensures { result ≡ hash.mixed word }
-{
-    let product = (word ^ 0x243f_6a88_85a3_08d3) as u128 * 0x9e37_79b9_7f4a_7c15;
-    (product & 0xFFFF_FFFF_FFFF_FFFF) as u64 ^ (product >> 64) as u64
 }

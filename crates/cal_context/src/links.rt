@@ -3,6 +3,7 @@ ghost use Rattle.cal_context.specs.Lists.{AreApart, Interns};
 
 use crate::Link;
 use crate::link_hasher::LinkHashers;
+use cal_seeds::Seeds;
 use cal_value::OutOfMemory;
 use indexmap::IndexSet;
 use std::alloc::Global;
@@ -26,12 +27,12 @@ impl Model for Links {
 }
 
 impl Links {
-    /// No link. It takes no memory.
-    pub(crate) fn new(alloc: Global) -> Self
+    /// No link, where the links are hashed by seeds. It takes no memory.
+    pub(crate) fn new(alloc: Global, seeds: Seeds) -> Self
         ensures { result ≡ [] }
     {
         Links {
-            items: IndexSet::with_hasher(alloc, LinkHashers),
+            items: IndexSet::with_hasher(alloc, LinkHashers { seeds }),
         }
     }
 

@@ -14,6 +14,7 @@ use cal_board::Board;
 use cal_context::{Context, Interner, NodeNumber};
 use cal_run::{Numbers, Operation, operate};
 use cal_script::Script;
+use cal_seeds::Seeds;
 use cal_value::OutOfMemory;
 use std::alloc::Global;
 
@@ -26,12 +27,12 @@ pub(crate) struct HeldNodes {
 }
 
 impl HeldNodes {
-    /// Before the first node.
-    pub(crate) fn new(alloc: Global) -> Self
+    /// Before the first node. The nodes are hashed by the seeds.
+    pub(crate) fn new(alloc: Global, seeds: Seeds) -> Self
         ensures { result.nodes ≡ [] }
     {
         HeldNodes {
-            nodes: Interner::new(alloc),
+            nodes: Interner::seeded(alloc, seeds),
             room: Vec::new(alloc),
         }
     }

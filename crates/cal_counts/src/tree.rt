@@ -29,7 +29,7 @@ pub fn count_nodes(
     ensures grows { Grows context.old context.new }
 {
     let history = journal.ops.as_slice();
-    let mut held = HeldNodes::new(alloc);
+    let mut held = HeldNodes::new(alloc, context.seeds());
     hold_threads(alloc, script, numbers, context, &mut held)?;
     hold_history(alloc, script, numbers, history, context, &mut held)?;
     context.has_each_once();

@@ -33,6 +33,8 @@ pub mod Staying
 pub mod ResultNumbers
 pub mod SnapshotRanking
 pub mod MovedNumbers
+pub mod MovedKeys
+pub mod MergedGroups
 pub mod AnswerParts
 pub mod KeyWays
 pub mod SingleKeys

@@ -84,7 +84,7 @@ fn parts_below_ways(
         (parts_where (is_below key) (map (key_in tree.now) keys.now) parts.now))
         (map (key_in tree.now) keys.now)) }
 {
-    let mut context = Context::new(alloc);
+    let mut context = Context::seeded(alloc, tree.seeds());
     parts_below_ways_in(alloc, &mut context, tree, keys, parts, none)
 }
 

@@ -20,7 +20,9 @@ use crate::reading::Reading;
 use cal_agg::Num;
 use cal_filter::Seeker;
 use cal_ql::KernelName;
+use cal_seeds::Seeds;
 use cal_value::{OutOfMemory, Text, TryCopy};
+use indexmap::IndexMap;
 use std::alloc::Global;
 
 /// What is added to the part of a kernel: what the seekers at these places find in a record.
@@ -31,11 +33,13 @@ pub(crate) struct Counter {
 }
 
 impl Counter {
-    /// The counter of a reading. The seekers that it lacks are added.
+    /// The counter of a reading. The seekers that it lacks are added. Beside them stand the places
+    /// of those that seek a number, by name.
     pub(crate) fn of(
         alloc: Global,
         reading: &Reading,
         seekers: &mut Vec<Seeker>,
+        known: &mut IndexMap<Text, usize, Seeds>,
     ) -> Result<Counter, OutOfMemory>
         ensures counts { IfOk result (CountsFor (map sought seekers.new.items) reading.now) }
         ensures more { OnOk result (SeekMore seekers.old.items seekers.new.items) }
@@ -43,7 +47,7 @@ impl Counter {
         let kernel = reading.kernel;
         Ok(Counter {
             kernel,
-            places: places_for(alloc, kernel, reading.names.as_slice(), seekers)?,
+            places: places_for(alloc, kernel, reading.names.as_slice(), seekers, known)?,
         })
     }
 
@@ -78,6 +82,7 @@ fn places_for(
     kernel: KernelName,
     names: &[Text],
     seekers: &mut Vec<Seeker>,
+    known: &mut IndexMap<Text, usize, Seeds>,
 ) -> Result<Vec<usize>, OutOfMemory>
     ensures places { IfOk result (λ places. map (slice_get (map sought seekers.new.items))
         places.items ≡ map Some (sought_for kernel names.now)) }
@@ -85,7 +90,7 @@ fn places_for(
 {
     match kernel {
         KernelName::Count => weight_places(alloc, seekers),
-        _ => number_places(alloc, names, seekers),
+        _ => number_places(alloc, names, seekers, known),
     }
 }
 
@@ -105,6 +110,7 @@ fn number_places(
     alloc: Global,
     names: &[Text],
     seekers: &mut Vec<Seeker>,
+    known: &mut IndexMap<Text, usize, Seeds>,
 ) -> Result<Vec<usize>, OutOfMemory>
     ensures places { IfOk result (λ places. map (slice_get (map sought seekers.new.items))
         places.items ≡ map Some (map number_of names.now)) }
@@ -112,36 +118,60 @@ fn number_places(
 {
     let mut places = Vec::new(alloc);
     for name in names {
-        let place = place_of(alloc, name, seekers)?;
+        let place = place_of(alloc, name, seekers, known)?;
         places.push(place)?;
     }
     Ok(places)
 }
 
-/// The place of the seeker of a name, which is added where there is none.
-fn place_of(alloc: Global, name: &Text, seekers: &mut Vec<Seeker>) -> Result<usize, OutOfMemory>
+/// The place of the seeker of a name, which is added where none is known.
+fn place_of(
+    alloc: Global,
+    name: &Text,
+    seekers: &mut Vec<Seeker>,
+    known: &mut IndexMap<Text, usize, Seeds>,
+) -> Result<usize, OutOfMemory>
     ensures place { IfOk result (λ place.
         slice_get (map sought seekers.new.items) place ≡ Some (number_of name.now)) }
     ensures more { OnOk result (SeekMore seekers.old.items seekers.new.items) }
 {
-    if let Some(place) = find_place(seekers, name) {
+    if let Some(place) = find_place(seekers, known, name) {
         return Ok(place);
     }
+    let key = name.copy(alloc)?;
     let name = name.copy(alloc)?;
     let place = put_seeker(seekers, Seeker::of_number(alloc, name))?;
+    known.insert(key, place)?;
     Ok(place)
 }
 
-fn find_place(seekers: &[Seeker], name: &Text) -> Option<usize>
+/// The place of the seeker of a name, if it is known.
+fn find_place(
+    seekers: &[Seeker],
+    known: &IndexMap<Text, usize, Seeds>,
+    name: &Text,
+) -> Option<usize>
     ensures { IfSome result (λ place.
         slice_get (map sought seekers.now) place ≡ Some (number_of name.now)) }
 {
-    for place in 0..seekers.len() {
-        if seekers[place].is_of_number(name) {
-            return Some(place);
-        }
+    match known.get(name) {
+        Some(place) => tested(seekers, *place, name),
+        None => None,
     }
-    None
+}
+
+/// A place, if the seeker of a name stands there.
+fn tested(seekers: &[Seeker], place: usize, name: &Text) -> Option<usize>
+    ensures { IfSome result (λ place.
+        slice_get (map sought seekers.now) place ≡ Some (number_of name.now)) }
+{
+    if place >= seekers.len() {
+        return None;
+    }
+    if !seekers[place].is_of_number(name) {
+        return None;
+    }
+    Some(place)
 }
 
 /// Adds a seeker that knows nothing yet.

@@ -19,7 +19,9 @@ use crate::part_list::PartList;
 use crate::reading::Reading;
 use cal_context::{Context, Snapshot};
 use cal_filter::{Seeker, catch_up_all};
+use cal_seeds::Seeds;
 use cal_value::OutOfMemory;
+use indexmap::IndexMap;
 use std::alloc::Global;
 
 /// What is read of records by number for the kernels of a query. What is sought for several kernels
@@ -33,12 +35,16 @@ pub(crate) struct Counters {
 }
 
 impl Counters {
-    /// The counters of readings.
-    pub(crate) fn of(alloc: Global, readings: &[Reading]) -> Result<Counters, OutOfMemory>
+    /// The counters of readings, whose names hash by these seeds.
+    pub(crate) fn of(
+        alloc: Global,
+        seeds: Seeds,
+        readings: &[Reading],
+    ) -> Result<Counters, OutOfMemory>
         ensures { IfOk result (λ counters. (t : Tree) → AreCounters t readings.now counters) }
     {
         let mut seekers = Vec::new(alloc);
-        let counters = counters_of(alloc, readings, &mut seekers)?;
+        let counters = counters_of(alloc, seeds, readings, &mut seekers)?;
         let usual = usual_place(&counters);
         Ok(Counters {
             seekers,
@@ -111,6 +117,7 @@ impl Counters {
 
 fn counters_of(
     alloc: Global,
+    seeds: Seeds,
     readings: &[Reading],
     seekers: &mut Vec<Seeker>,
 ) -> Result<Vec<Counter>, OutOfMemory>
@@ -119,8 +126,9 @@ fn counters_of(
     ensures more { OnOk result (SeekMore seekers.old.items seekers.new.items) }
 {
     let mut counters = Vec::new(alloc);
+    let mut known = IndexMap::with_hasher(alloc, seeds);
     for reading in readings {
-        let counter = Counter::of(alloc, reading, seekers)?;
+        let counter = Counter::of(alloc, reading, seekers, &mut known)?;
         counters.push(counter)?;
     }
     Ok(counters)

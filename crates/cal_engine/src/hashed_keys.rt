@@ -3,6 +3,7 @@ ghost use Rattle.cal_context.specs.Lists.{AreApart, Interns};
 
 use crate::key::GroupKey;
 use cal_context::{Interner, NodeNumber};
+use cal_seeds::Seeds;
 use cal_value::{OutOfMemory, same};
 use std::alloc::Global;
 
@@ -15,12 +16,12 @@ pub(crate) struct HashedKeys {
 }
 
 impl HashedKeys {
-    /// No key. It takes no memory.
-    pub(crate) fn new(alloc: Global) -> HashedKeys
+    /// No key, where keys hash by these seeds. It takes no memory.
+    pub(crate) fn new(alloc: Global, seeds: Seeds) -> HashedKeys
         ensures { result.keys ≡ [] }
     {
         HashedKeys {
-            keys: Interner::new(alloc),
+            keys: Interner::seeded(alloc, seeds),
             hints: Vec::new(alloc),
         }
     }

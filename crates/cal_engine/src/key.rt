@@ -51,6 +51,16 @@ impl GroupKey {
         })
     }
 
+    /// The key of these nodes.
+    pub(crate) fn of(paths: Vec<NodeNumber>, imms: NodeNumber) -> GroupKey
+        ensures { result ≡ record { paths = paths.items; imms = imms } }
+    {
+        GroupKey {
+            paths: Seq::from_vec(paths),
+            imms,
+        }
+    }
+
     /// Its node, where it is that of one, or the root where it is that of none.
     pub(crate) fn single_node(&self) -> Option<NodeNumber>
         ensures { IfSome result (λ node. self.now ≡ single_key node) }

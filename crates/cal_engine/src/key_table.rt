@@ -6,6 +6,7 @@ use crate::hashed_keys::HashedKeys;
 use crate::key::GroupKey;
 use crate::node_interner::NodeInterner;
 use cal_context::NodeNumber;
+use cal_seeds::Seeds;
 use cal_value::OutOfMemory;
 use std::alloc::Global;
 use std::marker::Model;
@@ -15,6 +16,7 @@ use std::slice;
 #[derive(Drop)]
 pub(crate) struct KeyTable {
     form: Form,
+    seeds: Seeds,
 }
 
 /// A key that is a single node, or none, stands as that node. The first key that isn't lets all be
@@ -36,12 +38,13 @@ impl Model for KeyTable {
 }
 
 impl KeyTable {
-    /// No key. It takes no memory.
-    pub(crate) fn new(alloc: Global) -> KeyTable
+    /// No key, where keys hash by these seeds. It takes no memory.
+    pub(crate) fn new(alloc: Global, seeds: Seeds) -> KeyTable
         ensures { result ≡ [] }
     {
         KeyTable {
             form: Form::Single(NodeInterner::new(alloc)),
+            seeds,
         }
     }
 
@@ -113,7 +116,7 @@ impl KeyTable {
         match &mut self.form {
             Form::Hashed(keys) => keys.intern(key),
             Form::Single(nodes) => {
-                let mut keys = hashed(alloc, nodes.as_slice())?;
+                let mut keys = hashed(alloc, self.seeds, nodes.as_slice())?;
                 let number = keys.intern(key)?;
                 self.form = Form::Hashed(keys);
                 Ok(number)
@@ -143,11 +146,11 @@ fn single_path(nodes: &[NodeNumber], number: usize) -> &[NodeNumber]
 }
 
 /// The keys of nodes that are apart.
-fn hashed(alloc: Global, nodes: &[NodeNumber]) -> Result<HashedKeys, OutOfMemory>
+fn hashed(alloc: Global, seeds: Seeds, nodes: &[NodeNumber]) -> Result<HashedKeys, OutOfMemory>
     requires { AreApart nodes.now }
     ensures { IfOk result (λ made. made.keys ≡ map single_key nodes.now) }
 {
-    let mut keys = HashedKeys::new(alloc);
+    let mut keys = HashedKeys::new(alloc, seeds);
     for node in nodes {
         keys.intern(&GroupKey::single(alloc, *node)?)?;
     }

@@ -7,6 +7,7 @@
 #![tactic(auto)]
 
 mod answering;
+mod appending;
 mod below;
 mod columns;
 mod counter;
@@ -21,6 +22,7 @@ mod grouping;
 mod groups;
 mod hashed_keys;
 mod immediates;
+mod joining;
 mod kernel_results;
 mod key;
 mod key_table;

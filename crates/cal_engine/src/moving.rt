@@ -87,7 +87,7 @@ impl Moved {
 }
 
 /// The numbers of a context's attributes in another.
-fn moved_attributes(
+pub(crate) fn moved_attributes(
     alloc: Global,
     from: &Context,
     to: &mut Context,
@@ -109,7 +109,7 @@ fn moved_attributes(
 
 /// The numbers in another context of the nodes that the paths of keys have, and of those above
 /// them. A key that isn't of the context is answered as want of memory is.
-fn moved_nodes(
+pub(crate) fn moved_nodes(
     alloc: Global,
     from: &Context,
     to: &mut Context,
@@ -130,7 +130,10 @@ fn moved_nodes(
     Ok(moved)
 }
 
-fn nothing_moved(alloc: Global, count: usize) -> Result<Vec<Option<NodeNumber>>, OutOfMemory>
+pub(crate) fn nothing_moved(
+    alloc: Global,
+    count: usize,
+) -> Result<Vec<Option<NodeNumber>>, OutOfMemory>
     ensures { IfOk result (λ moved. moved.items ≡ replicate count None) }
 {
     let mut moved = Vec::with_capacity(alloc, count)?;
@@ -141,7 +144,7 @@ fn nothing_moved(alloc: Global, count: usize) -> Result<Vec<Option<NodeNumber>>,
     Ok(moved)
 }
 
-fn move_nodes(
+pub(crate) fn move_nodes(
     from: &Context,
     to: &mut Context,
     nodes: &[NodeNumber],
@@ -161,7 +164,7 @@ fn move_nodes(
 }
 
 /// The nodes from this one up that aren't moved yet, in place of those that are there.
-fn find_way(
+pub(crate) fn find_way(
     from: &Context,
     node: NodeNumber,
     moved: &[Option<NodeNumber>],
@@ -184,7 +187,7 @@ fn find_way(
 }
 
 /// Moves nodes, the last one first.
-fn move_way(
+pub(crate) fn move_way(
     from: &Context,
     to: &mut Context,
     way: &[NodeNumber],
@@ -270,13 +273,13 @@ fn keep(
 }
 
 /// The number of a node in another context, if it was put there.
-fn number_in(moved: &[Option<NodeNumber>], node: NodeNumber) -> Option<NodeNumber>
+pub(crate) fn number_in(moved: &[Option<NodeNumber>], node: NodeNumber) -> Option<NodeNumber>
     ensures { (k : ANode) → result ≡ Some k → slice_get moved.now node.0 ≡ Some (Some k) }
 {
     *moved.get(node.0 as usize)?
 }
 
-fn renumbered_nodes(
+pub(crate) fn renumbered_nodes(
     alloc: Global,
     moved: &[Option<NodeNumber>],
     nodes: &[NodeNumber],
@@ -316,7 +319,7 @@ fn renumbered_imms(
 }
 
 /// The number of an attribute in another context, if it was put there.
-fn attribute_in(
+pub(crate) fn attribute_in(
     attributes: &[AttributeNumber],
     attribute: AttributeNumber,
 ) -> Option<AttributeNumber>

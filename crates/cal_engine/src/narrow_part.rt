@@ -80,6 +80,17 @@ impl NarrowPart {
         Some(self.whole)
     }
 
+    /// The part with another one behind it, where that is narrow enough.
+    pub fn merged(&self, part: &Part) -> Option<NarrowPart>
+        ensures { IfSome result (λ narrow. narrow ≡ merged_part self.now part.now) }
+    {
+        let mut merged = self.wide();
+        if merged.merge(part).is_err() {
+            return None;
+        }
+        NarrowPart::of(&merged)
+    }
+
     /// The part with a number more, where that is narrow enough.
     #[inline(always)]
     pub fn with(&self, kernel: KernelName, number: &Num) -> Option<NarrowPart>

@@ -12,8 +12,10 @@ ghost use Rattle.cal_engine.specs.declared.reading.Reading.{Reading as AReading}
 use crate::counters::Counters;
 use crate::key::GroupKey;
 use crate::key_table::KeyTable;
+use crate::part::Part;
 use crate::part_table::PartTable;
 use cal_context::{Context, NodeNumber, Snapshot};
+use cal_seeds::Seeds;
 use cal_value::OutOfMemory;
 use std::alloc::Global;
 use std::marker::Model;
@@ -39,12 +41,12 @@ impl Model for NumberedGroups {
 }
 
 impl NumberedGroups {
-    /// No group. It takes no memory.
-    pub fn new(alloc: Global) -> NumberedGroups
+    /// No group, where keys hash by these seeds. It takes no memory.
+    pub fn new(alloc: Global, seeds: Seeds) -> NumberedGroups
         ensures { result ≡ record { keys = []; parts = [] } }
     {
         NumberedGroups {
-            keys: KeyTable::new(alloc),
+            keys: KeyTable::new(alloc, seeds),
             parts: PartTable::new(alloc),
             last: 0,
         }
@@ -80,6 +82,26 @@ impl NumberedGroups {
         }
         self.parts
             .add_at(alloc, number, counters, context, snapshot)
+    }
+
+    /// Puts what is kept of some records to the group of a key, behind what is there. A key that is
+    /// new is copied.
+    #[tactic(auto, using(crate::proofs::Gathering::of_gathering))]
+    pub fn gather_parts(
+        &mut self,
+        alloc: Global,
+        key: &GroupKey,
+        parts: &[Part],
+    ) -> Result<(), OutOfMemory>
+        ensures { OnOk result (GathersKey self.old key.now parts.now self.new) }
+    {
+        let count = self.keys.count();
+        let number = self.keys.intern(alloc, key)?;
+        let put = put_at(alloc, &mut self.parts, number, parts);
+        if put.is_err() {
+            self.keys.truncate(count);
+        }
+        put
     }
 
     /// The keys of the groups.
@@ -119,4 +141,21 @@ fn make_room(
         return Ok(());
     }
     parts.push_none(alloc, counters)
+}
+
+/// Puts parts behind those of a number, or at the end.
+fn put_at(
+    alloc: Global,
+    table: &mut PartTable,
+    number: usize,
+    parts: &[Part],
+) -> Result<(), OutOfMemory>
+    requires { number ≤ length table.old }
+    ensures ok { OnOk result (table.new ≡ put_parts table.old number parts.now) }
+    ensures err { OnErr result (length table.new ≡ length table.old) }
+{
+    if number < table.count() {
+        return table.merge_at(alloc, number, parts);
+    }
+    table.push(alloc, parts)
 }

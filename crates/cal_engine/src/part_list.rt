@@ -121,6 +121,35 @@ impl PartList {
         }
     }
 
+    /// Takes a part in behind the one at a place. The 2^32nd number and a part of another kernel are
+    /// answered as want of memory is.
+    pub fn merge(&mut self, alloc: Global, place: usize, part: &Part) -> Result<(), OutOfMemory>
+        requires { place < length self.old }
+        ensures merged { OnOk result (self.new ≡ merged_at self.old place part.now) }
+        ensures long { length self.new ≡ length self.old }
+    {
+        if let Form::Narrow(parts) = &mut self.form {
+            if let Some(narrow) = parts[place].merged(part) {
+                parts[place] = narrow;
+                return Ok(());
+            }
+        }
+        self.merge_wide(alloc, place, part)
+    }
+
+    /// The same, where all parts are wide from now on.
+    fn merge_wide(&mut self, alloc: Global, place: usize, part: &Part) -> Result<(), OutOfMemory>
+        requires { place < length self.old }
+        ensures merged { OnOk result (self.new ≡ merged_at self.old place part.now) }
+        ensures long { length self.new ≡ length self.old }
+    {
+        self.widen(alloc)?;
+        match &mut self.form {
+            Form::Wide(parts) => parts[place].merge(part),
+            Form::Narrow(_) => Err(OutOfMemory),
+        }
+    }
+
     /// Adds a part at the end.
     pub fn push(&mut self, alloc: Global, part: Part) -> Result<(), OutOfMemory>
         ensures ok { OnOk result (self.new ≡ self.old ++ part ∷ []) }

@@ -1,9 +1,10 @@
-ghost use Rattle.std.specs.Prelude.{◌≡◌, ◌<◌, ◌++◌, [], ◌∷◌, List, length, map, IfOk, IfSome};
-ghost use Rattle.std.specs.Prelude.{OnOk, OnErr};
+ghost use Rattle.std.specs.Prelude.{◌≡◌, ◌+◌, ◌<◌, ◌≤◌, ◌++◌, [], ◌∷◌, List, length, map};
+ghost use Rattle.std.specs.Prelude.{IfOk, IfSome, OnOk, OnErr};
 ghost use Rattle.std.specs.Prelude.{slice_get, slice_index_or, take};
 ghost use Rattle.cal_context.specs.Snapshots.{IsIn, meaning};
 ghost use Rattle.cal_engine.specs.Counters.{AreReadyCounters};
 ghost use Rattle.cal_engine.specs.Folding.{put_parts};
+ghost use Rattle.cal_engine.specs.PartLists.{merged_from};
 ghost use Rattle.cal_engine.specs.Parts.{part_over};
 ghost use Rattle.cal_engine.specs.Readings.{parts_of as parts_by};
 ghost use Rattle.cal_engine.specs.Results.{ComesTo};
@@ -172,6 +173,45 @@ impl PartTable {
         let from = number * self.width;
         counters.add_record(alloc, context, snapshot, &mut self.parts, from)
     }
+
+    /// Takes parts in behind those of the group of a number. Another number of parts is answered as
+    /// want of memory is. What is left of the group after an `Err` isn't promised.
+    pub fn merge_at(
+        &mut self,
+        alloc: Global,
+        number: usize,
+        parts: &[Part],
+    ) -> Result<(), OutOfMemory>
+        requires { number < length self.old }
+        ensures ok { OnOk result (self.new ≡ put_parts self.old number parts.now) }
+        ensures long { length self.new ≡ length self.old }
+    {
+        let _ = self.parts.len();
+        let width = parts.len();
+        if width != self.width {
+            return Err(OutOfMemory);
+        }
+        let from = number * self.width;
+        merge_from(alloc, &mut self.parts, from, parts)
+    }
+}
+
+/// Takes parts in behind those of a list, each behind the one at its place behind `from`.
+fn merge_from(
+    alloc: Global,
+    list: &mut PartList,
+    from: usize,
+    parts: &[Part],
+) -> Result<(), OutOfMemory>
+    requires { from + length parts.now ≤ length list.old }
+    ensures merged { OnOk result (list.new ≡ merged_from list.old from parts.now) }
+    ensures long { length list.new ≡ length list.old }
+{
+    let _ = list.len();
+    for (place, part) in parts.iter().enumerate() {
+        list.merge(alloc, from + place, part)?;
+    }
+    Ok(())
 }
 
 /// Adds parts at the end of a list.

@@ -16,6 +16,7 @@ ghost use Rattle.cal_engine.specs.Making.{MakesRows};
 ghost use Rattle.cal_engine.specs.Standing.{HasFolded};
 ghost use Rattle.cal_engine.specs.Tallies.{Holds, HoldsIn};
 
+use crate::appending::append_rows;
 use crate::fold::is_aggregated;
 use crate::gate::Gate;
 use crate::grouped_rows::GroupedRows;
@@ -26,6 +27,7 @@ use crate::tally::{TalliedGroups, Tally};
 use cal_context::{Context, Snapshot, Taker};
 use cal_ql::Query;
 use cal_rowset::{SnapshotList, SnapshotRowset};
+use cal_seeds::Seeds;
 use cal_value::{OutOfMemory, TryCopy};
 use std::alloc::Global;
 
@@ -57,17 +59,22 @@ impl SnapshotFold {
         ensures grows { Grows context.old context.new }
     {
         let gate = Gate::new(alloc, query, context)?;
-        SnapshotFold::with_gate(alloc, query, gate)
+        SnapshotFold::with_gate(alloc, context.seeds(), query, gate)
     }
 
-    /// The fold of no record, whose gate is made.
-    fn with_gate(alloc: Global, query: &Query, gate: Gate) -> Result<SnapshotFold, OutOfMemory>
+    /// The fold of no record, whose gate is made, and whose groups hash by these seeds.
+    fn with_gate(
+        alloc: Global,
+        seeds: Seeds,
+        query: &Query,
+        gate: Gate,
+    ) -> Result<SnapshotFold, OutOfMemory>
         requires { IsValidQuery query.now }
         ensures query { IfOk result (λ fold. fold.query ≡ query.now) }
         ensures none { IfOk result (λ fold. (t : Tree) → IsGate t query.now gate
             → HasFolded fold t []) }
     {
-        let tally = Tally::new(alloc, query)?;
+        let tally = Tally::new(alloc, seeds, query)?;
         Ok(SnapshotFold {
             alloc,
             query: query.copy(alloc)?,
@@ -76,6 +83,44 @@ impl SnapshotFold {
             rows: SnapshotList::new(alloc),
             full: Snapshot::new(alloc),
         })
+    }
+
+    /// Takes in the records that another fold of this query has taken from a context, behind those of
+    /// this one. The nodes of its groups or of its rows, and the attributes that its rows may have,
+    /// are added to the own context, each once. It takes time and memory in what the other fold and
+    /// the other context hold. After an `Err` the own context has grown, and the fold is to be
+    /// dropped.
+    pub fn merge(
+        &mut self,
+        context: &mut Context,
+        other: SnapshotFold,
+        its: &Context,
+    ) -> Result<(), OutOfMemory>
+        requires same { other.query ≡ self.old.query }
+        ensures merged { OnOk result ((rs ss : List ARecord)
+            → HasFolded self.old context.old rs → HasFolded other its.now ss
+            → HasFolded self.new context.new (rs ++ ss)) }
+        ensures query { self.new.query ≡ self.old.query }
+        ensures grows { Grows context.old context.new }
+    {
+        let SnapshotFold {
+            alloc: _,
+            query: _,
+            gate: _,
+            tally,
+            rows,
+            full: _,
+        } = other;
+        merge_held(
+            self.alloc,
+            &self.query,
+            &mut self.tally,
+            &mut self.rows,
+            context,
+            &tally,
+            &rows,
+            its,
+        )
     }
 
     /// The query that it was made for.
@@ -215,6 +260,30 @@ fn take_kept(
     }
     rows.push(alloc, snapshot)?;
     Ok(())
+}
+
+/// Takes in the groups of another tally of a query, or else the other kept rows, behind what is
+/// there.
+fn merge_held(
+    alloc: Global,
+    query: &Query,
+    tally: &mut Tally,
+    rows: &mut SnapshotList,
+    context: &mut Context,
+    other: &Tally,
+    others: &SnapshotList,
+    its: &Context,
+) -> Result<(), OutOfMemory>
+    ensures merged { OnOk result ((ks ls : List ARecord)
+        → Holds context.old query.now ks tally.old rows.old
+        → Holds its.now query.now ls other.now others.now
+        → Holds context.new query.now (ks ++ ls) tally.new rows.new) }
+    ensures grows { Grows context.old context.new }
+{
+    if is_aggregated(query) {
+        return tally.merge(alloc, query.group.is_some(), context, other, its);
+    }
+    append_rows(alloc, rows, context, others, its)
 }
 
 /// The rows of the groups of a tally, for a query that is aggregated and has no ORDER BY.

@@ -10,6 +10,7 @@ ghost use Rattle.cal_engine.specs.Sieves.{AreReadySieves};
 ghost use Rattle.cal_engine.specs.Tallies.{IsReadyTally, IsTally};
 
 use crate::counters::Counters;
+use crate::joining::merge_groups;
 use crate::key::{GroupKey, key_by_names, key_by_nodes};
 use crate::numbered::NumberedGroups;
 use crate::reading::readings_of;
@@ -18,6 +19,7 @@ use crate::sieves::{know_nodes, sieves_for};
 use cal_context::{Context, NodeNumber, Snapshot};
 use cal_filter::Counts;
 use cal_ql::Query;
+use cal_seeds::Seeds;
 use cal_value::OutOfMemory;
 use std::alloc::Global;
 use std::mem;
@@ -37,19 +39,19 @@ pub(crate) struct Tally {
 }
 
 impl Tally {
-    /// The tally of no record.
-    pub(crate) fn new(alloc: Global, query: &Query) -> Result<Tally, OutOfMemory>
+    /// The tally of no record, where groups and names hash by these seeds.
+    pub(crate) fn new(alloc: Global, seeds: Seeds, query: &Query) -> Result<Tally, OutOfMemory>
         ensures { IfOk result (λ tally. (t : Tree) → IsTally t query.now [] tally) }
     {
         let readings = readings_of(alloc, query.aggs.as_slice())?;
-        let counters = Counters::of(alloc, &readings)?;
+        let counters = Counters::of(alloc, seeds, &readings)?;
         let sieves = sieves_for(alloc, &query.group)?;
         Ok(Tally {
             counters,
             sieves,
-            own: Context::new(alloc),
+            own: Context::seeded(alloc, seeds),
             known: Counts::NONE,
-            groups: NumberedGroups::new(alloc),
+            groups: NumberedGroups::new(alloc, seeds),
             nodes: Vec::new(alloc),
         })
     }
@@ -98,6 +100,33 @@ impl Tally {
         know_nodes(&mut self.sieves, context, &mut self.own)?;
         self.known = Counts::of(context);
         Ok(())
+    }
+
+    /// Puts the groups of another tally of a query behind, which has GROUP BY or not. Without it the
+    /// nodes of their keys are put into the context.
+    pub(crate) fn merge(
+        &mut self,
+        alloc: Global,
+        by_name: bool,
+        context: &mut Context,
+        other: &Tally,
+        its: &Context,
+    ) -> Result<(), OutOfMemory>
+        ensures merged { OnOk result ((q : AQuery) (rs ss : List ARecord)
+            → by_name ≡ is_some q.group → IsTally context.old q rs self.old
+            → IsTally its.now q ss other.now → IsTally context.new q (rs ++ ss) self.new) }
+        ensures grows { Grows context.old context.new }
+    {
+        if by_name {
+            return merge_groups(
+                alloc,
+                &mut self.groups,
+                &mut self.own,
+                &other.groups,
+                &other.own,
+            );
+        }
+        merge_groups(alloc, &mut self.groups, context, &other.groups, its)
     }
 
     /// The groups, and the tree in which their keys lie with GROUP BY. All else is dropped.

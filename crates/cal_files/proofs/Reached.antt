@@ -141,18 +141,17 @@ StopsIn-then (files.TooLong file) content names fs name place limit allowed o p 
     are left named within opened opens reads stops =
     let part = stops.2 in
     let long : length part.0 ≡ allowed + 1 = part.2 in
-    let same = stops.1 in let at = stops.0 in (
-      omega arith,
-      record {
-        files = fs;
-        whole = rw stops.0 are;
-        name = name;
-        named = rw stops.0 named;
-        part = part.0;
-        begun = part.1;
-        counted = omega arith;
-      },
-    )
+    let reached : HasReached content names file (limit + 1) = record {
+      files = fs;
+      whole = rw stops.0 are;
+      name = name;
+      named = rw stops.0 named;
+      part = part.0;
+      begun = part.1;
+      counted = omega arith;
+    } in
+    let same = stops.1 in let at = stops.0 in
+    (omega arith, record { reached = reached; last = omega (arith, long) })
 StopsIn-then files.OutOfMemory content names fs name place limit allowed o p q f g h r s t
     are left named within opened opens reads stops =
     omega arith

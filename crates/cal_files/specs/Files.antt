@@ -1,5 +1,5 @@
 -- Files read by their names.
-use Rattle.std.specs.Prelude.{◌≡◌, ℕ, ◌+◌, ◌≤◌, List, [], ◌∷◌, length, take, sum_by, slice_get, ⊤, Option, Some, IfSome}
+use Rattle.std.specs.Prelude.{◌≡◌, ℕ, ◌+◌, ◌<◌, ◌≤◌, List, [], ◌∷◌, length, take, sum_by, slice_get, ⊤, Option, Some, IfSome}
 use Rattle.std.specs.Io.{StartsWith}
 
 -- a file has the bytes that are told of its name, where they are
@@ -46,3 +46,9 @@ pub record HasReached (content : List ℕ → Option (List ℕ)) (names : List (
 abbrev pub HasReachedWithin : (List ℕ → Option (List ℕ)) → List (List ℕ) → ℕ → ℕ → Type 0
 HasReachedWithin content names place limit =
     (count : ℕ) × (count ≤ limit) × HasReached content names place count
+
+-- The limit's bytes were taken and one more, which came from the file at a place.
+pub record HasPassed (content : List ℕ → Option (List ℕ)) (names : List (List ℕ))
+    (place limit : ℕ) : Type 0 where
+  pub reached : HasReached content names place (limit + 1)
+  pub last : 0 < length reached.part

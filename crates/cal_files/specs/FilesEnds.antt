@@ -1,6 +1,6 @@
 -- How reading files in their order comes out.
 use Rattle.std.specs.Prelude.{◌≡◌, ℕ, ◌+◌, ◌≤◌, List, length}
-use Rattle.cal_files.specs.Files.{AreFiles, HasBegun, HasBegunWithin, HasReached, HasReachedWithin, bytes_of_all}
+use Rattle.cal_files.specs.Files.{AreFiles, HasBegun, HasBegunWithin, HasPassed, HasReachedWithin, bytes_of_all}
 use Rattle.cal_files.specs.OpenerChange.{OpenerChange, HasFailedToOpen, HasFailedToRead}
 use Rattle.cal_files.specs.declared.ends.FilesEnd.{FilesEnd}
 use Rattle.cal_files.specs.declared.ends.FilesEnd.TheVariants.{OpenFault, ReadFault, TooLong, OutOfMemory}
@@ -13,7 +13,7 @@ pub record ReadsFiles (limit : ℕ) (opener : OpenerChange) (names files : List 
   pub opened : opener.openings_now ≡ opener.openings_before + length names
 
 -- Why the files weren't all read, and how far reading came. Of files that are too long the limit's
--- bytes were taken and one more, and else at most the limit (ours).
+-- bytes were taken and one more, from the file that is named, and else at most the limit (ours).
 abbrev pub StopsAt : FilesEnd → ℕ → OpenerChange → List (List ℕ) → Type 0
 StopsAt (OpenFault file) limit opener names =
     HasFailedToOpen opener
@@ -25,7 +25,7 @@ StopsAt (ReadFault file) limit opener names =
     × HasReachedWithin opener.content names file limit
 StopsAt (TooLong file) limit opener names =
     (opener.openings_now ≡ opener.openings_before + (file + 1))
-    × HasReached opener.content names file (limit + 1)
+    × HasPassed opener.content names file limit
 StopsAt OutOfMemory limit opener names =
     opener.openings_now ≤ opener.openings_before + length names
 

@@ -1,6 +1,6 @@
 -- What is put at the end of a snapshot.
 use Rattle.std.proofs.Common.{◌≡◌, ℕ, suc, ◌+◌, ◌<◌, Bool, true, false, List, [], ◌∷◌, ◌++◌, map, take, drop}
-use Rattle.std.proofs.Common.{Option, None, Some, refl, sym, ◌∙◌, ap, length, get_or, slice_get}
+use Rattle.std.proofs.Common.{Option, None, Some, refl, sym, ◌∙◌, ap, length, get_or, slice_get, arith}
 use Rattle.std.specs.List.{filter_map, list_all}
 use Rattle.std.specs.Prelude.{◌&&◌}
 use Rattle.std.proofs.lemmas.Grind.{fold-append}
@@ -36,6 +36,11 @@ pub with_lets_next : (lets : List Let) (i : ℕ) (l : Let) (r : Rec)
     → with_lets (take (suc i) lets) r ≡ with_let (with_lets (take i lets) r) l
 with_lets_next lets i l r more =
     ap (λ ls. with_lets ls r) more ∙ fold-append with_let r (take i lets) (l ∷ [])
+
+-- no definition adds nothing
+pub no_lets : (lets : List Let) (r : Rec) → length lets ≡ 0 → r ≡ with_lets lets r
+no_lets [] r none = refl
+no_lets (l ∷ lets) r none = absurd (omega (arith, none))
 
 module _ {A : Type 0} (test : A → Bool) where
   -- an item that fails makes a list fail

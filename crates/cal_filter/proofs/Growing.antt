@@ -1,5 +1,5 @@
 -- What a filter keeps stays right while the context grows.
-use Rattle.std.proofs.Common.{sym, ◌∙◌, ap, None}
+use Rattle.std.proofs.Common.{sym, ◌∙◌, ap, None, position}
 use Rattle.std.specs.List.{last_or}
 use Rattle.std.specs.Ordering.{eq_by_cmp}
 use Rattle.cal_context.specs.Tree.{Tree, Grows}
@@ -10,12 +10,14 @@ use Rattle.cal_ql.specs.declared.query.Let.{Let}
 use Rattle.cal_ql.specs.declared.query.Query.{Query}
 use Rattle.cal_value.specs.Texts.{text_cmp}
 use Rattle.cal_filter.specs.Known.{Knows, nearest_at, sought}
+use Rattle.cal_filter.specs.Latest.{KnowsNames}
 use Rattle.cal_filter.specs.Ready.{IsCondition, IsDefinition, IsFilter}
 use Rattle.cal_filter.specs.Results.{number_for}
 use Rattle.cal_filter.specs.Sought.{last_sought}
 use Rattle.cal_filter.specs.declared.condition.Condition.{Condition}
 use Rattle.cal_filter.specs.declared.definition.Definition.{Definition}
 use Rattle.cal_filter.specs.declared.filter.Filter.{Filter}
+use Rattle.cal_filter.specs.declared.latest.Latest.{Latest}
 use Rattle.cal_filter.specs.declared.seeker.Seeker.{Seeker}
 use Rattle.cal_filter.proofs.Zips.{zip_weaker}
 
@@ -57,10 +59,24 @@ module _ {old new : Tree} (grows : Grows old new) where
   condition-Grows : (c : Cond) (d : Condition) → IsCondition old c d → IsCondition new c d
   condition-Grows c d h = record { asked = h.asked; knows = knows-Grows d.seeker h.knows }
 
+  names-Grows : (l : Latest) → KnowsNames old l → KnowsNames new l
+  names-Grows l k = record {
+    apart = k.apart;
+    attributes = λ a h. let known = k.attributes a h in
+        record {
+          within = within_attributes grows a.0 known.within;
+          number = known.number
+              ∙ ap (λ b. position (eq_by_cmp text_cmp b.name) l.names.keys)
+              (sym (attribute_at-Grows grows a known.within));
+        };
+  }
+
   pub filter-Grows : (q : Query) (f : Filter) → IsFilter old q f → IsFilter new q f
   filter-Grows q f h = record {
     lets = zip_weaker (IsDefinition old) (IsDefinition new) definition-Grows q.lets
         f.definitions.items h.lets;
+    named = h.named;
+    latest = names-Grows f.latest h.latest;
     conds = zip_weaker (IsCondition old) (IsCondition new) condition-Grows q.conds
         f.conditions.items h.conds;
     known = record { lets = h.known.lets; conds = h.known.conds };

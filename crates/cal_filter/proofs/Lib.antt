@@ -15,3 +15,5 @@ pub mod ReadyLemmas
 mod FlatOnly
 mod InternedLemmas
 mod MemoLemmas
+pub mod LatestLemmas
+mod NamedLemmas

@@ -12,6 +12,7 @@ use Rattle.cal_ql.specs.declared.query.Query.{Query}
 use Rattle.cal_value.specs.declared.attribute.Entry.{Entry}
 use Rattle.cal_filter.specs.Conditions.{test_holds}
 use Rattle.cal_filter.specs.Known.{Covers, Knows, KnowsAll, KnowsSoMany, sought}
+use Rattle.cal_filter.specs.Latest.{AreNamed, KnowsNames}
 use Rattle.cal_filter.specs.Ready.{IsCondition, IsDefinition, IsFilter, IsReadyCondition}
 use Rattle.cal_filter.specs.Ready.{IsReadyDefinition, IsReadyFilter}
 use Rattle.cal_filter.specs.Replaced.{CatchesUp, ConditionCatchesUp, DefinitionCatchesUp}
@@ -20,7 +21,9 @@ use Rattle.cal_filter.specs.declared.condition.Condition.{Condition}
 use Rattle.cal_filter.specs.declared.counts.Counts.{Counts}
 use Rattle.cal_filter.specs.declared.definition.Definition.{Definition}
 use Rattle.cal_filter.specs.declared.filter.Filter.{Filter}
+use Rattle.cal_filter.specs.declared.latest.Latest.{Latest}
 use Rattle.cal_filter.specs.declared.seeker.Seeker.{Seeker}
+use Rattle.cal_filter.proofs.NamedLemmas.{named_up}
 use Rattle.cal_filter.proofs.Zips.{get_or-inside, partner, zip_at, zip_from, zip_length, zip_then, zip_weaker}
 
 pub same_sought : (t : Tree) (old new : List Seeker) → AllZip (CatchesUp t) old new
@@ -38,9 +41,9 @@ all_know t old new h knows = λ i d short.
 
 -- a definition catches up with its seekers
 pub definition_catches_up : (t : Tree) (old new : Definition) → new.operator ≡ old.operator
-    → new.attributes ≡ old.attributes
+    → new.attributes ≡ old.attributes → new.names ≡ old.names
     → AllZip (CatchesUp t) old.seekers.items new.seekers.items → DefinitionCatchesUp t old new
-definition_catches_up t old new operator attributes zip = record {
+definition_catches_up t old new operator attributes names zip = record {
   ready = λ l h. record {
     defined = record {
       op = ap (λ o. o.op) operator ∙ h.defined.op;
@@ -50,6 +53,8 @@ definition_catches_up t old new operator attributes zip = record {
     };
     knows = all_know t old.seekers.items new.seekers.items zip h.knows;
   };
+  named = λ keys h.
+      rw names (named_up t keys old.seekers.items new.seekers.items old.names.items zip h);
 }
 
 -- a condition with its seeker
@@ -105,6 +110,8 @@ filter_covered t q f covers h = record {
         knows = λ i x short. knows_covered t f.known covers _ (many i x short) (is.knows i x short);
       })
       q.lets f.definitions.items h.lets h.known.lets;
+  named = h.named;
+  latest = h.latest;
   conds = zip_and (IsCondition t) (IsReadyCondition t) (λ (d : Condition). KnowsSoMany f.known d.seeker)
       (λ c d is many. record { asked = is.asked; knows = knows_covered t f.known covers d.seeker many is.knows })
       q.conds f.conditions.items h.conds h.known.conds;
@@ -116,9 +123,18 @@ pub filter_catches_up : (t : Tree) (q : Query) (old new : Filter)
     → AllZip (DefinitionCatchesUp t) old.definitions.items new.definitions.items
     → AllZip (ConditionCatchesUp t) old.conditions.items new.conditions.items
     → new.known.attributes ≡ length t.attributes → new.known.nodes ≡ length t.paths
-    → IsFilter t q old → IsReadyFilter t q new
-filter_catches_up t q old new lets conds attributes nodes h =
-    record { lets = lets_ready; conds = conds_ready; known = record { lets = lets_known; conds = conds_known } }
+    → new.latest ≡ old.latest → IsFilter t q old → IsReadyFilter t q new
+filter_catches_up t q old new lets conds attributes nodes latest h = record {
+  lets = lets_ready;
+  named = λ i d short.
+      let counted = zip_length (DefinitionCatchesUp t) old.definitions.items new.definitions.items lets in
+      subst (λ (l : Latest). AreNamed l.names.keys (get_or new.definitions.items i d)) (sym latest)
+      ((zip_at (DefinitionCatchesUp t) old.definitions.items new.definitions.items i d d lets short).named
+      old.latest.names.keys (h.named i d (omega (arith, short, counted))));
+  latest = subst (KnowsNames t) (sym latest) h.latest;
+  conds = conds_ready;
+  known = record { lets = lets_known; conds = conds_known };
+}
   where
     lets_ready : AllZip (IsReadyDefinition t) q.lets new.definitions.items
     lets_ready = zip_then (IsDefinition t) (DefinitionCatchesUp t) (IsReadyDefinition t)
@@ -142,6 +158,8 @@ ready_is_right t q f h = record {
   lets = zip_weaker (IsReadyDefinition t) (IsDefinition t)
       (λ l d r. record { defined = r.defined; knows = λ i x short. (r.knows i x short).knows })
       q.lets f.definitions.items h.lets;
+  named = h.named;
+  latest = h.latest;
   conds = zip_weaker (IsReadyCondition t) (IsCondition t)
       (λ c d r. record { asked = r.asked; knows = r.knows.knows }) q.conds f.conditions.items h.conds;
   known = h.known;

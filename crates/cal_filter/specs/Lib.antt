@@ -7,6 +7,7 @@ pub mod Kept
 pub mod Sought
 pub mod Known
 pub mod Results
+pub mod Latest
 pub mod Ready
 pub mod Replaced
 pub mod Filtered

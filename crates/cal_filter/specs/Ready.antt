@@ -8,6 +8,7 @@ use Rattle.cal_ql.specs.declared.query.Query.{Query}
 use Rattle.cal_value.specs.declared.attribute.Entry.{Entry}
 use Rattle.cal_filter.specs.Conditions.{test_holds}
 use Rattle.cal_filter.specs.Known.{Knows, KnowsAll, KnowsSoMany, sought}
+use Rattle.cal_filter.specs.Latest.{AreNamed, KnowsNames}
 use Rattle.cal_filter.specs.Results.{AreNumbered}
 use Rattle.cal_filter.specs.Sought.{passes, sought_by}
 use Rattle.cal_filter.specs.declared.condition.Condition.{Condition}
@@ -56,11 +57,15 @@ pub record AllKnowSoMany (n : Counts) (f : Filter) : Type 0 where
 -- a filter is one for this query over this context
 pub record IsFilter (t : Tree) (q : Query) (f : Filter) : Type 0 where
   pub lets : AllZip (IsDefinition t) q.lets f.definitions.items
+  pub named : All (AreNamed f.latest.names.keys) f.definitions.items
+  pub latest : KnowsNames t f.latest
   pub conds : AllZip (IsCondition t) q.conds f.conditions.items
   pub known : AllKnowSoMany f.known f
 
 -- a filter that knows the whole context
 pub record IsReadyFilter (t : Tree) (q : Query) (f : Filter) : Type 0 where
   pub lets : AllZip (IsReadyDefinition t) q.lets f.definitions.items
+  pub named : All (AreNamed f.latest.names.keys) f.definitions.items
+  pub latest : KnowsNames t f.latest
   pub conds : AllZip (IsReadyCondition t) q.conds f.conditions.items
   pub known : AllKnowSoMany f.known f

@@ -1,9 +1,10 @@
 -- What catching up makes of what a filter keeps.
-use Rattle.std.specs.Prelude.{◌≡◌}
+use Rattle.std.specs.Prelude.{◌≡◌, ℕ, List}
 use Rattle.cal_context.specs.Tree.{Tree}
 use Rattle.cal_ql.specs.declared.query.Cond.{Cond}
 use Rattle.cal_ql.specs.declared.query.Let.{Let}
 use Rattle.cal_filter.specs.Known.{Knows, KnowsAll, sought}
+use Rattle.cal_filter.specs.Latest.{AreNamed}
 use Rattle.cal_filter.specs.Ready.{IsCondition, IsDefinition, IsReadyCondition, IsReadyDefinition}
 use Rattle.cal_filter.specs.declared.condition.Condition.{Condition}
 use Rattle.cal_filter.specs.declared.definition.Definition.{Definition}
@@ -14,9 +15,10 @@ pub record CatchesUp (t : Tree) (old new : Seeker) : Type 0 where
   pub same : sought new ≡ sought old
   pub knows : Knows t old → KnowsAll t new
 
--- whatever a definition was one of, it is ready
+-- whatever a definition was one of, it is ready, and its names have their numbers
 pub record DefinitionCatchesUp (t : Tree) (old new : Definition) : Type 0 where
   pub ready : (l : Let) → IsDefinition t l old → IsReadyDefinition t l new
+  pub named : (names : List (List ℕ)) → AreNamed names old → AreNamed names new
 
 -- so is a condition
 pub record ConditionCatchesUp (t : Tree) (old new : Condition) : Type 0 where

@@ -3,9 +3,11 @@ ghost use Rattle.std.specs.Option.{ForSome};
 ghost use Rattle.cal_agg.specs.Numbers.{IsSmall};
 ghost use Rattle.cal_filter.specs.Numbers.{value_of_number as value_of};
 ghost use Rattle.std.specs.List.{All};
+ghost use Rattle.cal_context.specs.Lists.{IsFront};
 ghost use Rattle.cal_context.specs.Snapshots.{IsIn, meaning};
 ghost use Rattle.cal_filter.specs.Kept.{with_let, with_result};
-ghost use Rattle.cal_filter.specs.Known.{KnowsAll, sought};
+ghost use Rattle.cal_filter.specs.Known.{sought};
+ghost use Rattle.cal_filter.specs.Latest.{AreNamed, AreReadyOperands, Follows, IsLatest};
 ghost use Rattle.cal_filter.specs.Sought.{number_sought};
 ghost use Rattle.cal_value.specs.Flat.{flat};
 ghost use Rattle.cal_filter.specs.Lets.{let_value, limited, operation};
@@ -18,7 +20,8 @@ ghost use Rattle.cal_ql.specs.Valid.{IsLet};
 ghost use Rattle.cal_context.specs.Tree.{Grows};
 
 use crate::kinds::{kind_of, kind_place};
-use crate::operands::{catch_up_all, fill_numbers, first_found, number_found, seekers_of};
+use crate::latest::{Latest, number_names};
+use crate::operands::{catch_up_all, fill_numbers, first_found, name_at, number_found, seekers_of};
 use crate::operation::{Operator, let_number};
 use crate::results::result_attributes;
 use crate::seeker::Seeker;
@@ -26,7 +29,8 @@ use crate::value_of_number;
 use cal_agg::Num;
 use cal_context::{AttributeNumber, Context, Immediate, Snapshot};
 use cal_ql::{Let, Op};
-use cal_value::{Kind, OutOfMemory, Variant};
+use cal_value::{Kind, OutOfMemory, Text, Variant};
+use indexmap::IndexSet;
 use std::alloc::Global;
 
 /// A definition of LET, over snapshots by number.
@@ -35,22 +39,28 @@ pub(crate) struct Definition {
     operator: Operator,
     // one for each name
     seekers: Vec<Seeker>,
+    // the numbers of the names
+    names: Vec<usize>,
     // of a result of each kind, by the kinds' places
     attributes: Vec<AttributeNumber>,
 }
 
 impl Definition {
-    /// A definition, whose results' attributes are added to the context.
+    /// A definition, whose results' attributes are added to the context, and its names to these.
     pub(crate) fn new(
         alloc: Global,
         definition: &Let,
+        names: &mut IndexSet<Text>,
         context: &mut Context,
     ) -> Result<Definition, OutOfMemory>
         requires { IsLet definition.now }
         ensures ready { IfOk result (IsDefinition context.new definition.now) }
+        ensures named { IfOk result (AreNamed names.new.keys) }
+        ensures front { OnOk result (IsFront names.old.keys names.new.keys) }
         ensures grows { Grows context.old context.new }
     {
         let seekers = seekers_of(alloc, definition.op, definition.args.as_slice())?;
+        let names = number_names(alloc, definition.args.as_slice(), names)?;
         let attributes = result_attributes(alloc, &definition.name, context)?;
         Ok(Definition {
             operator: Operator {
@@ -58,6 +68,7 @@ impl Definition {
                 n: definition.n,
             },
             seekers,
+            names,
             attributes,
         })
     }
@@ -69,10 +80,12 @@ impl Definition {
         catch_up_all(&mut self.seekers, context)
     }
 
-    /// Appends the immediate of the definition, where it has a value. `numbers` is room to work in.
+    /// Appends the immediate of the definition, where it has a value, and notes it. `numbers` is
+    /// room to work in.
     pub(crate) fn apply(
         &self,
         alloc: Global,
+        latest: &mut Latest,
         context: &Context,
         snapshot: &mut Snapshot,
         numbers: &mut Vec<Option<Num>>,
@@ -80,44 +93,53 @@ impl Definition {
         requires { IsIn context.now snapshot.old }
         ensures within { OnOk result (IsIn context.now snapshot.new) }
         ensures nodes { OnOk result (snapshot.new.nodes.items ≡ snapshot.old.nodes.items) }
+        ensures follows { OnOk result (Follows context.now latest.old snapshot.old.imms.items
+            latest.new snapshot.new.imms.items) }
         ensures adds { OnOk result ((l : LetOf) → IsReadyDefinition context.now l self.now
+            → AreNamed latest.old.names.keys self.now
+            → IsLatest context.now latest.old snapshot.old.imms.items
             → HasSmallNumbers (meaning context.now snapshot.old)
             → meaning context.now snapshot.new ≡ with_let (meaning context.now snapshot.old) l) }
     {
-        let Some(value) = self.value(alloc, context, snapshot, numbers)? else {
+        let Some(value) = self.value(alloc, latest, context, snapshot, numbers)? else {
             return Ok(());
         };
-        self.append(context, value, snapshot)
+        self.append(latest, context, value, snapshot)
     }
 
     /// The value of the definition on a record.
     fn value(
         &self,
         alloc: Global,
+        latest: &Latest,
         context: &Context,
         snapshot: &Snapshot,
         numbers: &mut Vec<Option<Num>>,
     ) -> Result<Option<Variant>, OutOfMemory>
         requires { IsIn context.now snapshot.now }
         ensures { IfOk result (λ value. (l : LetOf) → IsReadyDefinition context.now l self.now
+            → AreNamed latest.now.names.keys self.now
+            → IsLatest context.now latest.now snapshot.now.imms.items
             → HasSmallNumbers (meaning context.now snapshot.now)
             → value ≡ let_value l (meaning context.now snapshot.now)) }
     {
         match self.operator.op {
-            Op::First => first_found(alloc, &self.seekers, context, snapshot),
-            _ => self.value_of_numbers(context, snapshot, numbers),
+            Op::First => first_found(alloc, &self.seekers, &self.names, latest, context, snapshot),
+            _ => self.value_of_numbers(latest, context, snapshot, numbers),
         }
     }
 
     /// The same of an operator over numbers. A single one takes no room.
     fn value_of_numbers(
         &self,
+        latest: &Latest,
         context: &Context,
         snapshot: &Snapshot,
         numbers: &mut Vec<Option<Num>>,
     ) -> Result<Option<Variant>, OutOfMemory>
         requires { IsIn context.now snapshot.now }
-        ensures { IfOk result (λ value. All (KnowsAll context.now) self.now.seekers.items
+        ensures { IfOk result (λ value. AreReadyOperands context.now latest.now
+            snapshot.now.imms.items self.now.seekers.items self.now.names.items
             → HasSmallNumbers (meaning context.now snapshot.now)
             → value ≡ option_map value_of (option_and_then limited
             (operation self.now.operator.op self.now.operator.n (map (λ s.
@@ -125,10 +147,18 @@ impl Definition {
             self.now.seekers.items)))) }
     {
         if self.seekers.len() == 1 {
-            let number = number_found(&self.seekers[0], context, snapshot);
+            let name = name_at(&self.names, 0);
+            let number = number_found(&self.seekers[0], name, latest, context, snapshot);
             return self.result(&[number]);
         }
-        fill_numbers(&self.seekers, context, snapshot, numbers)?;
+        fill_numbers(
+            &self.seekers,
+            &self.names,
+            latest,
+            context,
+            snapshot,
+            numbers,
+        )?;
         self.result(numbers)
     }
 
@@ -150,6 +180,7 @@ impl Definition {
 
     fn append(
         &self,
+        latest: &mut Latest,
         context: &Context,
         value: Variant,
         snapshot: &mut Snapshot,
@@ -157,6 +188,8 @@ impl Definition {
         requires { IsIn context.now snapshot.old }
         ensures within { OnOk result (IsIn context.now snapshot.new) }
         ensures nodes { OnOk result (snapshot.new.nodes.items ≡ snapshot.old.nodes.items) }
+        ensures follows { OnOk result (Follows context.now latest.old snapshot.old.imms.items
+            latest.new snapshot.new.imms.items) }
         ensures adds { OnOk result ((l : LetOf) → IsReadyDefinition context.now l self.now
             → meaning context.now snapshot.new
             ≡ with_result (meaning context.now snapshot.old) l.name (Some value)) }
@@ -165,7 +198,9 @@ impl Definition {
         if attribute.0 as usize >= context.attribute_count() {
             return Err(OutOfMemory);
         }
-        snapshot.imms.push(Immediate { attribute, value })?;
+        let imm = Immediate { attribute, value };
+        latest.note(snapshot.imms.len(), &imm);
+        snapshot.imms.push(imm)?;
         Ok(())
     }
 

@@ -1,10 +1,12 @@
 ghost use Rattle.std.specs.Prelude.{◌≡◌, List, IfOk, OnOk};
-ghost use Rattle.std.specs.List.{AllZip, AllByRecursion};
+ghost use Rattle.std.specs.List.{All, AllZip, AllByRecursion};
+ghost use Rattle.cal_context.specs.Lists.{IsFront};
 ghost use Rattle.cal_context.specs.Snapshots.{IsIn, meaning};
 ghost use Rattle.cal_context.specs.Tree.{Grows, Tree};
 ghost use Rattle.cal_filter.specs.Conditions.{where_holds};
 ghost use Rattle.cal_filter.specs.Filtered.{IsFiltered};
 ghost use Rattle.cal_filter.specs.Kept.{with_lets};
+ghost use Rattle.cal_filter.specs.Latest.{AreNamed, KnowsNames};
 ghost use Rattle.cal_filter.specs.Named.{HasSmallNumbers};
 ghost use Rattle.cal_filter.specs.Ready.{IsCondition, IsDefinition, IsFilter, IsReadyCondition};
 ghost use Rattle.cal_filter.specs.Ready.{IsReadyDefinition, IsReadyFilter};
@@ -17,10 +19,12 @@ ghost use Rattle.cal_ql.specs.declared.query.Query.{Query as QueryOf};
 use crate::Counts;
 use crate::condition::Condition;
 use crate::definition::Definition;
+use crate::latest::Latest;
 use cal_agg::Num;
 use cal_context::{Context, Snapshot};
 use cal_ql::{Cond, Let, Query};
-use cal_value::OutOfMemory;
+use cal_value::{OutOfMemory, Text};
+use indexmap::IndexSet;
 use std::alloc::Global;
 
 /// LET and WHERE of a query, over snapshots by number of one context. A snapshot takes time for its
@@ -29,6 +33,8 @@ use std::alloc::Global;
 pub struct Filter {
     alloc: Global,
     definitions: Vec<Definition>,
+    // where the last immediates of the names stand that definitions seek
+    latest: Latest,
     conditions: Vec<Condition>,
     // so much of the context all of them know
     known: Counts,
@@ -44,11 +50,13 @@ impl Filter {
         ensures ready { IfOk result (IsFilter context.new query.now) }
         ensures grows { Grows context.old context.new }
     {
-        let definitions = definitions_of(alloc, query.lets.as_slice(), context)?;
+        let mut names = IndexSet::new(alloc);
+        let definitions = definitions_of(alloc, query.lets.as_slice(), &mut names, context)?;
         let conditions = conditions_of(alloc, query.conds.as_slice())?;
         Ok(Filter {
             alloc,
             definitions,
+            latest: Latest::new(alloc, names),
             conditions,
             known: Counts::NONE,
             numbers: Vec::new(alloc),
@@ -113,26 +121,31 @@ impl Filter {
         apply_all(
             self.alloc,
             &self.definitions,
+            &mut self.latest,
             context,
             snapshot,
             &mut self.numbers,
-        )
+        )?;
+        Ok(())
     }
 }
 
 fn definitions_of(
     alloc: Global,
     lets: &[Let],
+    names: &mut IndexSet<Text>,
     context: &mut Context,
 ) -> Result<Vec<Definition>, OutOfMemory>
     requires { AllByRecursion IsLet lets.now }
     ensures ready { IfOk result (λ definitions.
         AllZip (IsDefinition context.new) lets.now definitions.items) }
+    ensures named { IfOk result (λ definitions.
+        All (AreNamed names.new.keys) definitions.items) }
     ensures grows { Grows context.old context.new }
 {
     let mut definitions = Vec::new(alloc);
     for definition in lets {
-        let made = Definition::new(alloc, definition, context)?;
+        let made = Definition::new(alloc, definition, names, context)?;
         definitions.push(made)?;
     }
     Ok(definitions)
@@ -173,6 +186,7 @@ fn know_conditions(conditions: &mut [Condition], context: &Context) -> Result<()
 fn apply_all(
     alloc: Global,
     definitions: &[Definition],
+    latest: &mut Latest,
     context: &Context,
     snapshot: &mut Snapshot,
     numbers: &mut Vec<Option<Num>>,
@@ -180,14 +194,23 @@ fn apply_all(
     requires { IsIn context.now snapshot.old }
     ensures within { OnOk result (IsIn context.now snapshot.new) }
     ensures nodes { OnOk result (snapshot.new.nodes.items ≡ snapshot.old.nodes.items) }
+    ensures knows { OnOk result
+        (KnowsNames context.now latest.old → KnowsNames context.now latest.new) }
+    ensures names { OnOk result (latest.new.names ≡ latest.old.names) }
     ensures adds { OnOk result ((lets : List LetOf)
         → AllZip (IsReadyDefinition context.now) lets definitions.now
+        → All (AreNamed latest.old.names.keys) definitions.now
+        → KnowsNames context.now latest.old
         → HasSmallNumbers (meaning context.now snapshot.old)
         → meaning context.now snapshot.new
         ≡ with_lets lets (meaning context.now snapshot.old)) }
 {
+    if definitions.len() == 0 {
+        return Ok(());
+    }
+    latest.begin(context, &snapshot.imms)?;
     for definition in definitions {
-        definition.apply(alloc, context, snapshot, numbers)?;
+        definition.apply(alloc, latest, context, snapshot, numbers)?;
     }
     Ok(())
 }

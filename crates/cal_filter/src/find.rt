@@ -5,9 +5,11 @@ ghost use Rattle.std.specs.Option.{option_copied};
 ghost use Rattle.cal_context.specs.Snapshots.{IsBelowRoot, IsIn, entry_of, meaning};
 ghost use Rattle.cal_context.specs.Tree.{path_at};
 ghost use Rattle.cal_filter.specs.Known.{KnowsAll, sought};
+ghost use Rattle.cal_filter.specs.Latest.{IsLast, IsReadyOperand};
 ghost use Rattle.cal_filter.specs.Sought.{last_sought, value_sought};
 ghost use Rattle.cal_value.specs.Flat.{flat, joined};
 
+use crate::latest::Latest;
 use crate::seeker::Seeker;
 use cal_context::{Context, Immediate, NodeNumber, Snapshot};
 use cal_value::Variant;
@@ -22,6 +24,46 @@ impl Seeker {
             ≡ value_sought (sought self.now) (flat (meaning context.now snapshot.now)) }
     {
         self.find_among(context, &snapshot.nodes, &snapshot.imms)
+    }
+
+    /// The same where the last immediates of its name are known, which has this number. It takes
+    /// time for the record's nodes alone.
+    #[inline(always)]
+    pub(crate) fn find_by<'a>(
+        &self,
+        name: usize,
+        latest: &Latest,
+        context: &'a Context,
+        snapshot: &'a Snapshot,
+    ) -> Option<&'a Variant>
+        requires { IsIn context.now snapshot.now }
+        ensures { IsReadyOperand context.now latest.now snapshot.now.imms.items self.now name
+            → option_copied result
+            ≡ value_sought (sought self.now) (flat (meaning context.now snapshot.now)) }
+    {
+        let place = self.place(name, latest);
+        self.find_at(context, &snapshot.nodes, &snapshot.imms, place)
+    }
+
+    #[inline(always)]
+    fn find_at<'a>(
+        &self,
+        context: &'a Context,
+        nodes: &[NodeNumber],
+        imms: &'a [Immediate],
+        place: Option<usize>,
+    ) -> Option<&'a Variant>
+        requires { All (IsBelowRoot context.now) nodes.now }
+        ensures { KnowsAll context.now self.now
+            → IsLast context.now (sought self.now) imms.now place
+            → option_copied result ≡ value_sought (sought self.now)
+            (joined (map (path_at context.now) nodes.now)
+            ++ map (entry_of context.now) imms.now) }
+    {
+        match place {
+            Some(place) => value_at(imms, place),
+            None => own_value(context, self.last_node(context, nodes)),
+        }
     }
 
     /// The same of the record that nodes and immediates mean.
@@ -132,4 +174,13 @@ fn own_value(context: &Context, node: NodeNumber) -> Option<&Variant>
     }
     let link = context.link(node)?;
     Some(context.value_at(link.value))
+}
+
+fn value_at(imms: &[Immediate], place: usize) -> Option<&Variant>
+    ensures { option_copied result ≡ option_map (λ i. i.value) (slice_get imms.now place) }
+{
+    match imms.get(place) {
+        Some(imm) => Some(&imm.value),
+        None => None,
+    }
 }

@@ -14,6 +14,7 @@ mod definition;
 mod filter;
 mod find;
 mod kinds;
+mod latest;
 mod laws;
 mod memo;
 mod number;

@@ -1,10 +1,11 @@
-ghost use Rattle.std.specs.Prelude.{◌≡◌, length, map, slice_get, IfOk, OnOk};
+ghost use Rattle.std.specs.Prelude.{◌≡◌, length, map, slice_get, slice_index_or, IfOk, OnOk};
 ghost use Rattle.std.specs.List.{All, AllZip, filter_map};
 ghost use Rattle.std.specs.Option.{ForSome};
 ghost use Rattle.cal_agg.specs.Numbers.{IsSmall};
 ghost use Rattle.cal_context.specs.Snapshots.{IsIn, meaning};
 ghost use Rattle.cal_context.specs.Tree.{Tree};
-ghost use Rattle.cal_filter.specs.Known.{Knows, KnowsAll, sought};
+ghost use Rattle.cal_filter.specs.Known.{Knows, sought};
+ghost use Rattle.cal_filter.specs.Latest.{AreReadyOperands, IsReadyOperand};
 ghost use Rattle.cal_filter.specs.Sought.{number_sought, sought_by, value_sought};
 ghost use Rattle.cal_filter.specs.Named.{HasSmallNumbers};
 ghost use Rattle.cal_filter.specs.Numbers.{number_in as number_in_value};
@@ -13,6 +14,7 @@ ghost use Rattle.cal_value.specs.Flat.{flat};
 ghost use Rattle.cal_value.specs.Reading.{IsSmall as IsSmallValue};
 
 use crate::arithmetic::limited;
+use crate::latest::Latest;
 use crate::seeker::Seeker;
 use crate::wanted::Wanted;
 use cal_agg::Num;
@@ -45,9 +47,12 @@ pub fn catch_up_all(seekers: &mut [Seeker], context: &Context) -> Result<(), Out
     Ok(())
 }
 
-/// The numbers that seekers find in a record, each where it is within the limit.
+/// The numbers that seekers find in a record, each where it is within the limit. `names` are the
+/// numbers of their names.
 pub(crate) fn fill_numbers(
     seekers: &[Seeker],
+    names: &[usize],
+    latest: &Latest,
     context: &Context,
     snapshot: &Snapshot,
     numbers: &mut Vec<Option<Num>>,
@@ -55,14 +60,17 @@ pub(crate) fn fill_numbers(
     requires { IsIn context.now snapshot.now }
     ensures few { OnOk result (length numbers.new.items ≡ length seekers.now) }
     ensures small { OnOk result (All (λ number. ForSome number IsSmall) numbers.new.items) }
-    ensures found { OnOk result (All (KnowsAll context.now) seekers.now
+    ensures found { OnOk result (AreReadyOperands context.now latest.now
+        snapshot.now.imms.items seekers.now names.now
         → HasSmallNumbers (meaning context.now snapshot.now) → numbers.new.items
         ≡ map (λ s. number_sought (sought s) (flat (meaning context.now snapshot.now)))
         seekers.now) }
 {
     numbers.clear();
-    for seeker in seekers {
-        let number = number_found(seeker, context, snapshot);
+    for place in 0..seekers.len() {
+        let seeker = &seekers[place];
+        let name = name_at(names, place);
+        let number = number_found(seeker, name, latest, context, snapshot);
         numbers.push(number)?;
     }
     Ok(())
@@ -70,14 +78,20 @@ pub(crate) fn fill_numbers(
 
 // A number above the limit is none, so that no record makes a sum too large.
 #[inline(always)]
-pub(crate) fn number_found(seeker: &Seeker, context: &Context, snapshot: &Snapshot) -> Option<Num>
+pub(crate) fn number_found(
+    seeker: &Seeker,
+    name: usize,
+    latest: &Latest,
+    context: &Context,
+    snapshot: &Snapshot,
+) -> Option<Num>
     requires { IsIn context.now snapshot.now }
     ensures small { ForSome result IsSmall }
-    ensures found { KnowsAll context.now seeker.now
+    ensures found { IsReadyOperand context.now latest.now snapshot.now.imms.items seeker.now name
         → HasSmallNumbers (meaning context.now snapshot.now)
         → result ≡ number_sought (sought seeker.now) (flat (meaning context.now snapshot.now)) }
 {
-    match seeker.find(context, snapshot) {
+    match seeker.find_by(name, latest, context, snapshot) {
         Some(value) => small_number(value),
         None => None,
     }
@@ -100,19 +114,32 @@ fn small_number(value: &Variant) -> Option<Num>
 pub(crate) fn first_found(
     alloc: Global,
     seekers: &[Seeker],
+    names: &[usize],
+    latest: &Latest,
     context: &Context,
     snapshot: &Snapshot,
 ) -> Result<Option<Variant>, OutOfMemory>
     requires { IsIn context.now snapshot.now }
-    ensures { IfOk result (λ value. All (KnowsAll context.now) seekers.now → value ≡ slice_get
+    ensures { IfOk result (λ value. AreReadyOperands context.now latest.now
+        snapshot.now.imms.items seekers.now names.now → value ≡ slice_get
         (filter_map (λ s. value_sought (sought s) (flat (meaning context.now snapshot.now)))
         seekers.now) 0) }
 {
-    for seeker in seekers {
-        match seeker.find(context, snapshot) {
+    for place in 0..seekers.len() {
+        let seeker = &seekers[place];
+        let name = name_at(names, place);
+        match seeker.find_by(name, latest, context, snapshot) {
             Some(value) => return Ok(Some(value.copy(alloc)?)),
             None => {}
         }
     }
     Ok(None)
+}
+
+/// The number of the name at a place.
+#[inline(always)]
+pub(crate) fn name_at(names: &[usize], place: usize) -> usize
+    ensures { result ≡ slice_index_or names.now place 0 }
+{
+    names.get(place).copied().unwrap_or(0)
 }

@@ -4,9 +4,11 @@ ghost use Rattle.cal_context.specs.declared.numbers.AttributeNumber.{AttributeNu
 ghost use Rattle.cal_context.specs.declared.numbers.NodeNumber.{NodeNumber as NodeNumberOf};
 ghost use Rattle.cal_filter.specs.Known.{IsNearest, Knows, KnowsAll, KnowsAttributes, named_at};
 ghost use Rattle.cal_filter.specs.Known.{nearest_at, sought};
+ghost use Rattle.cal_filter.specs.Latest.{place_for};
 ghost use Rattle.cal_filter.specs.Sought.{any_of, last_sought, number_of};
 ghost use Rattle.cal_filter.specs.Sought.{seeks as is_sought, whole_of};
 
+use crate::latest::Latest;
 use crate::wanted::Wanted;
 use crate::{AttributeMemo, NodeMemo};
 use cal_context::{AttributeNumber, Context, NodeNumber};
@@ -215,6 +217,14 @@ impl Seeker {
             && self
                 .wanted
                 .passes(context.attribute_at(attribute).kind, value)
+    }
+
+    /// Where the last immediate that is sought stands, if its name has this number.
+    #[inline(always)]
+    pub(crate) fn place(&self, name: usize, latest: &Latest) -> Option<usize>
+        ensures { result ≡ place_for latest.now self.now.wanted name }
+    {
+        latest.place(&self.wanted, name)
     }
 
     fn is_named(&self, attribute: AttributeNumber) -> bool

@@ -20,6 +20,7 @@ use crate::watch::Watch;
 use cal_context::Context;
 use cal_run::{Numbers, noted_at, takes_start_reading};
 use cal_script::{Journal, Line, LineNote, Script};
+use cal_seeds::Seeds;
 use cal_value::OutOfMemory;
 use std::alloc::Global;
 
@@ -36,6 +37,7 @@ pub(crate) struct FoundTests {
 /// Tests the rules SeenFixed, Reading and Reply on all rows.
 pub(crate) fn test_found(
     alloc: Global,
+    seeds: Seeds,
     script: &Script,
     journal: &Journal,
     merged: &Merged,
@@ -46,7 +48,7 @@ pub(crate) fn test_found(
     ensures { IfOk result (λ tests.
         FoundTell script.now journal.now tests (all_rows script.now journal.now)) }
 {
-    let mut context = Context::new(alloc);
+    let mut context = Context::seeded(alloc, seeds);
     let numbers = Numbers::of(alloc, script, &mut context)?;
     test_threads(alloc, script, journal, &numbers, merged, &mut context)
 }

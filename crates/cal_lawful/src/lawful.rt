@@ -11,18 +11,24 @@ use crate::seen::test_seen;
 use crate::shape::{check_shape, mark_at};
 use cal_journal::JournalKind;
 use cal_script::{JournalText, Script};
+use cal_seeds::Seeds;
 use std::alloc::Global;
 
 /// Tests that a journal is a lawful one of its script, or gives the first rule that it breaks, with
 /// the first of the input's lines on which it breaks it. It takes time in the lines of both, and for
-/// each thread in the history.
-pub fn check_journal(alloc: Global, script: &Script, text: &JournalText) -> Result<(), CoreEnd>
+/// each thread in the history. What the script chooses is hashed by the seeds.
+pub fn check_journal(
+    alloc: Global,
+    seeds: Seeds,
+    script: &Script,
+    text: &JournalText,
+) -> Result<(), CoreEnd>
     requires { IsRunnable script.now }
     ensures lawful { OnOk result (IsLawfulText script.now text.now) }
     ensures fault { IfErr result (IsRefusalOf script.now text.now) }
 {
     check_history(alloc, script, text)?;
-    check_rows(alloc, script, text)?;
+    check_rows(alloc, seeds, script, text)?;
     Ok(())
 }
 
@@ -39,7 +45,12 @@ fn check_history(alloc: Global, script: &Script, text: &JournalText) -> Result<(
 }
 
 /// Tests the others, where those hold.
-fn check_rows(alloc: Global, script: &Script, text: &JournalText) -> Result<(), CoreEnd>
+fn check_rows(
+    alloc: Global,
+    seeds: Seeds,
+    script: &Script,
+    text: &JournalText,
+) -> Result<(), CoreEnd>
     requires runnable { IsRunnable script.now }
     requires held { HoldFirst script.now text.now 3 }
     ensures lawful { OnOk result (IsLawfulText script.now text.now) }
@@ -49,13 +60,14 @@ fn check_rows(alloc: Global, script: &Script, text: &JournalText) -> Result<(), 
     check_row(script, text, tests.falls, JournalKind::SeenFalls)?;
     check_row(script, text, tests.past, JournalKind::SeenPast)?;
     check_row(script, text, tests.own, JournalKind::SeenOwn)?;
-    check_found(alloc, script, text, &tests.merged)?;
+    check_found(alloc, seeds, script, text, &tests.merged)?;
     Ok(())
 }
 
 /// Tests the last three, where the others hold.
 fn check_found(
     alloc: Global,
+    seeds: Seeds,
     script: &Script,
     text: &JournalText,
     merged: &Merged,
@@ -66,7 +78,7 @@ fn check_found(
     ensures lawful { OnOk result (IsLawfulText script.now text.now) }
     ensures fault { IfErr result (IsRefusalOf script.now text.now) }
 {
-    let tests = test_found(alloc, script, &text.journal, merged)?;
+    let tests = test_found(alloc, seeds, script, &text.journal, merged)?;
     check_row(script, text, tests.fixed, JournalKind::SeenFixed)?;
     check_row(script, text, tests.reading, JournalKind::Reading)?;
     check_row(script, text, tests.reply, JournalKind::Reply)?;

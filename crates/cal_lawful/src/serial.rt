@@ -10,6 +10,7 @@ use crate::{CoreEnd, check_journal};
 use cal_records::run_records;
 use cal_run::lawful_journal_law;
 use cal_script::{JournalText, Script};
+use cal_seeds::Seeds;
 use cal_value::Records;
 use std::alloc::Global;
 
@@ -24,7 +25,7 @@ pub fn run_serial(alloc: Global, script: &Script, text: &JournalText) -> Result<
         (IsValidScript script.now → ProfilesAnswer script.now text.now.journal) }
     ensures refused { IfErr result (IsRefusalOf script.now text.now) }
 {
-    check_journal(alloc, script, text)?;
+    check_journal(alloc, Seeds::fixed(), script, text)?;
     lawful_journal_law();
     let records = run_records(alloc, script, &text.journal)?;
     Ok(records)

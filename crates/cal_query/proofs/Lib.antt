@@ -5,3 +5,4 @@ pub mod Plainness
 pub mod Layouts
 pub mod Stops
 pub mod SameQuery
+pub mod FoldedWholes

@@ -7,3 +7,4 @@ pub mod Guarding
 pub mod Pieces
 pub mod Streaming
 pub mod Ends
+pub mod Wholes

@@ -17,6 +17,7 @@ use cal_base::Source;
 use cal_context::Context;
 use cal_ql::{Format, Query};
 use cal_rowset::SnapshotRowset;
+use cal_seeds::Seeds;
 use cal_tabfmt::ExpandWriter;
 use cal_value::Text;
 use std::alloc::Global;
@@ -24,9 +25,11 @@ use std::alloc::Global;
 /// What a query prints of the stream that an input has left, at most `limit` bytes, with the
 /// globals joined to each row where that is asked. Time is in the entries of the rows and in the
 /// text; memory is in what the query keeps, its groups or its rows, in the nodes and the text, and
-/// where the globals are joined in the rows too. A query without a clause keeps no row.
+/// where the globals are joined in the rows too. A query without a clause keeps no row. What the
+/// stream chooses is hashed by the seeds.
 pub fn query_text<S: Source>(
     alloc: Global,
+    seeds: Seeds,
     input: &mut S,
     limit: u64,
     join: bool,
@@ -43,9 +46,9 @@ pub fn query_text<S: Source>(
         StopsRows end limit (change_of S.left S.faults input.old input.new)) }
 {
     if is_plain(query) {
-        return rows_text(alloc, input, limit, join);
+        return rows_text(alloc, seeds, input, limit, join);
     }
-    let answer = find_answer(alloc, input, limit, join, query)?;
+    let answer = find_answer(alloc, seeds, input, limit, join, query)?;
     let text = lay_out_found(alloc, query.format, &answer);
     drop(answer);
     text
@@ -79,6 +82,7 @@ pub(crate) fn is_plain(query: &Query) -> bool
 /// The plain lines of the rows, which are laid out as they come.
 fn rows_text<S: Source>(
     alloc: Global,
+    seeds: Seeds,
     input: &mut S,
     limit: u64,
     join: bool,
@@ -90,7 +94,14 @@ fn rows_text<S: Source>(
         StopsRows end limit (change_of S.left S.faults input.old input.new)) }
 {
     let writer = ExpandWriter::new(alloc);
-    let seen = see_rows(alloc, input, limit, join, Context::new(alloc), writer)?;
+    let seen = see_rows(
+        alloc,
+        input,
+        limit,
+        join,
+        Context::seeded(alloc, seeds),
+        writer,
+    )?;
     let Seen { context, taker } = seen;
     drop(context);
     Ok(taker.finish())
@@ -99,6 +110,7 @@ fn rows_text<S: Source>(
 /// The answer of a query over the rows.
 fn find_answer<S: Source>(
     alloc: Global,
+    seeds: Seeds,
     input: &mut S,
     limit: u64,
     join: bool,
@@ -111,7 +123,7 @@ fn find_answer<S: Source>(
     ensures refused { IfErr result (λ end.
         StopsRows end limit (change_of S.left S.faults input.old input.new)) }
 {
-    let Seen { context, taker } = new_fold(alloc, query)?;
+    let Seen { context, taker } = new_fold(alloc, seeds, query)?;
     let seen = see_rows(alloc, input, limit, join, context, taker)?;
     let Seen { context, taker } = seen;
     Ok(answer_over(taker, context, query)?)

@@ -19,15 +19,17 @@ use cal_base::Source;
 use cal_context::Context;
 use cal_ql::Query;
 use cal_rowset::SnapshotRowset;
+use cal_seeds::Seeds;
 use cal_tabfmt::ExpandWriter;
 use cal_value::Text;
 use std::alloc::Global;
 
 /// What a query prints of those rows of the stream that an input has left, at most `limit` bytes,
 /// which a guard lets through. The guard is asked before LET, and no other row costs more than that.
-/// Memory and time are else those of `query_text`, without the globals.
+/// Memory, time and seeds are else those of `query_text`, without the globals.
 pub fn guarded_text<S: Source, K: Guard + Drop>(
     alloc: Global,
+    seeds: Seeds,
     input: &mut S,
     limit: u64,
     guard: K,
@@ -46,9 +48,9 @@ pub fn guarded_text<S: Source, K: Guard + Drop>(
         StopsRows end limit (change_of S.left S.faults input.old input.new)) }
 {
     if is_plain(query) {
-        return rows_where(alloc, input, limit, guard);
+        return rows_where(alloc, seeds, input, limit, guard);
     }
-    let answer = answer_where(alloc, input, limit, guard, query)?;
+    let answer = answer_where(alloc, seeds, input, limit, guard, query)?;
     let text = lay_out_found(alloc, query.format, &answer);
     drop(answer);
     text
@@ -57,6 +59,7 @@ pub fn guarded_text<S: Source, K: Guard + Drop>(
 /// The plain lines of the rows, which are laid out as they come.
 fn rows_where<S: Source, K: Guard + Drop>(
     alloc: Global,
+    seeds: Seeds,
     input: &mut S,
     limit: u64,
     guard: K,
@@ -72,7 +75,14 @@ fn rows_where<S: Source, K: Guard + Drop>(
         guard,
         taker: ExpandWriter::new(alloc),
     };
-    let seen = see_rows(alloc, input, limit, false, Context::new(alloc), taker)?;
+    let seen = see_rows(
+        alloc,
+        input,
+        limit,
+        false,
+        Context::seeded(alloc, seeds),
+        taker,
+    )?;
     let Seen { context, taker } = seen;
     drop(context);
     let Guarded { guard, taker } = taker;
@@ -83,6 +93,7 @@ fn rows_where<S: Source, K: Guard + Drop>(
 /// The answer of a query over the rows.
 fn answer_where<S: Source, K: Guard + Drop>(
     alloc: Global,
+    seeds: Seeds,
     input: &mut S,
     limit: u64,
     guard: K,
@@ -97,7 +108,7 @@ fn answer_where<S: Source, K: Guard + Drop>(
     ensures refused { IfErr result (λ end.
         StopsRows end limit (change_of S.left S.faults input.old input.new)) }
 {
-    let Seen { context, taker } = new_fold(alloc, query)?;
+    let Seen { context, taker } = new_fold(alloc, seeds, query)?;
     let taker = Guarded { guard, taker };
     let seen = see_rows(alloc, input, limit, false, context, taker)?;
     let Seen { context, taker } = seen;

@@ -10,15 +10,21 @@ use cal_context::Context;
 use cal_engine::SnapshotFold;
 use cal_ql::Query;
 use cal_rowset::SnapshotRowset;
+use cal_seeds::Seeds;
 use cal_value::OutOfMemory;
 use std::alloc::Global;
 
-/// A query's fold of no row, and the context in which its rows will come.
-pub(crate) fn new_fold(alloc: Global, query: &Query) -> Result<Seen<SnapshotFold>, OutOfMemory>
+/// A query's fold of no row, and the context in which its rows will come, which hashes by the seeds.
+pub fn new_fold(
+    alloc: Global,
+    seeds: Seeds,
+    query: &Query,
+) -> Result<Seen<SnapshotFold>, OutOfMemory>
     requires { IsValidQuery query.now }
-    ensures { IfOk result (λ none. HasFolded none.taker none.context []) }
+    ensures query { IfOk result (λ none. none.taker.query ≡ query.now) }
+    ensures none { IfOk result (λ none. HasFolded none.taker none.context []) }
 {
-    let mut context = Context::new(alloc);
+    let mut context = Context::seeded(alloc, seeds);
     let Ok(taker) = SnapshotFold::new(alloc, query, &mut context) else {
         drop(context);
         return Err(OutOfMemory);
@@ -46,7 +52,7 @@ pub(crate) fn answer_over(
 }
 
 /// Whether two queries are one.
-fn is_same(one: &Query, other: &Query) -> bool
+pub(crate) fn is_same(one: &Query, other: &Query) -> bool
     ensures { IsTrue result → one.now ≡ other.now }
 {
     one == other

@@ -10,12 +10,9 @@ use cal_treefmt::tree_text;
 use cal_value::{OutOfMemory, Text};
 use std::alloc::Global;
 
-/// The layout of an answer in a format.
-pub(crate) fn lay_out(
-    alloc: Global,
-    format: Format,
-    answer: &SnapshotRowset,
-) -> Result<Text, OutOfMemory>
+/// The layout of an answer in a format. Time and memory are in the text and in what the answer
+/// holds.
+pub fn lay_out(alloc: Global, format: Format, answer: &SnapshotRowset) -> Result<Text, OutOfMemory>
     ensures { IfOk result (λ text. text ≡ layout format (rowset_of answer.now)) }
 {
     match format {

@@ -18,7 +18,7 @@ use std::alloc::Global;
 
 /// Whoever has taken the rows that a query sees, and the context that they came in.
 #[derive(Drop)]
-pub(crate) struct Seen<T: Drop> {
+pub struct Seen<T: Drop> {
     pub context: Context,
     pub taker: T,
 }

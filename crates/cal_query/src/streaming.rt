@@ -96,6 +96,18 @@ impl<T: Taker + Drop> Streaming<T> {
         self.finish()
     }
 
+    /// Reads a stream that is at hand as a whole, and its end: the globals.
+    fn read_whole(&mut self, bytes: &[u8]) -> Result<Snapshot, RowsEnd>
+        requires ready { MayBeFed self.old.fault self.old }
+        requires read { HasStreamed T.has_taken self.old [] }
+        ensures read { IfOk result (λ globals.
+            HasFinished T.has_taken (finished self.new globals) bytes.now) }
+        ensures refused { IfErr result (λ end. FallsAt end bytes.now) }
+    {
+        self.feed(bytes)?;
+        self.finish()
+    }
+
     /// Reads the end of the input: the globals.
     fn finish(&mut self) -> Result<Snapshot, RowsEnd>
         requires { MayBeFed self.old.fault self.old }
@@ -151,6 +163,28 @@ pub(crate) fn read_stream<S: Source, T: Taker + Drop>(
 {
     let mut streaming = Streaming::new(alloc, context, taker)?;
     match streaming.read(alloc, input, limit) {
+        Ok(globals) => Ok(streaming.into_finished(globals)),
+        Err(end) => {
+            drop(streaming);
+            Err(end)
+        }
+    }
+}
+
+/// Reads these bytes as a stream, and hands its rows to a taker that has taken none. Behind its
+/// first fault nothing is looked at.
+pub(crate) fn read_whole<T: Taker + Drop>(
+    alloc: Global,
+    bytes: &[u8],
+    context: Context,
+    taker: T,
+) -> Result<Finished<T>, RowsEnd>
+    requires { T.has_taken taker context [] }
+    ensures read { IfOk result (λ f. HasFinished T.has_taken f bytes.now) }
+    ensures refused { IfErr result (λ end. FallsAt end bytes.now) }
+{
+    let mut streaming = Streaming::new(alloc, context, taker)?;
+    match streaming.read_whole(bytes) {
         Ok(globals) => Ok(streaming.into_finished(globals)),
         Err(end) => {
             drop(streaming);

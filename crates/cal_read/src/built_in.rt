@@ -72,7 +72,7 @@ pub(crate) fn built_in_nodes(alloc: Global, context: &mut Context) -> Result<Nod
     ensures grows { Grows context.old context.new }
     ensures held { IfOk result (λ nodes. AreHeld context.new nodes built_in) }
 {
-    let mut nodes = Nodes::new(alloc);
+    let mut nodes = Nodes::new(alloc, context.seeds());
     put_kinds(alloc, &mut nodes, context)?;
     put_built_in(alloc, &mut nodes, context)?;
     Ok(nodes)

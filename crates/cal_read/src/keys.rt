@@ -5,6 +5,7 @@ ghost use Rattle.cal_read.specs.Keys.{values_in};
 
 use cal_context::Interner;
 use cal_line::{FieldPieces, Fields};
+use cal_seeds::Seeds;
 use cal_value::{OutOfMemory, Text};
 use std::alloc::Global;
 
@@ -36,14 +37,14 @@ pub(crate) fn field_with_key<'a>(
     Ok(None)
 }
 
-/// Whether a key comes twice.
-pub(crate) fn repeats_key(alloc: Global, fields: &Fields) -> Result<bool, OutOfMemory>
+/// Whether a key comes twice. Many keys are hashed by the seeds.
+pub(crate) fn repeats_key(alloc: Global, seeds: Seeds, fields: &Fields) -> Result<bool, OutOfMemory>
     ensures { IfOk result (λ repeats. repeats ≡ repeats_key fields.now) }
 {
     if fields.len() <= FEW {
         repeats_key_of_few(alloc, fields)
     } else {
-        repeats_key_of_many(alloc, fields)
+        repeats_key_of_many(alloc, seeds, fields)
     }
 }
 
@@ -79,10 +80,10 @@ fn has_key_before(
     Ok(false)
 }
 
-fn repeats_key_of_many(alloc: Global, fields: &Fields) -> Result<bool, OutOfMemory>
+fn repeats_key_of_many(alloc: Global, seeds: Seeds, fields: &Fields) -> Result<bool, OutOfMemory>
     ensures { IfOk result (λ repeats. repeats ≡ repeats_key fields.now) }
 {
-    let mut keys: Interner<Text> = Interner::new(alloc);
+    let mut keys: Interner<Text> = Interner::seeded(alloc, seeds);
     for place in 0..fields.len() {
         let field = fields.get(place);
         keys.intern(field.key().to_text(alloc)?)?;

@@ -5,6 +5,7 @@ ghost use Rattle.cal_read.specs.UsualColumns.{HasNode, HasNumber};
 
 use crate::in_turn::InTurn;
 use cal_context::{AttributeNumber, NodeNumber};
+use cal_seeds::Seeds;
 use cal_value::{Kind, OutOfMemory};
 use indexmap::IndexMap;
 use std::alloc::Global;
@@ -33,17 +34,17 @@ pub(crate) struct Held {
 pub(crate) struct Nodes {
     in_turn: InTurn,
     // the others
-    map: IndexMap<u64, Held>,
+    map: IndexMap<u64, Held, Seeds>,
 }
 
 impl Nodes {
-    /// No node. It takes no memory.
-    pub(crate) fn new(alloc: Global) -> Nodes
+    /// No node, where ids that don't come in turn are hashed by seeds. It takes no memory.
+    pub(crate) fn new(alloc: Global, seeds: Seeds) -> Nodes
         ensures { (id : ℕ) → held_at result id ≡ None }
     {
         Nodes {
             in_turn: InTurn::new(alloc),
-            map: IndexMap::new(alloc),
+            map: IndexMap::with_hasher(alloc, seeds),
         }
     }
 

@@ -3,6 +3,7 @@ ghost use Rattle.cal_line.specs.Lines.{lines_of};
 
 use crate::{StreamEnd, StreamReader};
 use cal_context::{Context, Taken, expand};
+use cal_seeds::Seeds;
 use cal_value::{OutOfMemory, Rec, Seq};
 use std::alloc::Global;
 use std::mem;
@@ -21,12 +22,20 @@ impl Reader {
     ghost use Rattle.cal_read.specs.Owned.{AppendsRows, HasReadOwned, IsOwnedReady, IsOwnedRefused};
     ghost use Rattle.cal_read.specs.Reading.{Ends, IsRefusalOf, rows_before, rows_of_lines};
 
-    /// The reader of no bytes.
+    /// The reader of no bytes. What the stream chooses is hashed by numbers that everybody knows.
     pub fn new(alloc: Global) -> Result<Reader, OutOfMemory>
         ensures read { IfOk result (λ reader. HasReadOwned reader []) }
         ensures ready { IfOk result IsOwnedReady }
     {
-        let mut context = Context::new(alloc);
+        Reader::seeded(alloc, Seeds::fixed())
+    }
+
+    /// The reader of no bytes, where what the stream chooses is hashed by the seeds of a run.
+    pub fn seeded(alloc: Global, seeds: Seeds) -> Result<Reader, OutOfMemory>
+        ensures read { IfOk result (λ reader. HasReadOwned reader []) }
+        ensures ready { IfOk result IsOwnedReady }
+    {
+        let mut context = Context::seeded(alloc, seeds);
         let reader = StreamReader::new(alloc, &mut context)?;
         Ok(Reader {
             alloc,

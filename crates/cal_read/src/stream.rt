@@ -239,7 +239,7 @@ impl Stream {
             (standing T.has_taken context.old self.old taker.old)
             (standing T.has_taken context.new self.new taker.new) result }
     {
-        if repeats_key(alloc, fields)? {
+        if repeats_key(alloc, context.seeds(), fields)? {
             return Err(LineEnd::Bad(StreamKind::BadField));
         }
         match sort_of(alloc, fields)? {

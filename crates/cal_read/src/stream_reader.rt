@@ -36,7 +36,8 @@ impl StreamReader {
     ghost use Rattle.cal_read.specs.Reading.{IsRefused, ReadsOn, TakesBytes, TakesEnd};
     ghost use Rattle.cal_read.specs.Stream.{IsStream};
 
-    /// The reader of no bytes, whose context has the built-in nodes.
+    /// The reader of no bytes, whose context has the built-in nodes. What the stream chooses is hashed
+    /// by the seeds of the context.
     pub fn new(alloc: Global, context: &mut Context) -> Result<StreamReader, OutOfMemory>
         ensures grows { Grows context.old context.new }
         ensures read { IfOk result (λ reader. HasRead reader context.new []) }

@@ -3,6 +3,11 @@ use Rattle.std.specs.Prelude.{ℕ, zero, suc, ◌+◌, ◌-◌, ◌*◌, ◌/◌
 use Rattle.std.specs.Prelude.{if◌then◌else◌, nat_le, bit_xor}
 use Rattle.std.specs.Hash.FoldHasher.{folded_multiply, read_u64, read_short}
 use Rattle.cal_seeds.specs.declared.hasher.SeededHasher.{SeededHasher}
+use Rattle.cal_seeds.specs.declared.seeds.Seeds.{Seeds}
+
+-- a word, mixed by two seeds
+abbrev pub mixed : Seeds → ℕ → ℕ
+mixed seeds word = folded_multiply (bit_xor word seeds.start) seeds.factor
 
 -- the state after the words at i and at j
 abbrev pub mix : List ℕ → ℕ → ℕ → ℕ → ℕ → ℕ

@@ -1,13 +1,17 @@
 //! The two numbers by which the maps of a run hash.
 
+ghost use Rattle.std.specs.Prelude.{◌≡◌};
+ghost use Rattle.cal_seeds.specs.Seeds as hash;
+
 use crate::SeededHasher;
+use crate::reading::folded_multiply;
 use std::hash::{BuildHasher, RandomState};
 
 /// Two numbers by which the maps of a run hash: where a hash starts, and by what it is multiplied.
 #[derive(Clone, Copy, Debug, Drop)]
 pub struct Seeds {
-    pub(crate) start: u64,
-    pub(crate) factor: u64,
+    pub start: u64,
+    pub factor: u64,
 }
 
 impl Seeds {
@@ -17,6 +21,24 @@ impl Seeds {
             start: hashers.hash_one(0u64),
             factor: hashers.hash_one(1u64) | 1,
         }
+    }
+
+    /// The same two numbers for everybody, which stand in the library's own hasher too: for a map
+    /// whose keys nobody chooses, and for a caller that has no run.
+    #[inline(always)]
+    pub fn fixed() -> Seeds {
+        Seeds {
+            start: 0x243f_6a88_85a3_08d3,
+            factor: 0x9e37_79b9_7f4a_7c15,
+        }
+    }
+
+    /// A word that is mixed by the seeds: for a hasher of a key's own.
+    #[inline(always)]
+    pub fn mixed(&self, word: u64) -> u64
+        ensures { result ≡ hash.mixed self.now word }
+    {
+        folded_multiply(word ^ self.start, self.factor)
     }
 }
 

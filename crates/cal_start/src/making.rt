@@ -11,6 +11,7 @@ use cal_process::Common;
 use cal_replay::Shared;
 use cal_run::Numbers;
 use cal_script::Script;
+use cal_seeds::Seeds;
 use cal_table::{Book, BookSeat, TableShape};
 use cal_value::OutOfMemory;
 use std::alloc::Global;
@@ -35,7 +36,7 @@ impl<'a> Run<'a> {
     {
         let (common, tree, log) = Common::new(alloc, script)?;
         let shared = Shared::new(common, real);
-        let mut context = Context::new(alloc);
+        let mut context = Context::seeded(alloc, Seeds::of(&hashers));
         let numbers = Numbers::of(alloc, script, &mut context)?;
         let shapes = shapes_of(alloc, hashers, script, &context)?;
         let threads = script.threads.len() as u32;

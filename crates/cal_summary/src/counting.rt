@@ -5,16 +5,21 @@ ghost use Rattle.cal_script.specs.Valid.{IsRunnable};
 use cal_context::Context;
 use cal_run::{Numbers, PlainCounts, count_plain};
 use cal_script::Script;
+use cal_seeds::Seeds;
 use cal_value::OutOfMemory;
 use std::alloc::Global;
 
 /// What boards hold and channels take in the run of the threads one after another, counted in a
 /// context of its own.
-pub(crate) fn count_run(alloc: Global, script: &Script) -> Result<PlainCounts, OutOfMemory>
+pub(crate) fn count_run(
+    alloc: Global,
+    seeds: Seeds,
+    script: &Script,
+) -> Result<PlainCounts, OutOfMemory>
     requires { IsRunnable script.now }
     ensures { IfOk result (IsCounted script.now) }
 {
-    let mut context = Context::new(alloc);
+    let mut context = Context::seeded(alloc, seeds);
     let numbers = Numbers::of(alloc, script, &mut context)?;
     count_plain(alloc, script, &numbers, &mut context)
 }

@@ -7,17 +7,22 @@ use cal_context::Context;
 use cal_records::{put_globals, take_plain_run};
 use cal_run::Numbers;
 use cal_script::Script;
+use cal_seeds::Seeds;
 use cal_value::OutOfMemory;
 use cal_write::{Measure, Measurer};
 use std::alloc::Global;
 
 /// How many rows the run of the threads one after another has, and how many bytes the text of its
 /// records, of which nothing is kept.
-pub(crate) fn measure_run(alloc: Global, script: &Script) -> Result<Measure, OutOfMemory>
+pub(crate) fn measure_run(
+    alloc: Global,
+    seeds: Seeds,
+    script: &Script,
+) -> Result<Measure, OutOfMemory>
     requires { IsRunnable script.now }
     ensures { IfOk result (IsMeasured script.now) }
 {
-    let mut context = Context::new(alloc);
+    let mut context = Context::seeded(alloc, seeds);
     let numbers = Numbers::of(alloc, script, &mut context)?;
     measure_in(alloc, script, &numbers, &mut context)
 }

@@ -8,6 +8,7 @@ use crate::counting::{count_lines, count_run};
 use crate::measuring::measure_run;
 use cal_run::PlainCounts;
 use cal_script::Script;
+use cal_seeds::Seeds;
 use cal_value::OutOfMemory;
 use cal_write::Measure;
 use std::alloc::Global;
@@ -31,10 +32,12 @@ pub struct Summary {
 
 /// How large the run of the threads one after another is, of whose journal nothing is kept. What
 /// channels take and boards hold is counted while the text is measured. Each takes time in the
-/// lines, as the writing of the text does, which isn't kept either.
+/// lines, as the writing of the text does, which isn't kept either. What the script chooses is hashed
+/// by the seeds.
 pub fn summarize<R: Threads + Sync>(
     rt: &R,
     alloc: Global,
+    seeds: Seeds,
     script: &Script,
 ) -> Result<Summary, OutOfMemory>
     requires { IsRunnable script.now }
@@ -45,11 +48,11 @@ pub fn summarize<R: Threads + Sync>(
         || -> Result<PlainCounts, OutOfMemory>
             requires { IsRunnable script.now }
             ensures { IfOk result (IsCounted script.entry.now) }
-        { count_run(alloc, script) },
+        { count_run(alloc, seeds, script) },
         || -> Result<Measure, OutOfMemory>
             requires { IsRunnable script.now }
             ensures { IfOk result (IsMeasured script.entry.now) }
-        { measure_run(alloc, script) },
+        { measure_run(alloc, seeds, script) },
     );
     Ok(summary_by(script, counts?, measure?))
 }

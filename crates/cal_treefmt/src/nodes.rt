@@ -57,7 +57,7 @@ impl Nodes {
             nodes.of_rows.items
             (map hierarchy (map (meant numbers.now) (in_order rows.now order.now)))) }
     {
-        let mut context = Context::new(alloc);
+        let mut context = Context::seeded(alloc, numbers.seeds());
         let of_rows = add_numbered(alloc, &mut context, numbers, rows, order)?;
         Ok(Nodes { context, of_rows })
     }

@@ -10,6 +10,7 @@ use crate::triggers::{MainTrigger, SlowTrigger};
 use cal_base::Source;
 use cal_ql::Query;
 use cal_query::{RowsEnd, guarded_text};
+use cal_seeds::Seeds;
 use cal_trigger::Triggers;
 use cal_value::Text;
 use std::alloc::Global;
@@ -23,10 +24,11 @@ pub enum TriggerName {
 
 /// What a query prints of those rows of the stream that an input has left, at most `limit` bytes,
 /// which the trigger of this name lets through. It is asked about a row as it was read, before LET.
-/// Time and memory are those of `guarded_text`; the trigger's function is called once for each node
+/// Time, memory and seeds are those of `guarded_text`; the trigger's function is called once for each node
 /// of the condition's name, and for each immediate of that name in a row.
 pub fn watched_text<S: Source>(
     alloc: Global,
+    seeds: Seeds,
     input: &mut S,
     limit: u64,
     query: &Query,
@@ -47,11 +49,11 @@ pub fn watched_text<S: Source>(
     match name {
         TriggerName::Main => {
             let guard = ConditionGuard::new(alloc, MainTrigger { triggers });
-            guarded_text(alloc, input, limit, guard, query)
+            guarded_text(alloc, seeds, input, limit, guard, query)
         }
         TriggerName::Slow => {
             let guard = ConditionGuard::new(alloc, SlowTrigger { triggers });
-            guarded_text(alloc, input, limit, guard, query)
+            guarded_text(alloc, seeds, input, limit, guard, query)
         }
     }
 }

@@ -17,6 +17,7 @@ use cal_ran::{EndedRun, run_script};
 use cal_records::put_globals;
 use cal_run::{Numbers, Prober};
 use cal_script::{Journal, Script};
+use cal_seeds::Seeds;
 use cal_valid::valid_script_law;
 use cal_value::{OutOfMemory, Records};
 use std::alloc::Global;
@@ -109,7 +110,14 @@ fn ended_records(
 {
     valid_script_law();
     let records = expanded(alloc, script, ended)?;
-    match count(alloc, script, &ended.journal, records.rows.len() as u64) {
+    let seeds = ended.context.seeds();
+    match count(
+        alloc,
+        seeds,
+        script,
+        &ended.journal,
+        records.rows.len() as u64,
+    ) {
         Ok(counts) => Ok((records, counts)),
         Err(error) => Err(error),
     }
@@ -138,6 +146,7 @@ fn expanded(
 /// The counts of a run by its journal, whose records have so many rows.
 fn count(
     alloc: Global,
+    seeds: Seeds,
     script: &Script,
     journal: &Journal,
     rows: u64,
@@ -148,7 +157,7 @@ fn count(
     ensures { IfOk result (HasCounts script.now journal.now) }
 {
     run_rows_law();
-    let mut context = Context::new(alloc);
+    let mut context = Context::seeded(alloc, seeds);
     let numbers = Numbers::of(alloc, script, &mut context)?;
     let nodes = count_nodes(alloc, script, journal, &numbers, &mut context)?;
     Ok(Counts {

@@ -4,6 +4,7 @@ use crate::out_of_memory;
 use cal_base::{Sink, Source};
 use cal_call::Outcome;
 use cal_call_watch::run_watch;
+use cal_seeds::Seeds;
 use cal_trigger::{Trigger, Triggers, is_in_main, is_slow, main_conditions, slow_conditions};
 use cal_value::OutOfMemory;
 use std::alloc::Global;
@@ -13,12 +14,13 @@ use std::process::ExitCode;
 /// `time.duration.ns>=1000`, and gives the status; where memory for these is refused, it tells so.
 pub fn watch<S: Source, W: Sink, E: Sink>(
     alloc: Global,
+    seeds: Seeds,
     words: &[String],
     input: &mut S,
     output: &mut W,
     errors: &mut E,
 ) -> ExitCode {
-    match outcome_of(alloc, words, input, output, errors) {
+    match outcome_of(alloc, seeds, words, input, output, errors) {
         Ok(outcome) => ExitCode::from(outcome.status),
         Err(_) => out_of_memory(errors),
     }
@@ -27,6 +29,7 @@ pub fn watch<S: Source, W: Sink, E: Sink>(
 /// How the call with these triggers ended. An `Err` is want of memory before anything was read.
 fn outcome_of<S: Source, W: Sink, E: Sink>(
     alloc: Global,
+    seeds: Seeds,
     words: &[String],
     input: &mut S,
     output: &mut W,
@@ -37,5 +40,5 @@ fn outcome_of<S: Source, W: Sink, E: Sink>(
     let main = Trigger::new(main, is_in_main);
     let slow = Trigger::new(slow, is_slow);
     let triggers = Triggers::new(main, slow);
-    Ok(run_watch(alloc, words, input, output, errors, &triggers))
+    Ok(run_watch(alloc, seeds, words, input, output, errors, &triggers))
 }

@@ -5,6 +5,7 @@ use cal_context::{
     Context, Immediate, Interner, Link, NodeNumber, Snapshot, Taken, Taker, ValueNumber, expand,
     growth_is_an_order, numbers_stay,
 };
+use cal_seeds::Seeds;
 use cal_value::{Attribute, Entry, Kind, OutOfMemory, Props, Rec, Seq, Text, Variant};
 use std::alloc::Global;
 use std::process::Abort;
@@ -142,6 +143,25 @@ fn a_link_finds_its_node(rt: HostRuntime) {
     all_hold(&rt, wrong_node(rt.alloc(), &mut context));
     all_hold(&rt, wrong_find(&mut context));
     is_count(&rt, context.node_count(), 6);
+    drop(context);
+}
+
+/// Seeds of a run.
+fn seeds() -> Seeds {
+    Seeds {
+        start: 5,
+        factor: 7,
+    }
+}
+
+#[test]
+fn other_seeds_give_the_same_nodes(rt: HostRuntime) {
+    let mut context = Context::seeded(rt.alloc(), seeds());
+    all_hold(&rt, wrong_node(rt.alloc(), &mut context));
+    all_hold(&rt, Ok(wrong_link(&context)));
+    all_hold(&rt, wrong_find(&mut context));
+    is_count(&rt, context.node_count(), 6);
+    is_count(&rt, context.value_count(), 2);
     drop(context);
 }
 
@@ -302,6 +322,14 @@ fn an_interner_numbers_each_item_once(rt: HostRuntime) {
     words.truncate(1);
     assert_eq!(rt; has_number(rt.alloc(), &mut words, "c", 1), Ok(true));
     is_count(&rt, words.as_slice().len(), 2);
+    drop(words);
+}
+
+#[test]
+fn other_seeds_give_the_same_numbers(rt: HostRuntime) {
+    let mut words = Interner::seeded(rt.alloc(), seeds());
+    all_hold(&rt, wrong_word(rt.alloc(), &mut words));
+    is_count(&rt, words.as_slice().len(), 3);
     drop(words);
 }
 

@@ -16,6 +16,8 @@ mod limits;
 #[cfg(test)]
 mod pieces;
 #[cfg(test)]
+mod seeds;
+#[cfg(test)]
 mod shown;
 #[cfg(test)]
 mod usual;

@@ -8,6 +8,7 @@ use cal_lawful::check_journal;
 use cal_ran::run_script;
 use cal_run::Formulas;
 use cal_script::{Journal, JournalText, Script};
+use cal_seeds::Seeds;
 use std::alloc::Global;
 use std::hash::RandomState;
 use std::thread::Threads;
@@ -56,7 +57,7 @@ fn is_lawful_text(alloc: Global, script: &Script, text: &str) -> bool
     requires { IsRunnable script.now }
 {
     match read_journal(alloc, text) {
-        Some(journal) => check_journal(alloc, script, &journal).is_ok(),
+        Some(journal) => check_journal(alloc, Seeds::fixed(), script, &journal).is_ok(),
         None => false,
     }
 }

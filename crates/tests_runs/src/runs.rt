@@ -7,6 +7,7 @@ use cal_journal::{JournalKind, read_both};
 use cal_lawful::{CoreEnd, run_serial};
 use cal_run::{Numbers, PlainCounts, count_plain};
 use cal_script::{JournalText, Script, read_script};
+use cal_seeds::Seeds;
 use cal_summary::summarize;
 use cal_valid::valid_script_law;
 use cal_value::OutOfMemory;
@@ -145,7 +146,7 @@ fn a_plain_run_is_counted(rt: HostRuntime) -> Result<(), Fail> {
 #[test]
 fn a_plain_run_is_summed_up(rt: HostRuntime) -> Result<(), Fail> {
     let script = runnable(rt.alloc(), NESTED)?;
-    let summary = summarize(&rt, rt.alloc(), &script);
+    let summary = summarize(&rt, rt.alloc(), Seeds::fixed(), &script);
     drop(script);
     let summary = summary?;
     assert!(rt; summary.threads == 1 && summary.lines == 7 && summary.nodes == 2);

@@ -5,6 +5,7 @@
 
 use cal_base::{MemSink, MemSource};
 use cal_call_watch::run_watch;
+use cal_seeds::Seeds;
 use cal_trigger::{Trigger, Triggers, is_in_main, is_slow, main_conditions, slow_conditions};
 use cal_value::{OutOfMemory, Seq};
 use std::alloc::Global;
@@ -58,6 +59,7 @@ fn status_by(alloc: Global, words: &[String], streams: &mut Streams) -> Option<u
     let slow = Trigger::new(slow, is_slow);
     let outcome = run_watch(
         alloc,
+        Seeds::fixed(),
         words,
         &mut streams.input,
         &mut streams.output,

@@ -9,6 +9,7 @@ use cal_counts::{count_nodes, count_snapshots, count_traced, run_rows_law};
 use cal_lawful::check_journal;
 use cal_run::{Numbers, plain_journal, plain_journal_law};
 use cal_script::{Journal, JournalText, Script};
+use cal_seeds::Seeds;
 use cal_value::OutOfMemory;
 use std::alloc::Global;
 use std::test::Fail;
@@ -121,7 +122,7 @@ fn plain_counts(alloc: Global, script: &Script) -> Option<Counts>
 fn lawful_counts(alloc: Global, script: &Script, text: &JournalText) -> Option<Counts>
     requires { IsRunnable script.now }
 {
-    match check_journal(alloc, script, text) {
+    match check_journal(alloc, Seeds::fixed(), script, text) {
         Ok(()) => counts_of(alloc, script, &text.journal),
         Err(_) => None,
     }

@@ -4,6 +4,7 @@ ghost use Rattle.cal_script.specs.Valid.{IsRunnable};
 use crate::scripts::{IN_TURN, SHARED, TOO_EARLY, journal_of, runnable};
 use cal_lawful::{CoreEnd, check_journal};
 use cal_script::{JournalText, Script};
+use cal_seeds::Seeds;
 use cal_world::{Event, schedule};
 use std::alloc::Global;
 use std::test::Fail;
@@ -17,7 +18,7 @@ fn has_events(
 ) -> Result<bool, CoreEnd>
     requires { IsRunnable script.now }
 {
-    check_journal(alloc, script, text)?;
+    check_journal(alloc, Seeds::fixed(), script, text)?;
     let events = schedule(alloc, script, &text.journal)?;
     Ok(events.as_slice() == wanted)
 }

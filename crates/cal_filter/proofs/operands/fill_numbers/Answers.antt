@@ -5,30 +5,35 @@ use Rattle.std.proofs.lemmas.List.Elements.{All-push}
 use Rattle.cal_agg.specs.Numbers.{IsSmall}
 use Rattle.cal_context.specs.Snapshots.{meaning}
 use Rattle.cal_value.specs.Flat.{flat}
-use Rattle.cal_filter.specs.Known.{KnowsAll, sought}
+use Rattle.cal_filter.specs.Known.{sought}
+use Rattle.cal_filter.specs.Latest.{IsReadyOperand}
 use Rattle.cal_filter.specs.Sought.{number_sought}
+use Rattle.cal_filter.proofs.NamedLemmas.{operand_at}
 use Rattle.cal_filter.proofs.ReadyLemmas.{map_more}
 use Rattle.cal_filter.proofs.operands.fill_numbers.Goals as goal
 
-pub loop-seeker-preserved : goal.loop-seeker-preserved
-loop-seeker-preserved c =
-    let i = c.loop-seeker.seeker-index in
+pub loop-place-preserved : goal.loop-place-preserved
+loop-place-preserved c =
+    let t = c.args.context.now in
+    let l = c.args.latest.now in
+    let imms = c.args.snapshot.now.imms.items in
+    let i = c.loop-place.place in
+    let s = c.index-seekers-place.result in
     let short : i < length c.args.seekers.now = omega arith in
     record {
       few = ap length c.in_ok-push.ensures.items
-          ∙ length-append c.loop-seeker.numbers.items (c.number_found-number.result ∷ [])
-          ∙ ap (λ n. n + 1) c.loop-seeker.invariant.few;
+          ∙ length-append c.loop-place.numbers.items (c.number_found-number.result ∷ [])
+          ∙ ap (λ n. n + 1) c.loop-place.invariant.few;
       small = rw c.in_ok-push.ensures.items
-          (All-push (λ number. ForSome number IsSmall) c.loop-seeker.numbers.items
-          c.number_found-number.result c.loop-seeker.invariant.small
+          (All-push (λ number. ForSome number IsSmall) c.loop-place.numbers.items
+          c.number_found-number.result c.loop-place.invariant.small
           c.number_found-number.ensures.small);
       found = λ k small.
-          let knows = subst (KnowsAll c.args.context.now) (sym c.seeker-item.is)
-          (k i c.seeker-item.result short) in
+          let ready = subst (IsReadyOperand t l imms s) (sym c.name_at-name.ensures)
+          (operand_at t l imms c.args.seekers.now c.args.names.now i s k short c.index-seekers-place.is) in
           c.in_ok-push.ensures.items
-          ∙ (λ j. c.loop-seeker.invariant.found k small j
-          ++ c.number_found-number.ensures.found knows small j ∷ [])
+          ∙ (λ j. c.loop-place.invariant.found k small j
+          ++ c.number_found-number.ensures.found ready small j ∷ [])
           ∙ sym (map_more (λ s. number_sought (sought s)
-          (flat (meaning c.args.context.now c.args.snapshot.now))) c.args.seekers.now i
-          c.seeker-item.result short c.seeker-item.is);
+          (flat (meaning t c.args.snapshot.now))) c.args.seekers.now i s short c.index-seekers-place.is);
     }

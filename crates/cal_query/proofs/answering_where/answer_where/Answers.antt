@@ -4,7 +4,7 @@ use Rattle.cal_query.proofs.answering_where.answer_where.Goals as goal
 pub see_rows-requires : goal.see_rows-requires
 see_rows-requires g c = record {
   answers = c.requires.answers _;
-  taken = c.in_ok-context.ensures;
+  taken = c.in_ok-context.ensures.none;
 }
 
 pub returns-clause-answer : goal.returns-clause-answer

@@ -3,4 +3,4 @@ use Rattle.cal_context.proofs.link_hasher.LinkHasherHasher.finish.Goals as goal
 
 pub returns : goal.returns
 unfolding finish
-returns c = rw (c.mixed-page.ensures, c.mixed-start.ensures)
+returns c = rw (c.mixed-page.ensures, c.mixed-group.ensures)

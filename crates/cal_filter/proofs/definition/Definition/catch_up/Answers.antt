@@ -14,11 +14,12 @@ returns c =
     let new : Definition = record {
       operator = old.operator;
       seekers = with_items old.seekers seekers;
+      names = old.names;
       attributes = old.attributes;
     } in
     on_ok (AllZip (CatchesUp t) c.deref_mut.result.now seekers) (DefinitionCatchesUp t old new)
     c.catch_up_all.result
-    (λ zip. definition_catches_up t old new refl refl
+    (λ zip. definition_catches_up t old new refl refl refl
     (written (CatchesUp t) old.seekers c.deref_mut.result.now seekers c.deref_mut.ensures.value
     c.deref_mut.ensures.len zip))
     c.catch_up_all.ensures

@@ -1,3 +1,4 @@
+use Rattle.std.proofs.Common.{refl}
 use Rattle.std.specs.Vec.{with_items}
 use Rattle.cal_filter.specs.Replaced.{ConditionCatchesUp, DefinitionCatchesUp}
 use Rattle.cal_filter.specs.declared.filter.Filter.{Filter}
@@ -13,6 +14,7 @@ returns c =
     let new : Filter = record {
       alloc = old.alloc;
       definitions = with_items old.definitions definitions;
+      latest = old.latest;
       conditions = with_items old.conditions conditions;
       known = c.of-self.result;
       numbers = old.numbers;
@@ -22,7 +24,7 @@ returns c =
     c.deref_mut.ensures.value c.deref_mut.ensures.len c.in_ok-know_definitions.ensures)
     (written (ConditionCatchesUp t) old.conditions c.deref_mut-2.result.now conditions
     c.deref_mut-2.ensures.value c.deref_mut-2.ensures.len c.in_ok-know_conditions.ensures)
-    c.of-self.ensures.attributes c.of-self.ensures.nodes h
+    c.of-self.ensures.attributes c.of-self.ensures.nodes refl h
 
 pub returns-then-covers : goal.returns-then-covers
 returns-then-covers c = λ q h. filter_covered c.args.context.now q c.args.self.now (c.covers.ensures.covers c.if-covers.true) h

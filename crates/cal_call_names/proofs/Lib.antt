@@ -1,0 +1,5 @@
+mod Ordering
+mod Replies
+mod ShownLists
+mod Agreeing
+mod Deciding

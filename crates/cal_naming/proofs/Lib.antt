@@ -1,0 +1,14 @@
+pub mod Lists
+pub mod Names
+pub mod Apart
+pub mod Slots
+pub mod Refusals
+pub mod Telling
+pub mod Hiring
+pub mod Working
+pub mod Joining
+pub mod Settling
+pub mod Listing
+pub mod Threads
+pub mod Marking
+pub mod Whole
