@@ -130,7 +130,7 @@ fn is_answered<R: Threads + Sync + RandomSource>(
         text,
         told: "",
     };
-    word_is_served(rt, alloc, word, 2000, &served)
+    word_is_served(rt, alloc, word, 8000, &served)
 }
 
 #[test]
