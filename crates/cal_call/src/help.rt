@@ -23,6 +23,10 @@ usage: caliper COMMAND < INPUT > OUTPUT
     watch --trigger=main|slow [--q=TEXT]
                 the same over those rows that a stored trigger lets through: main those with
                 function=main, slow those with time.duration.ns>=1000, as they were read
+    files --in=NAME [--in=NAME ..] [--q=TEXT]
+                reads up to 64 .cali streams, one for each process of a run, each from the file of
+                its name, folds them side by side, and writes the answer of the query TEXT over the
+                rows of all, in the order of the files
     names       reads what threads declare, has a thread for each declare its names, and writes
                 what stands for each name, in byte order: the first declaration of it that came
     gen --seed=N --threads=N --lines=N [--print=script|summary]

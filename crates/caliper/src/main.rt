@@ -1,30 +1,35 @@
 //! The program `caliper`: it lends its runtime, its words, its clocks, its probes, its triggers and
 //! its standard streams to the top call that the first word picks.
 //!
-//! What is promised of a run stands in `cal_call`, `cal_call_watch` and `cal_call_names`, which are
-//! handed on here. What standard input holds, where standard output leads and what the machine's
-//! clock shows, no contract can say.
+//! What is promised of a run stands in `cal_call`, `cal_call_watch`, `cal_call_names` and
+//! `cal_call_files`, which are handed on here. What standard input and files hold, where standard
+//! output leads and what the machine's clock shows, no contract can say.
 #![tactic(auto)]
 
 mod clocks;
+mod filing;
 mod naming;
 mod probes;
+mod serving;
 mod watching;
 mod words;
 
-use crate::clocks::clocks_of;
+use crate::filing::file;
 use crate::naming::name;
-use crate::probes::{count_of, depth_of};
+use crate::serving::serve_words;
 use crate::watching::watch;
 use crate::words::words_of;
-use cal_base::{OpenGate, Sink, StdSink, StdSource};
+use cal_base::{Sink, StdSink, StdSource};
 pub use cal_call::{
     Command, Fault, INPUT_LIMIT, InputKind, Outcome, Print, RunText, UsedJournal, WordsEnd, about,
     put_fault, read_words, run, run_text, serve, written_journal_law,
 };
+pub use cal_call_files::{
+    FilesCommand, FilesFault, FilesOutcome, asks_for_files, put_files_fault, read_files_words,
+    run_files,
+};
 pub use cal_call_names::{NameReply, NamesOutcome, asks_for_names, read_names_words, run_names};
 pub use cal_call_watch::{TriggerName, WatchCommand, asks_to_watch, read_watch_words, run_watch};
-use cal_probe::{Probe, ProbeKind, Probes};
 use cal_seeds::Seeds;
 use std::hash::RandomState;
 use std::process::ExitCode;
@@ -55,23 +60,13 @@ fn main(rt: HostRuntime) -> ExitCode {
             &mut errors,
         );
     }
-    let Ok(mut clocks) = clocks_of(rt.alloc(), &rt) else {
-        return out_of_memory(&mut errors);
-    };
-    let depth = Probe::new(ProbeKind::Depth, depth_of);
-    let count = Probe::new(ProbeKind::Count, count_of);
-    serve(
-        &rt,
-        rt.alloc(),
-        hashers,
-        words,
-        &mut input,
-        &mut output,
-        &mut errors,
-        &mut clocks,
-        &OpenGate,
-        &Probes::new(depth, count),
-    )
+    if let Ok(words) = &words
+        && asks_for_files(words.as_slice())
+    {
+        let seeds = Seeds::of(&hashers);
+        return file(&rt, seeds, words.as_slice(), &mut output, &mut errors);
+    }
+    serve_words(&rt, hashers, words, &mut input, &mut output, &mut errors)
 }
 
 /// Tells that memory ran out, and gives the status of that.
