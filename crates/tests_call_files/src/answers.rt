@@ -36,12 +36,7 @@ static OTHERS: [Row; 8] = [
         0,
     ),
     (&["files", "--in=none"], "", "", 0),
-    (
-        &["files", "--in=none", "--in=none", COUNTS],
-        "",
-        "",
-        0,
-    ),
+    (&["files", "--in=none", "--in=none", COUNTS], "", "", 0),
     (
         &["files", "--in=other", "--in=one", COUNTS],
         "path=other,count=1\npath=main,count=1\n",
@@ -60,12 +55,7 @@ static OTHERS: [Row; 8] = [
         "",
         0,
     ),
-    (
-        &["files", "--in=one", "--q="],
-        "function=main\n",
-        "",
-        0,
-    ),
+    (&["files", "--in=one", "--q="], "function=main\n", "", 0),
 ];
 
 fn worked() -> &'static [Row] {

@@ -50,7 +50,13 @@ static FAULTY: [Row; 7] = [
         3,
     ),
     (
-        &["files", "--in=one", "--in=none", "--in=faulty", "--q=select path format tree"],
+        &[
+            "files",
+            "--in=one",
+            "--in=none",
+            "--in=faulty",
+            "--q=select path format tree",
+        ],
         "",
         "caliper: file 3: line 3: UnknownNode\n",
         3,
@@ -72,7 +78,12 @@ static FAILING: [Row; 2] = [
         "caliper: file 2: cannot open\n",
         9,
     ),
-    (&["files", "--in=bad"], "", "caliper: file 1: line 1: UnknownNode\n", 3),
+    (
+        &["files", "--in=bad"],
+        "",
+        "caliper: file 1: line 1: UnknownNode\n",
+        3,
+    ),
 ];
 
 /// The third read fails: of files with text the first of the second one.

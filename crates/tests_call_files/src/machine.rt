@@ -21,12 +21,25 @@ fn status_of<R: Threads + Sync + AllocGlobal + Files>(rt: &R, words: &[&str]) ->
 
 #[test]
 fn files_of_the_machine_are_asked(rt: HostRuntime) -> Result<(), Fail> {
-    fs::write(&rt, "good.cali", "__rec=node,id=12,attr=10,data=276,parent=3\n")?;
+    fs::write(
+        &rt,
+        "good.cali",
+        "__rec=node,id=12,attr=10,data=276,parent=3\n",
+    )?;
     fs::write(&rt, "bad.cali", "__rec=ctx,ref=12\n")?;
-    assert_eq!(rt; status_of(&rt, &["files", "--in=good.cali", "--in=good.cali"]), Some(0));
-    assert_eq!(rt; status_of(&rt, &["files", "--in=good.cali", "--in=bad.cali"]), Some(3));
+    assert_eq!(rt;
+        status_of(&rt, &["files", "--in=good.cali", "--in=good.cali"]),
+        Some(0)
+    );
+    assert_eq!(rt;
+        status_of(&rt, &["files", "--in=good.cali", "--in=bad.cali"]),
+        Some(3)
+    );
     assert_eq!(rt; status_of(&rt, &["files", "--in=."]), Some(5));
-    assert_eq!(rt; status_of(&rt, &["files", "--in=bad.cali", "--in=no.cali"]), Some(9));
+    assert_eq!(rt;
+        status_of(&rt, &["files", "--in=bad.cali", "--in=no.cali"]),
+        Some(9)
+    );
     assert_eq!(rt; status_of(&rt, &["files", "--in="]), Some(9));
     Ok(())
 }
