@@ -1,0 +1,4 @@
+mod Deciding
+mod Fewness
+mod FirstBad
+mod SameFiles
