@@ -1,0 +1,2 @@
+mod Fewness
+mod Naming
