@@ -1,6 +1,7 @@
 -- Words that ask for something name few files.
-use Rattle.std.proofs.Common.{◌≡◌, ℕ, ◌+◌, ◌≤◌, Bool, true, false, List, [], ◌∷◌, length, nat_lt, if◌then◌else◌}
-use Rattle.std.proofs.Common.{Option, None, Some, Result, Ok, Err, IfOk, refl, sym, subst, arith, lit≤}
+use Rattle.std.proofs.Common.{◌≡◌, ℕ, ◌+◌, ◌≤◌, Bool, true, false, List, [], ◌∷◌, length, nat_lt}
+use Rattle.std.proofs.Common.{Option, None, Some, Result, Ok, Err, IfOk, if◌then◌else◌}
+use Rattle.std.proofs.Common.{refl, sym, subst, arith, lit≤}
 use Rattle.std.specs.Prelude.{String, map, string_bytes, is_some, codes}
 use Rattle.std.specs.Global.{Global}
 use Rattle.std.specs.List.{cons_option}
@@ -9,7 +10,7 @@ use Rattle.std.specs.Str.{bytes_eq}
 use Rattle.std.proofs.lemmas.Bool.{ltb-true}
 use Rattle.std.proofs.lemmas.Slice.Eq.{bytes_eq-Decides}
 use Rattle.cal_call.specs.Words.{given_once, q_text}
-use Rattle.cal_call_files.specs.Words.{asked, command_of, files_from, files_of, in_name, names_in}
+use Rattle.cal_call_files.specs.Words.{asked, command_of, files_of, in_name, names_in}
 use Rattle.cal_call_files.specs.Words.{names_of, no_options, with_file, with_q}
 use Rattle.cal_call_files.specs.declared.options.FilesOptions.{FilesOptions}
 use Rattle.cal_call_files.specs.declared.words.FilesCommand.{FilesCommand}
@@ -31,7 +32,8 @@ GoesOn rest names =
 module _ (rest : FilesOptions → Result FilesCommand ℕ) (place : ℕ) (o : FilesOptions)
     (names : List (List ℕ)) (few : o.files ≤ 64) (go : GoesOn rest names) where
   file_few : (name : List ℕ) (fits : Bool) → nat_lt o.files 64 ≡ fits
-      → HaveFew (option_map_or rest (if fits then Some (record { files = o.files + 1; q = o.q }) else None) (Err place))
+      → HaveFew (option_map_or rest
+      (if fits then Some (record { files = o.files + 1; q = o.q }) else None) (Err place))
       (o.files + length (name ∷ names))
   file_few name true is =
       let next : FilesOptions = record { files = o.files + 1; q = o.q } in
@@ -41,12 +43,15 @@ module _ (rest : FilesOptions → Result FilesCommand ℕ) (place : ℕ) (o : Fi
   file_few name false is = tt
 
   q_few : (before : Option ℕ)
-      → HaveFew (option_map_or rest (with_q o (given_once before place)) (Err place)) (o.files + length names)
+      → HaveFew (option_map_or rest (with_q o (given_once before place)) (Err place))
+      (o.files + length names)
   q_few None = go (record { files = o.files; q = Some place }) few
   q_few (Some before) = tt
 
   word_few : (name q : Option (List ℕ))
-      → HaveFew (option_map_or rest (if is_some name then with_file o else (if is_some q then with_q o (given_once o.q place) else None)) (Err place))
+      → HaveFew (option_map_or rest
+      (if is_some name then with_file o
+      else (if is_some q then with_q o (given_once o.q place) else None)) (Err place))
       (o.files + length (cons_option name names))
   word_few (Some name) q = file_few name (nat_lt o.files 64) refl
   word_few None (Some q) = q_few o.q
@@ -65,11 +70,14 @@ words_few (word ∷ words) place o few =
     (λ next fine. words_few words (place + 1) next fine) (in_name word) (q_text word)
 
 -- the word `files` names no file
-begun_few : (word : List ℕ) (words : List (List ℕ)) (begins : Bool) → bytes_eq word (codes "files") ≡ begins
-    → HaveFew (if begins then files_of 1 no_options words else Err 0) (length (names_in (word ∷ words)))
+begun_few : (word : List ℕ) (words : List (List ℕ)) (begins : Bool)
+    → bytes_eq word (codes "files") ≡ begins
+    → HaveFew (if begins then files_of 1 no_options words else Err 0)
+    (length (names_in (word ∷ words)))
 begun_few word words true is =
     let read = files_of 1 no_options words in
-    subst (λ w. HaveFew read (length (names_in (w ∷ words)))) (sym ((bytes_eq-Decides word (codes "files")).0 is))
+    subst (λ w. HaveFew read (length (names_in (w ∷ words))))
+    (sym ((bytes_eq-Decides word (codes "files")).0 is))
     (fewer read (0 + length (names_in words)) (length (names_in words)) (λ m. omega (arith, m))
     (words_few words 1 no_options (lit≤ tt)))
 begun_few word words false is = tt
