@@ -1,6 +1,6 @@
 -- What an opener tells of the names decides what is answered: the files are too long from one of
 -- them on, or have a first fault, or are streams, and only one of these.
-use Rattle.std.proofs.Common.{◌≡◌, ℕ, ◌+◌, ◌<◌, ◌≤◌, inl, inr, List, length, take, refl, sym}
+use Rattle.std.proofs.Common.{◌≡◌, ℕ, ◌+◌, ◌<◌, ◌≤◌, inl, inr, List, length, take, refl}
 use Rattle.std.proofs.Common.{subst, ap, arith}
 use Rattle.std.specs.Prelude.{Option, Some, None, Result, Ok, Err}
 use Rattle.std.specs.List.{All}
@@ -13,7 +13,7 @@ use Rattle.cal_files.specs.Files.{bytes_of_all}
 use Rattle.cal_files.specs.OpenerChange.{OpenerChange}
 use Rattle.cal_multi.specs.Many.{IsFirstBad, IsSound}
 use Rattle.cal_read.specs.declared.kind.StreamKind.{StreamKind}
-use Rattle.cal_call_files.specs.Answers.{Answers, IsText, Reads}
+use Rattle.cal_call_files.specs.Answers.{Answers, Reads}
 use Rattle.cal_call_files.specs.Deciding.{AreTold, FilesDecide, IsDue, PassesIn}
 use Rattle.cal_call_files.specs.Tasks.{FilesTask, Refusal, by_text, by_word}
 use Rattle.cal_call_files.specs.declared.fault.FilesFault as faults

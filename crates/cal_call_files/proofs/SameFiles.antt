@@ -1,8 +1,7 @@
 -- Files that were read of names are those that the opener tells of them.
 use Rattle.std.proofs.Common.{◌≡◌, ℕ, zero, suc, ◌+◌, ◌<◌, ◌≤◌, List, [], ◌∷◌, length, take, refl}
-use Rattle.std.proofs.Common.{sym, subst, ap, ◌∙◌, arith}
-use Rattle.std.specs.Prelude.{Option, Some, IfSome, get_or}
-use Rattle.std.specs.List.{AllZip}
+use Rattle.std.proofs.Common.{subst, ap, arith}
+use Rattle.std.specs.Prelude.{Option, Some, get_or}
 use Rattle.std.proofs.lemmas.List.{length-take}
 use Rattle.std.proofs.lemmas.List.Elements.{AllZip-get_or}
 use Rattle.std.proofs.lemmas.List.Sums.{sum_by_more}
