@@ -1,10 +1,13 @@
 //! What a query prints of the files of these names.
 ghost use Rattle.std.specs.Prelude.{◌≡◌, ◌<◌, ◌≤◌, ◌^◌, IfErr, IfOk, Some, false, length, map};
 ghost use Rattle.cal_base.specs.Change.{Change};
-ghost use Rattle.cal_files.specs.OpenerChange.{opener_change};
+ghost use Rattle.cal_files.specs.FilesEnds.{StopsAt};
+ghost use Rattle.cal_files.specs.OpenerChange.{OpenerChange, opener_change};
 ghost use Rattle.cal_ql.specs.Valid.{IsValidQuery};
+ghost use Rattle.cal_call.specs.Causes.{input_limit};
 ghost use Rattle.cal_call_files.specs.Answers.{Causes, IsText, Reads, StopsText};
 ghost use Rattle.cal_call_files.specs.Faults.{writes};
+ghost use Rattle.cal_call_files.specs.Tasks.{FilesTask};
 
 use crate::FilesFault;
 use cal_call::INPUT_LIMIT;
@@ -49,8 +52,12 @@ pub(crate) fn text_of_files<R: Threads + Sync, O: Opener>(
     text
 }
 
-/// Why files that can't be read have no text.
-fn fault_of(end: FilesEnd) -> FilesFault {
+/// The fault of files that can't be read.
+fn fault_of(end: FilesEnd) -> FilesFault
+    ensures caused { (task : FilesTask) (opener : OpenerChange) (output : Change)
+        → StopsAt end input_limit opener task.names → Causes task opener output result }
+    ensures unwritten { writes (Some result) ≡ false }
+{
     match end {
         FilesEnd::OpenFault { file } => FilesFault::OpenFault { file },
         FilesEnd::ReadFault { file } => FilesFault::ReadFault { file },

@@ -11,7 +11,9 @@ use cal_read::StreamKind;
 pub enum FilesFault {
     /// The words break the word rule: the place, from 0, of the first that does, or the number of
     /// words where one is missing.
-    Usage { word: u32 },
+    Usage {
+        word: u32,
+    },
     /// The first file that has a first fault, and that fault. All its lines are counted, from 1.
     BadInput {
         file: u32,
@@ -19,15 +21,24 @@ pub enum FilesFault {
         kind: StreamKind,
     },
     /// The first fault of the query's text. The place is its byte, from 0.
-    BadQuery { place: u64, kind: QueryKind },
+    BadQuery {
+        place: u64,
+        kind: QueryKind,
+    },
     /// A read of this file failed.
-    ReadFault { file: u32 },
+    ReadFault {
+        file: u32,
+    },
     WriteFault,
     OutOfMemory,
     /// The files up to this one have more than 268,435,456 bytes, and those before it have not.
-    TooLong { file: u32 },
+    TooLong {
+        file: u32,
+    },
     /// This file can't be opened.
-    OpenFault { file: u32 },
+    OpenFault {
+        file: u32,
+    },
 }
 
 impl FilesFault {

@@ -121,11 +121,7 @@ fn file_by<R: Threads + Sync, O: Opener, W: Sink>(
 }
 
 /// The query that the words ask for, or why its text is refused.
-fn asked_query(
-    alloc: Global,
-    words: &[String],
-    command: FilesCommand,
-) -> Result<Query, FilesFault>
+fn asked_query(alloc: Global, words: &[String], command: FilesCommand) -> Result<Query, FilesFault>
     ensures asked { IfOk result (λ query. task_of words.now (Ok command)
         ≡ Ok (record { names = names_of words.now; query = query })) }
     ensures valid { IfOk result (λ query. IsValidQuery query) }

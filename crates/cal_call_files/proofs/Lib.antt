@@ -1,0 +1,5 @@
+mod Deciding
+mod Fewness
+mod FirstBad
+mod Naming
+mod SameFiles

@@ -1,0 +1,13 @@
+use Rattle.std.proofs.Common.{◌≡◌, ◌+◌, ◌≤◌, drop, map}
+use Rattle.std.specs.Prelude.{string_bytes}
+use Rattle.cal_call_files.specs.Words.{files_of, given, no_options}
+use Rattle.cal_call_files.proofs.words.read_options.Given as goal
+
+-- the options so far, with the words that are left, are those of all words
+abbrev pub invariant-loop-index : goal.invariant-loop-index
+invariant-loop-index l = record {
+  left : files_of (l.index + 1) l.options (map string_bytes (drop l.index l.words))
+      ≡ files_of 1 no_options (map string_bytes l.words);
+  few : l.options.files ≤ 64;
+  given : l.index ≤ given l.options;
+}
