@@ -5,7 +5,10 @@ ghost use Rattle.cal_rowset.specs.Numbers.{rowset_of};
 ghost use Rattle.cal_multi.specs.Many.{IsAnswerOfMany, StopsMany};
 
 use crate::ManyEnd;
+use crate::joining::join_all;
+use crate::share::fold_all;
 use cal_ql::Query;
+use cal_query::Seen;
 use cal_rowset::SnapshotRowset;
 use cal_seeds::Seeds;
 use std::alloc::Global;
@@ -29,4 +32,7 @@ pub fn answer_many<R: Threads + Sync>(
         (map (λ file. file.items) files.now) (rowset_of answer)) }
     ensures refused { IfErr result (λ end. StopsMany end (map (λ file. file.items) files.now)) }
 {
+    let shares = fold_all(rt, alloc, seeds, query, files)?;
+    let Seen { context, taker } = join_all(alloc, seeds, query, shares)?;
+    Ok(taker.finish(context)?)
 }

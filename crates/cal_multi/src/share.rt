@@ -1,48 +1,54 @@
-//! One file's share of the work: its bytes, and what the query's fold over them came to.
-ghost use Rattle.std.specs.Prelude.{◌≡◌, length};
+//! What the query's fold over each file comes to, all of them side by side.
+ghost use Rattle.std.specs.Prelude.{◌≡◌, IfOk, map};
+ghost use Rattle.std.specs.List.{All};
 ghost use Rattle.cal_ql.specs.Valid.{IsValidQuery};
-ghost use Rattle.cal_multi.specs.Shares.{AreFolded, IsFolded, bytes_of};
+ghost use Rattle.cal_multi.specs.Shares.{IsFolded, bytes_of};
 
 use cal_engine::SnapshotFold;
 use cal_ql::Query;
 use cal_query::{RowsEnd, Seen, fold_whole};
 use cal_seeds::Seeds;
+use cal_value::OutOfMemory;
 use std::alloc::Global;
-use std::mem;
 use std::thread;
 use std::thread::Threads;
 
-/// The bytes of a file, and what they came to, once they were folded.
+/// The bytes of a file, and what they came to.
 #[derive(Drop)]
 pub(crate) struct Share<'a> {
     pub(crate) bytes: &'a [u8],
-    pub(crate) came: Option<Result<Seen<SnapshotFold>, RowsEnd>>,
+    pub(crate) came: Result<Seen<SnapshotFold>, RowsEnd>,
 }
 
-/// Folds all shares, each in a thread of its own where there are enough.
-pub(crate) fn fold_all<R: Threads + Sync>(
+/// Folds each file, in a thread of its own where one can be made. An `Err` is want of memory for
+/// the list; that of a fold stands in its share.
+pub(crate) fn fold_all<'a, R: Threads + Sync>(
     rt: &R,
     alloc: Global,
     seeds: Seeds,
     query: &Query,
-    shares: &mut [Share<'_>],
-)
+    files: &'a [Vec<u8>],
+) -> Result<Vec<Share<'a>>, OutOfMemory>
     requires { IsValidQuery query.now }
-    ensures { AreFolded query.now shares.old shares.new }
+    ensures bytes { IfOk result
+        (λ shares. bytes_of shares.items ≡ map (λ file. file.items) files.now) }
+    ensures folded { IfOk result (λ shares. All (IsFolded query.now) shares.items) }
 {
-    let threads = shares.len().max(1);
-    thread::for_each_mut(rt, shares, threads, &|_number, share| {
-        fold_one(alloc, seeds, query, share)
-    });
+    let shares = thread::map_indices(
+        rt,
+        alloc,
+        files.len(),
+        &|place| fold_one(alloc, seeds, query, files[place].as_slice()),
+    )?;
+    Ok(shares)
 }
 
-/// Folds one share.
-fn fold_one(alloc: Global, seeds: Seeds, query: &Query, share: &mut Share<'_>)
+/// Folds one file.
+fn fold_one<'a>(alloc: Global, seeds: Seeds, query: &Query, bytes: &'a [u8]) -> Share<'a>
     requires { IsValidQuery query.now }
-    ensures folded { IsFolded query.now share.new }
-    ensures bytes { share.new.bytes.now ≡ share.old.bytes.now }
+    ensures bytes { result.bytes.now ≡ bytes.now }
+    ensures folded { IsFolded query.now result }
 {
-    let came = fold_whole(alloc, seeds, query, share.bytes);
-    let before = mem::replace(&mut share.came, Some(came));
-    drop(before);
+    let came = fold_whole(alloc, seeds, query, bytes);
+    Share { bytes, came }
 }
