@@ -33,7 +33,13 @@ pub(crate) fn join_all(
     let mut joined = None;
     let mut place = 0;
     for share in shares {
-        let fold = fold_of(place, share)?;
+        let fold = match fold_of(place, share) {
+            Ok(fold) => fold,
+            Err(end) => {
+                drop(joined);
+                return Err(end);
+            }
+        };
         joined = Some(join(joined, fold)?);
         place += 1;
     }
@@ -73,7 +79,11 @@ fn join(
         return Ok(fold);
     };
     let Seen { context, taker } = fold;
-    joined.taker.merge(&mut joined.context, taker, &context)?;
+    let merged = joined.taker.merge(&mut joined.context, taker, &context);
     drop(context);
+    let Ok(()) = merged else {
+        drop(joined);
+        return Err(OutOfMemory);
+    };
     Ok(joined)
 }
