@@ -1,4 +1,4 @@
--- Files have one first file that goes wrong, with one first fault, and then they aren't all streams.
+-- Files have one first file that goes wrong, with one first fault, and then aren't all streams.
 use Rattle.std.proofs.Common.{◌≡◌, ℕ, ◌<◌, inl, inr, List, [], ◌∷◌, length, take, sym}
 use Rattle.std.proofs.Common.{subst, ◌∙◌, arith}
 use Rattle.std.specs.Prelude.{Err, get_or}
@@ -38,7 +38,8 @@ module _ (files : List (List ℕ)) where
       → IsFirstBad files place line kind → ⊥
   none_before n place line kind less sound bad =
       let within = slice_get_within files place bad.bytes bad.at in
-      let inside : place < length (take n files) = omega (arith, less, within, length-take n files) in
+      let inside : place < length (take n files) =
+      omega (arith, less, within, length-take n files) in
       let is : get_or (take n files) place [] ≡ bad.bytes =
       get_or-take n files place [] less ∙ get_or_from_slice_get files place bad.bytes [] bad.at in
       sound_and_fault bad.bytes line kind (subst IsSound is (sound place [] inside)) bad.fault

@@ -22,8 +22,8 @@ PassesIn files file = (file < length files)
     × (bytes_of_all (take file files) ≤ input_limit)
     × (input_limit < bytes_of_all (take (file + 1) files))
 
--- The answer is the one that these files call for: they are too long, from one of them on, or have a
--- first fault, or are streams, of which the text is written whole unless the output fails.
+-- The answer is the one that these files call for: they are too long, from one of them on, or have
+-- a first fault, or are streams, of which the text is written whole unless the output fails.
 pub record IsDue (files : List (List ℕ)) (output : Change) (answer : Option faults.FilesFault)
     : Type 0 where
   pub too_long : (file : ℕ) → (answer ≡ Some (fault.TooLong file)) ↔ PassesIn files file

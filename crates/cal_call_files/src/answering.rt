@@ -76,7 +76,8 @@ fn text_of<R: Threads + Sync>(
 ) -> Result<Text, FilesFault>
     requires query { IsValidQuery query.now }
     requires few { length files.now ≤ 64 }
-    ensures text { IfOk result (λ text. IsText query.now (map (λ file. file.items) files.now) text) }
+    ensures text { IfOk result (λ text.
+        IsText query.now (map (λ file. file.items) files.now) text) }
     ensures refused { IfErr result (λ fault.
         StopsText (map (λ file. file.items) files.now) fault) }
 {

@@ -1,6 +1,6 @@
 //! The top call: it does what the words of `files` ask for.
-ghost use Rattle.std.specs.Prelude.{◌≡◌, ◌<◌, ◌≤◌, ◌^◌, ◌⊎◌, false, Err, IfErr, IfNone, IfOk, IsErr};
-ghost use Rattle.std.specs.Prelude.{Ok, length};
+ghost use Rattle.std.specs.Prelude.{◌≡◌, ◌<◌, ◌≤◌, ◌^◌, ◌⊎◌, false, Err, IfErr, IfNone, IfOk};
+ghost use Rattle.std.specs.Prelude.{IsErr, Ok, length};
 ghost use Rattle.std.specs.Result.{result_err};
 ghost use Rattle.cal_base.specs.Change.{change_of};
 ghost use Rattle.cal_call.specs.Ends.{Tells};
