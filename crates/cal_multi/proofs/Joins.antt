@@ -1,5 +1,5 @@
 -- Files that are joined, one more at a time, up to the first that goes wrong.
-use Rattle.std.proofs.Common.{◌≡◌, ℕ, zero, suc, ◌<◌, List, [], ◌∷◌, ◌++◌, length, take}
+use Rattle.std.proofs.Common.{◌≡◌, ℕ, zero, suc, List, [], ◌∷◌, ◌++◌, length}
 use Rattle.std.proofs.Common.{refl, sym, ap, ◌∙◌, subst, arith, append-nil}
 use Rattle.std.specs.Prelude.{All, Option, None, Some, Result, Ok, Err, IfErr, slice_get}
 use Rattle.std.specs.List.{AllZip}

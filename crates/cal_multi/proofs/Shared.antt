@@ -1,22 +1,22 @@
 -- Lists of shares, one item after another.
-use Rattle.std.proofs.Common.{◌≡◌, ℕ, zero, suc, ◌<◌, List, [], ◌∷◌, ◌++◌, length, map, get_or}
-use Rattle.std.proofs.Common.{refl, subst, arith}
-use Rattle.std.specs.Prelude.{All}
+use Rattle.std.proofs.Common.{◌≡◌, ℕ, suc, ◌<◌, List, [], ◌∷◌, ◌++◌, length, map, get_or}
+use Rattle.std.proofs.Common.{refl, sym, subst, arith}
+use Rattle.std.specs.Prelude.{All, Some, slice_get}
 use Rattle.std.proofs.lemmas.List.{length-append}
+use Rattle.std.proofs.lemmas.Option.{same_Some}
 use Rattle.std.proofs.Math.Seq.{get_or-append_seam}
 
--- what is made of lists place by place is one list
-pub same-maps : {A B C : Type 0} (f : A → C) (g : B → C) (xs : List A) (ys : List B)
-    → length xs ≡ length ys
-    → ((k : ℕ) (d : A) (e : B) → k < length ys → f (get_or xs k d) ≡ g (get_or ys k e))
-    → map f xs ≡ map g ys
-same-maps f g [] [] long each = refl
-same-maps f g [] (y ∷ ys) long each = absurd (omega (arith, long))
-same-maps f g (x ∷ xs) [] long each = absurd (omega (arith, long))
-same-maps f g (x ∷ xs) (y ∷ ys) long each =
-    let head = each 0 x y (omega arith) in
-    let rest = same-maps f g xs ys (omega (arith, long))
-    (λ k d e less. each (suc k) d e (omega (arith, less))) in
+-- what is made of each item is what stands at its place
+pub mapped-each : {A B : Type 0} (f : A → B) (xs : List A) (ys : List B) → length xs ≡ length ys
+    → ((k : ℕ) (d : A) → k < length ys → slice_get ys k ≡ Some (f (get_or xs k d)))
+    → map f xs ≡ ys
+mapped-each f [] [] long each = refl
+mapped-each f [] (y ∷ ys) long each = absurd (omega (arith, long))
+mapped-each f (x ∷ xs) [] long each = absurd (omega (arith, long))
+mapped-each f (x ∷ xs) (y ∷ ys) long each =
+    let head = same_Some (f x) y (sym (each 0 x (omega arith))) in
+    let rest = mapped-each f xs ys (omega (arith, long))
+    (λ k d less. each (suc k) d (omega (arith, less))) in
     (λ i. head i ∷ rest i)
 
 -- what holds of all holds of the item between others

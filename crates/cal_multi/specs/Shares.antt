@@ -49,8 +49,8 @@ pub record IsJoined (before : Option (Seen SnapshotFold)) (fold joined : Seen Sn
 
 -- the files are streams, and what is joined has taken the rows of all, in their order
 pub record HaveJoined (query : Query) (files : List (List ℕ)) (joined : Option (Seen SnapshotFold))
-  : Type 0 where
-    pub all : List Records
-    pub streams : AllZip IsStreamOf files all
-    pub about : IfSome joined (λ (seen : Seen SnapshotFold). seen.taker.query ≡ query)
-    pub taken : HaveTaken joined (rows_of_all all)
+    : Type 0 where
+  pub all : List Records
+  pub streams : AllZip IsStreamOf files all
+  pub about : IfSome joined (λ (seen : Seen SnapshotFold). seen.taker.query ≡ query)
+  pub taken : HaveTaken joined (rows_of_all all)

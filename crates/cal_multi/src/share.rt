@@ -1,5 +1,5 @@
 //! What the query's fold over each file comes to, all of them side by side.
-ghost use Rattle.std.specs.Prelude.{◌≡◌, IfOk, map};
+ghost use Rattle.std.specs.Prelude.{◌≡◌, ◌<◌, Some, IfOk, length, map, slice_get};
 ghost use Rattle.std.specs.List.{All};
 ghost use Rattle.cal_ql.specs.Valid.{IsValidQuery};
 ghost use Rattle.cal_multi.specs.Shares.{IsFolded, bytes_of};
@@ -38,17 +38,25 @@ pub(crate) fn fold_all<'a, R: Threads + Sync>(
         rt,
         alloc,
         files.len(),
-        &|place| fold_one(alloc, seeds, query, files[place].as_slice()),
+        &|place| fold_one(alloc, seeds, query, files, place),
     )?;
     Ok(shares)
 }
 
-/// Folds one file.
-fn fold_one<'a>(alloc: Global, seeds: Seeds, query: &Query, bytes: &'a [u8]) -> Share<'a>
-    requires { IsValidQuery query.now }
-    ensures bytes { result.bytes.now ≡ bytes.now }
+/// Folds the file at a place.
+fn fold_one<'a>(
+    alloc: Global,
+    seeds: Seeds,
+    query: &Query,
+    files: &'a [Vec<u8>],
+    place: usize,
+) -> Share<'a>
+    requires query { IsValidQuery query.now }
+    requires within { place < length files.now }
+    ensures bytes { slice_get (map (λ file. file.items) files.now) place ≡ Some result.bytes.now }
     ensures folded { IsFolded query.now result }
 {
+    let bytes = files[place].as_slice();
     let came = fold_whole(alloc, seeds, query, bytes);
     Share { bytes, came }
 }

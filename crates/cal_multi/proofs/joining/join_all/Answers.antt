@@ -1,15 +1,18 @@
-use Rattle.std.proofs.Common.{◌≡◌, ℕ, ◌+◌, List, [], ◌∷◌, ◌++◌, Ok, Some, Result, length}
+use Rattle.std.proofs.Common.{◌≡◌, ℕ, List, [], ◌∷◌, ◌++◌, Some, Option, Result, length}
 use Rattle.std.proofs.Common.{append_assoc, append-nil, sym, ap, ◌∙◌, subst, arith}
 use Rattle.std.specs.Prelude.{All}
 use Rattle.std.specs.Vec.Iter.{into_iter_items}
-use Rattle.std.proofs.lemmas.List.{length-append, length-map, map-append}
+use Rattle.std.proofs.lemmas.List.{length-append, length-map, map-append, nil_from_length}
+use Rattle.cal_engine.specs.Standing.{HasFolded}
 use Rattle.cal_engine.specs.declared.snapshot_fold.SnapshotFold.{SnapshotFold}
 use Rattle.cal_query.specs.declared.end.RowsEnd.{RowsEnd}
 use Rattle.cal_query.specs.declared.seeing.Seen.{Seen}
+use Rattle.cal_value.specs.declared.record.Rec.{Rec}
 use Rattle.cal_multi.proofs.Joins.{all-sound, first-bad, one-more}
 use Rattle.cal_multi.proofs.Shared.{between}
-use Rattle.cal_multi.specs.Many.{StopsMany}
-use Rattle.cal_multi.specs.Shares.{ComesTo, HaveJoined, IsFolded, StopsAt, bytes_of}
+use Rattle.cal_multi.specs.Many.{StopsMany, rows_of_all}
+use Rattle.cal_multi.specs.Shares.{ComesTo, HaveJoined, HaveTaken, IsFolded, StopsAt}
+use Rattle.cal_multi.specs.Shares.{bytes_of}
 use Rattle.cal_multi.specs.declared.share.Share.{Share}
 use Rattle.cal_multi.proofs.joining.join_all.Goals as goal
 use Rattle.cal_multi.proofs.joining.join_all.Goals.{In-Some}
@@ -68,4 +71,27 @@ loop-share-preserved c =
           (subst (λ (came : Result (Seen SnapshotFold) RowsEnd).
           ComesTo query share.bytes.now came) c.in-Ok.ensures.own (folded s))
           c.in_ok-join.ensures);
+    }
+
+pub returns-in_default-clause-joined : goal.returns-in_default-clause-joined
+returns-in_default-clause-joined c =
+    let at = c.loop-share in
+    let query = c.args.query.now in
+    let own = c.in_ok-new_fold.field-0 in
+    let none = c.in-None.ensures.steps in
+    let left : List Share = into_iter_items at.share-iterator in
+    let empty : left ≡ [] = nil_from_length left (sym at.invariant.left ∙ none.0) in
+    let all : at.yielded ≡ c.args.shares.items = sym (append-nil at.yielded)
+    ∙ ap (λ (ss : List Share). at.yielded ++ ss) (sym empty) ∙ at.invariant.whole in
+    let joined = subst (λ (ss : List Share). HaveJoined query (bytes_of ss) at.joined) all
+    at.invariant.joined in
+    let rows : rows_of_all joined.all ≡ [] =
+    subst (λ (o : Option (Seen SnapshotFold)). HaveTaken o (rows_of_all joined.all))
+    c.in_default.is joined.taken in
+    record {
+      all = joined.all;
+      streams = joined.streams;
+      about = c.in_ok-new_fold.ensures.query;
+      taken = subst (λ (rs : List Rec). HasFolded own.taker own.context rs) (sym rows)
+          c.in_ok-new_fold.ensures.none;
     }
