@@ -62,8 +62,10 @@ const ROWS: [Row; 8] = [
     (
         "",
         &[OTHERS, MAIN, OTHERS],
-        Ok("function=solve\nfunction=main\nfunction=solve\nfunction=main\n\
-            function=solve\nfunction=main\nfunction=solve\n"),
+        Ok(
+            "function=solve\nfunction=main\nfunction=solve\nfunction=main\n\
+            function=solve\nfunction=main\nfunction=solve\n",
+        ),
     ),
     (COUNT, &[], Ok("")),
     ("", &[], Ok("")),
