@@ -80,10 +80,6 @@ const ROWS: [Row; 8] = [
     ),
 ];
 
-fn rows() -> &'static [Row] {
-    &ROWS
-}
-
 /// The bytes of streams.
 fn files(alloc: Global, streams: &[&str]) -> Result<Vec<Vec<u8>>, OutOfMemory> {
     let mut all = Vec::with_capacity(alloc, streams.len())?;
@@ -100,8 +96,8 @@ fn answer_text<R: Threads + Sync>(
     query: &Query,
     files: &[Vec<u8>],
 ) -> Result<Text, ManyEnd>
-    requires { IsValidQuery query.now }
-    requires { length files.now < 2 ^ 32 }
+    requires query { IsValidQuery query.now }
+    requires few { length files.now < 2 ^ 32 }
 {
     let answer = answer_many(rt, alloc, Seeds::fixed(), query, files)?;
     Ok(lay_out(alloc, query.format, &answer)?)
@@ -129,7 +125,8 @@ fn is_right<R: Threads + Sync>(rt: &R, alloc: Global, row: &Row) -> bool {
 
 #[test]
 fn answers_are_over_all_files_in_their_order(rt: HostRuntime) {
-    for (place, row) in rows().iter().enumerate() {
+    let rows = &ROWS;
+    for (place, row) in rows.iter().enumerate() {
         let right = is_right(&rt, rt.alloc(), row);
         assert_eq!(rt; right, true, "row {place}");
     }
