@@ -52,7 +52,7 @@ module _ (names : Names) where
     pub at : IsNameSeat names w.seat
     pub declared : HasDeclared (plan_of names) (view w.seat) w.lines.now w.answers.items
 
-  -- a worker that says so has declared its lines, and it says so where its arena has room for its lines
+  -- A worker that says so has declared its lines. It says so where its arena has room for them.
   pub record HasWorked (old new : Worker) : Type 0 where
     pub done : IsTrue new.is_done → IsDone new
     pub room : thread_words old.lines.now ≤ (plan_of names).shape.arena → IsTrue new.is_done
