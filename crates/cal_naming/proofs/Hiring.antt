@@ -1,19 +1,14 @@
 -- Workers with seats that were split off, one more at a time.
-use Rattle.std.proofs.Common.{◌≡◌, ℕ, zero, suc, ◌+◌, ◌*◌, ◌/◌, ◌<◌, ◌≤◌, List, [], ◌∷◌, ◌++◌}
+use Rattle.std.proofs.Common.{◌≡◌, ℕ, zero, suc, ◌+◌, ◌<◌, ◌≤◌, List, [], ◌∷◌, ◌++◌}
 use Rattle.std.proofs.Common.{length}
 use Rattle.std.proofs.Common.{refl, sym, ap, ◌∙◌, subst, ⊎_elim, arith}
-use Rattle.std.specs.Prelude.{fold, max, slice_index_or}
+use Rattle.std.specs.Prelude.{fold, map, max, slice_index_or}
 use Rattle.std.proofs.lemmas.Bool.{cases_lt}
 use Rattle.std.proofs.lemmas.List.{get_or_append_left, get_or_push, length_push}
-use Rattle.cal_names.specs.declared.record.NameSort.{NameSort}
-use Rattle.cal_naming.specs.Told.{IsRoomy}
 use Rattle.cal_naming.specs.Workers.{AreNumbered}
 use Rattle.cal_naming.specs.declared.worker.Worker.{Worker}
 use Rattle.cal_once.specs.Seats.{view}
-use Rattle.cal_once.specs.declared.view.Plan.{Plan}
-use Rattle.cal_declarations.specs.Layout.{names_layout}
 use Rattle.cal_script.specs.Shapes.{greatest}
-use Rattle.cal_words.specs.declared.shape.Shape.{Shape}
 
 fold-max : {X : Type 0} (f : X → ℕ) (most : ℕ) (xs : List X)
     → most ≤ fold (λ most x. max most (f x)) most xs
@@ -31,6 +26,16 @@ pub le-greatest : {X : Type 0} (f : X → ℕ) (d : X) (xs : List X) (i : ℕ) �
     → f (slice_index_or xs i d) ≤ greatest f xs
 le-greatest f d xs i less = fold-at f d 0 xs i less
 
+-- the greatest number of a list's images
+pub greatest-map : {W X : Type 0} (f : X → ℕ) (g : W → X) (ws : List W)
+    → greatest f (map g ws) ≡ greatest (λ w. f (g w)) ws
+greatest-map {W = W} f g ws = by 0 ws
+  where
+    by : (most : ℕ) (vs : List W) → fold (λ most x. max most (f x)) most (map g vs)
+        ≡ fold (λ most v. max most (f (g v))) most vs
+    by most [] = refl
+    by most (v ∷ vs) = by (max most (f (g v))) vs
+
 -- one worker more, with the next number
 pub numbers-push : (ws : List Worker) (w : Worker) → AreNumbered ws
     → (view w.seat).number ≡ length ws + 1 → AreNumbered (ws ++ w ∷ [])
@@ -43,11 +48,3 @@ numbers-push ws w all number k d less = ⊎_elim
     subst (λ (x : Worker). (view x.seat).number ≡ k + 1) (sym (get_or_push ws w d k at))
     (number ∙ ap (λ n. n + 1) at))
     (cases_lt k (length ws))
-
--- a table that is laid out for declarations is roomy
-pub roomy : (plan : Plan NameSort) (threads arena : ℕ) → plan.shape ≡ names_layout threads arena
-    → IsRoomy plan
-roomy plan threads arena shape = by plan.shape shape
-  where
-    by : (s : Shape) → s ≡ names_layout threads arena → s.slots ≡ s.arenas * (s.arena / 5) + 1
-    by s same = subst (λ (t : Shape). t.slots ≡ t.arenas * (t.arena / 5) + 1) (sym same) refl

@@ -12,7 +12,9 @@ use Rattle.cal_once.specs.Layout.{times}
 use Rattle.cal_once.specs.Views.{Holds}
 use Rattle.cal_once.specs.declared.view.Plan.{Plan}
 use Rattle.cal_once.specs.declared.view.View.{View}
+use Rattle.cal_script.specs.Shapes.{greatest}
 use Rattle.cal_value.specs.declared.attribute.Attribute.{Attribute}
+use Rattle.cal_words.specs.declared.shape.Shape.{Shape}
 
 -- a line as the table of names sees it
 abbrev pub declaration_of : Attribute → Declaration
@@ -24,8 +26,15 @@ place_of (Same place) = place
 place_of (Different place kind props) = place
 
 -- there is a slot for each record that fits into the arenas, and one more
+abbrev pub IsLaid : Shape → Type 0
+IsLaid shape = shape.slots ≡ shape.arenas * (shape.arena / 5) + 1
+
 abbrev pub IsRoomy : Plan NameSort → Type 0
-IsRoomy plan = plan.shape.slots ≡ plan.shape.arenas * (plan.shape.arena / 5) + 1
+IsRoomy plan = IsLaid plan.shape
+
+-- each arena has room for all declarations of a thread
+abbrev pub HasRoom : Shape → List (List Attribute) → Type 0
+HasRoom shape threads = greatest thread_words threads ≤ shape.arena
 
 -- The place holds a line of the seat's thread, and no line before that one was told of this place.
 pub record IsOwn (v : View NameSort) (lines : List Attribute) (answers : List Declared)

@@ -1,6 +1,7 @@
 -- Workers before and behind their declarations, and the first seat beside them (private).
-use Rattle.std.specs.Prelude.{◌≡◌, ℕ, ◌+◌, ◌<◌, ◌≤◌, List, [], Some, length, map}
+use Rattle.std.specs.Prelude.{◌≡◌, ℕ, ◌+◌, ◌<◌, ◌≤◌, Bool, IsTrue, List, [], Some, length, map}
 use Rattle.std.specs.Prelude.{slice_get, slice_index_or}
+use Rattle.std.specs.List.{list_all}
 use Rattle.cal_declarations.specs.Layout.{thread_words}
 use Rattle.cal_names.specs.Kept.{IsNameSeat, plan_of}
 use Rattle.cal_names.specs.declared.declare.Declared.{Declared}
@@ -21,6 +22,10 @@ lines_of workers = map (λ (w : Worker). w.lines.now) workers
 abbrev pub answers_of : List Worker → List (List Declared)
 answers_of workers = map (λ (w : Worker). w.answers.items) workers
 
+-- whether all workers have declared all lines
+abbrev pub are_done : List Worker → Bool
+are_done workers = list_all (λ (w : Worker). w.is_done) workers
+
 -- The workers have the numbers of their places in the list, behind the first seat's.
 abbrev pub AreNumbered : List Worker → Type 0
 AreNumbered workers = (k : ℕ) (d : Worker) → k < length workers
@@ -34,13 +39,12 @@ module _ (names : Names) where
     pub published : (view seat).published ≡ []
     pub others : length (view seat).others ≡ count
 
-  -- a worker has declared nothing, and its arena has room for its lines
+  -- a worker has declared nothing
   pub record IsReady (w : Worker) : Type 0 where
     pub at : IsNameSeat names w.seat
     pub used : (view w.seat).used ≡ 0
     pub published : (view w.seat).published ≡ []
     pub named : AreNamed w.lines.now
-    pub room : thread_words w.lines.now ≤ (plan_of names).shape.arena
     pub answers : length w.answers.items ≡ length w.lines.now
 
   -- a worker has declared its lines
@@ -48,12 +52,14 @@ module _ (names : Names) where
     pub at : IsNameSeat names w.seat
     pub declared : HasDeclared (plan_of names) (view w.seat) w.lines.now w.answers.items
 
+  -- A worker that says so has declared its lines. It says so where its arena has room for them.
   pub record HasWorked (old new : Worker) : Type 0 where
-    pub done : IsDone new
+    pub done : IsTrue new.is_done → IsDone new
+    pub room : thread_words old.lines.now ≤ (plan_of names).shape.arena → IsTrue new.is_done
     pub number : (view new.seat).number ≡ (view old.seat).number
     pub lines : new.lines.now ≡ old.lines.now
 
-  -- so have all of them
+  -- so it is with all of them
   abbrev pub HaveWorked : List Worker → List Worker → Type 0
   HaveWorked old new = (k : ℕ) (d : Worker) → k < length old
       → HasWorked (slice_index_or old k d) (slice_index_or new k d)

@@ -1,6 +1,5 @@
 //! Workers for all threads, with seats that are split off from the first one.
-ghost use Rattle.std.specs.Prelude.{◌≡◌, ◌+◌, ◌<◌, ◌≤◌, All, IfOk, OnOk, length};
-ghost use Rattle.cal_declarations.specs.Layout.{names_shape, thread_words};
+ghost use Rattle.std.specs.Prelude.{◌≡◌, ◌+◌, ◌<◌, All, IfOk, OnOk, length};
 ghost use Rattle.cal_names.specs.Kept.{IsNameSeat, plan_of};
 ghost use Rattle.cal_naming.specs.Workers.{AreNumbered, IsFirst, IsReady, lines_of};
 ghost use Rattle.cal_once.specs.Seats.{view};
@@ -21,7 +20,7 @@ pub(crate) fn hire<'a>(
 ) -> Result<Vec<Worker<'a>>, OutOfMemory>
     requires seat { IsNameSeat names.now first.old }
     requires fresh { view first.old ≡ first_seat (plan_of names.now) }
-    requires shape { (plan_of names.now).shape ≡ names_shape threads.now }
+    requires arenas { (plan_of names.now).shape.arenas ≡ length threads.now + 1 }
     requires named { All AreNamed threads.now }
     ensures first { OnOk result (IsFirst names.now first.new (length threads.now)) }
     ensures lines { IfOk result (λ workers. lines_of workers.items ≡ threads.now) }
@@ -46,7 +45,6 @@ fn hire_one<'a>(
     requires first { IsFirst names.now first.old (length (view first.old).others) }
     requires left { length (view first.old).others + 1 < (plan_of names.now).shape.arenas }
     requires named { AreNamed lines.now }
-    requires room { thread_words lines.now ≤ (plan_of names.now).shape.arena }
     ensures first { OnOk result (IsFirst names.now first.new (length (view first.old).others + 1)) }
     ensures lines { IfOk result (λ worker. worker.lines.now ≡ lines.now) }
     ensures ready { IfOk result (λ worker. IsReady names.now worker) }
@@ -59,5 +57,6 @@ fn hire_one<'a>(
         seat,
         lines,
         answers,
+        is_done: false,
     })
 }

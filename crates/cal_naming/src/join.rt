@@ -50,6 +50,7 @@ fn join_one(names: &Names, first: &mut NameSeat, worker: Worker<'_>) -> Seq<Decl
         seat,
         lines: _,
         answers,
+        is_done: _,
     } = worker;
     names.join(first, seat);
     Seq::from_vec(answers)

@@ -11,6 +11,7 @@ mod join;
 mod keep;
 mod laws;
 mod naming;
+mod narrow;
 mod replies;
 mod reply;
 mod worker;

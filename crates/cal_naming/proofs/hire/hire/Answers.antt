@@ -3,15 +3,13 @@ use Rattle.std.proofs.Common.{refl, sym, ap, ◌∙◌, subst, arith}
 use Rattle.std.specs.Prelude.{All}
 use Rattle.std.proofs.lemmas.List.{length_push, map-append, take_all, take_more}
 use Rattle.std.proofs.lemmas.List.Elements.{All-push}
-use Rattle.cal_declarations.specs.Layout.{thread_words}
 use Rattle.cal_names.specs.declared.record.NameSort.{NameSort}
-use Rattle.cal_naming.proofs.Hiring.{le-greatest, numbers-push}
+use Rattle.cal_naming.proofs.Hiring.{numbers-push}
 use Rattle.cal_naming.specs.Workers.{AreNumbered, IsFirst, IsReady, lines_of}
 use Rattle.cal_naming.specs.declared.worker.Worker.{Worker}
 use Rattle.cal_once.specs.declared.view.View.{View}
 use Rattle.cal_script.specs.Reader.{AreNamed}
 use Rattle.cal_value.specs.declared.attribute.Attribute.{Attribute}
-use Rattle.cal_words.specs.declared.shape.Shape.{Shape}
 use Rattle.cal_naming.proofs.hire.hire.Goals as goal
 
 pub loop-lines-init : goal.loop-lines-init
@@ -39,22 +37,13 @@ hire_one-requires-clause-first c =
 
 pub hire_one-requires-clause-left : goal.hire_one-requires-clause-left
 hire_one-requires-clause-left c =
-    let arenas = ap (λ (s : Shape). s.arenas) c.requires.shape in
-    omega (arith, c.loop-lines.invariant.first.others, arenas)
+    omega (arith, c.loop-lines.invariant.first.others, c.requires.arenas)
 
 pub hire_one-requires-clause-named : goal.hire_one-requires-clause-named
 hire_one-requires-clause-named c =
     subst (λ (ls : List Attribute). AreNamed ls)
     (sym (c.as_slice.ensures ∙ c.lines-item.is))
     (c.requires.named c.loop-lines.lines-index c.lines-item.result (omega arith))
-
-pub hire_one-requires-clause-room : goal.hire_one-requires-clause-room
-hire_one-requires-clause-room c =
-    let most = le-greatest thread_words c.lines-item.result c.args.threads.now
-    c.loop-lines.lines-index (omega arith) in
-    let same = ap thread_words (c.as_slice.ensures ∙ c.lines-item.is) in
-    let arena = ap (λ (s : Shape). s.arena) c.requires.shape in
-    omega (arith, most, same, arena)
 
 pub loop-lines-preserved : goal.loop-lines-preserved
 loop-lines-preserved c =

@@ -25,7 +25,6 @@ returns-clause-ready c =
       used = ap (λ (v : View NameSort). v.used) same;
       published = ap (λ (v : View NameSort). v.published) same;
       named = c.requires.named;
-      room = c.requires.room;
       answers = sym c.in_ok-answers.answers.ok.0 ∙ c.in_ok-answers.ensures.len;
     }
 

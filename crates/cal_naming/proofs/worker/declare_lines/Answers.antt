@@ -25,12 +25,13 @@ declare_line-requires-clause-named c =
     subst (λ (x : Attribute). IsTrue (is_name x.name)) (sym c.index-lines-at.is)
     (c.requires.named c.loop-at.at c.index-lines-at.result c.loop-at-test.true)
 
-pub declare_line-requires-clause-room : goal.declare_line-requires-clause-room
-declare_line-requires-clause-room c =
+pub returns-in-None-clause-room : goal.returns-in-None-clause-room
+returns-in-None-clause-room c room =
     let line = c.index-lines-at.result in
     let so_far = words-so-far c.args.lines.now c.loop-at.at line c.loop-at-test.true in
     let same = ap record_words c.index-lines-at.is in
-    omega (arith, so_far, same, c.loop-at.invariant.declared.used, c.requires.room)
+    c.in-None.ensures.room
+    (omega (arith, so_far, same, c.loop-at.invariant.declared.used, room))
 
 pub loop-at-preserved : goal.loop-at-preserved
 loop-at-preserved c =
@@ -41,9 +42,9 @@ loop-at-preserved c =
     let lines = c.args.lines.now in
     let answers = c.loop-at.answers in
     let line = c.index-lines-at.result in
-    let answer = c.declare_line.result in
+    let answer = c.in-Some.answer in
     let was = c.loop-at.invariant in
-    let does = c.declare_line.ensures in
+    let does = c.in-Some.ensures in
     let lines_are : take (at + 1) lines ≡ take at lines ++ line ∷ [] =
     take_more lines at line c.loop-at-test.true
     ∙ ap (λ (x : Attribute). take at lines ++ x ∷ []) (sym c.index-lines-at.is) in
@@ -62,7 +63,7 @@ loop-at-preserved c =
     }
 
 pub returns-clause-declared : goal.returns-clause-declared
-returns-clause-declared c =
+returns-clause-declared c all =
     let plan = plan_of c.args.names.now in
     let w = view c.loop-at.seat in
     let at = c.loop-at.at in
