@@ -63,8 +63,8 @@ module _ {T : Type 0} where
       let count : length (left ++ one ∷ []) ≡ suc (length left) = length-append left (one ∷ []) ∙ omega arith in (
         split_before ∙ ap (λ (l : List (Ended T)). left ++ l) (sym now),
         ap (λ (n : ℕ). set (take n others ++ map told_of behind) (length left) (told_of one)) count
-        ∙ set-take others (length left) (told_of one) (map told_of behind) (omega arith)
-        ∙ ap (λ (l : List (Ended T)). take (length left) others ++ map told_of l) (sym now),
+            ∙ set-take others (length left) (told_of one) (map told_of behind) (omega arith)
+            ∙ ap (λ (l : List (Ended T)). take (length left) others ++ map told_of l) (sym now),
       )
 
   pub AreEndedOf-front : {L : Type 0} (mailbox : Mailbox T L) (left : List (Ended T)) (one : Ended T) → AreEndedOf mailbox (left ++ one ∷ []) → AreEndedOf mailbox left

@@ -62,7 +62,8 @@ abbrev pub sent_in : {T : Type 0} → Ended T → List T
 sent_in ended = parts_among (view ended.pass).sent
 
 -- the sender of a number of a mailbox has ended
-pub record IsEndedOf {T L : Type 0} (mailbox : Mailbox T L) (number : ℕ) (ended : Ended T) : Type 0 where
+pub record IsEndedOf {T L : Type 0} (mailbox : Mailbox T L) (number : ℕ) (ended : Ended T)
+    : Type 0 where
   pub at : IsSeatAt mailbox ended.pass
   pub sender_is : (view ended.pass).sender ≡ Some number
 

@@ -1,3 +1,4 @@
+//! The collector.
 ghost use Rattle.std.specs.Prelude.{◌≡◌, ℕ, true, false, None, length, slice_index_or};
 ghost use Rattle.crossbeam_channel.specs.Claims.{IsSeatAt, view};
 ghost use Rattle.crossbeam_channel.specs.Ends.{receives_on, sends_on};

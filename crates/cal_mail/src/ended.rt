@@ -1,3 +1,4 @@
+//! A sender that has ended.
 ghost use Rattle.std.specs.Prelude.{◌≡◌, true};
 ghost use Rattle.crossbeam_channel.specs.Claims.{view};
 ghost use Rattle.cal_mail.specs.Messages.{ended_with, parts_among};

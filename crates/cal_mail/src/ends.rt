@@ -1,3 +1,4 @@
+//! The steps at the ends of the channel.
 ghost use Rattle.std.specs.Prelude.{◌≡◌, true, Some, None};
 ghost use Rattle.crossbeam_channel.specs.Claims.{IsSeatAt, view};
 ghost use Rattle.crossbeam_channel.specs.Ends.{receives_on, sends_on};
@@ -93,10 +94,7 @@ pub(crate) fn take_in<T: Drop, L: SendLaw<T>>(
 }
 
 /// Compares what was received, and what the channel holds, with what the senders sent.
-pub(crate) fn settle<T: Drop, L: SendLaw<T>>(
-    end: &SendEnd<T, L>,
-    pass: &mut Pass<Mail<T>, View<T>>,
-)
+pub(crate) fn settle<T: Drop, L: SendLaw<T>>(end: &SendEnd<T, L>, pass: &mut Pass<Mail<T>, View<T>>)
     requires at { IsSeatAt (sends_on end.now) pass.old }
     requires live { (view pass.old).live ≡ true }
     ensures at { IsSeatAt (sends_on end.now) pass.new }

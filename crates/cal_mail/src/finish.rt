@@ -1,3 +1,4 @@
+//! The end: what was received is what was sent.
 ghost use Rattle.std.specs.Prelude.{◌≡◌, true, None, length};
 ghost use Rattle.crossbeam_channel.specs.Claims.{IsSeatAt, view};
 ghost use Rattle.crossbeam_channel.specs.Ends.{sends_on};

@@ -1,3 +1,4 @@
+//! Of which senders the last message came.
 ghost use Rattle.std.specs.Prelude.{◌≡◌, ◌<◌, true, false, IfOk, All, length, replicate, slice_set};
 
 use cal_value::OutOfMemory;

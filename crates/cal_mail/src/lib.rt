@@ -8,7 +8,6 @@ mod ended;
 mod ends;
 mod finish;
 mod last;
-mod laws;
 mod mail;
 mod may_send;
 mod open;
@@ -20,7 +19,6 @@ mod view;
 
 pub use collector::Collector;
 pub use ended::Ended;
-pub use laws::nothing_is_left;
 pub use mail::{Mail, Received};
 pub use may_send::{AnyPart, SendLaw};
 pub use open::open_mail;

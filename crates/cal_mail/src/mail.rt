@@ -1,3 +1,5 @@
+//! What is sent, and what is received.
+
 /// What a sender puts into the channel: a part, or (None) its last message.
 #[derive(Drop)]
 pub struct Mail<T> {

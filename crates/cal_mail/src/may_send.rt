@@ -1,9 +1,10 @@
+//! What senders may send.
 ghost use Rattle.std.specs.Prelude.{List, ⊤};
 
 use std::marker::Brand;
 
-/// What senders may send. It has ghost members alone, so a call may pick its law by passing `Brand`,
-/// with values that are known only as the program runs.
+/// What senders may send. It has ghost members alone, so a call may pick its law by passing
+/// `Brand`, also with values that are known only as the program runs.
 pub trait SendLaw<T> {
     /// A sender that has sent these parts may send this one.
     ghost may_send: { List T → T → Type 0 };

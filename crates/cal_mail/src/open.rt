@@ -1,3 +1,4 @@
+//! Opening a mailbox.
 ghost use Rattle.std.specs.Prelude.{◌≡◌, ◌≤◌, ◌+◌, [], true, None, IfOk, length};
 ghost use Rattle.crossbeam_channel.specs.Claims.{IsSeatAt, view};
 ghost use Rattle.crossbeam_channel.specs.Ends.{sends_on};
@@ -78,8 +79,8 @@ fn cut_all<'a, Q, T: Drop, L: SendLaw<T>>(
     requires at { IsSeatAt (sends_on own.now) pass.old }
     requires fresh { view pass.old ≡ collecting }
     ensures at { IsSeatAt (sends_on own.now) pass.new }
-    ensures collects { IfOk result (λ _. ((view pass.new).live ≡ true) × ((view pass.new).sender ≡ None)
-        × ((view pass.new).got ≡ [])) }
+    ensures collects { IfOk result (λ _. ((view pass.new).live ≡ true)
+        × ((view pass.new).sender ≡ None) × ((view pass.new).got ≡ [])) }
     ensures others { IfOk result (λ _. length (view pass.new).others ≡ count) }
     ensures senders { IfOk result (λ all. (length all.items ≡ count)
         × AreNewSenders (sends_on own.now) all.items) }

@@ -1,3 +1,5 @@
+//! The channel's rule, and its steps.
+
 use crate::{Mail, SendLaw, View};
 use crossbeam_channel::protocol::{Join, Lesson, Outcome, Protocol, Split};
 use std::marker::PhantomData;

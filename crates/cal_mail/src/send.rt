@@ -1,5 +1,6 @@
+//! Sending parts, and the last message.
 ghost use Rattle.std.specs.Prelude.{◌≡◌, ◌++◌, ◌∷◌, []};
-ghost use Rattle.cal_mail.specs.Ends.{IsEndedOf, IsSenderOf, mailbox_of_sender, number_of};
+ghost use Rattle.cal_mail.specs.Ends.{IsEndedOf, mailbox_of_sender, number_of};
 ghost use Rattle.cal_mail.specs.Ends.{sent_by, sent_in};
 
 use crate::ends::post;
@@ -11,7 +12,8 @@ impl<'a, Q: Wait, T: Drop, L: SendLaw<T>> Sender<'a, Q, T, L> {
     pub fn send(&mut self, part: T)
         requires lawful { L.may_send (sent_by self.old) part }
         ensures sent { sent_by self.new ≡ sent_by self.old ++ part ∷ [] }
-        ensures stays { IsSenderOf (mailbox_of_sender self.old) (number_of self.old) self.new }
+        ensures stays { (mailbox_of_sender self.new ≡ mailbox_of_sender self.old)
+            × (number_of self.new ≡ number_of self.old) }
     {
         let mail = Mail {
             sender: self.number,

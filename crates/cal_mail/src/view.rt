@@ -1,3 +1,5 @@
+//! What a pass of the channel knows.
+
 use crate::Mail;
 use std::collections::LinkedList;
 

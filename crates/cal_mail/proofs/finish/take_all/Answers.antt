@@ -20,7 +20,7 @@ loop-one-preserved g c =
     let last = AreEndedOf-last own left one are in
     let joined = c.take_in.ensures.joined in
     let more = taken-more first all left one c.requires.all
-        (subst (λ l. all ≡ l ++ drop (length l) all) items kept.split) in
+    (subst (λ l. all ≡ l ++ drop (length l) all) items kept.split) in
     record {
       at = c.take_in.ensures.at;
       live = ap (λ v. v.live) joined ∙ kept.live;
