@@ -36,7 +36,7 @@ module _ {Q L : Type 0} (mailbox : Mailbox ℕ L) where
       let longer = length-append one (second ∷ []) in
       let there = are (length left) first (omega arith) in
       subst (IsSenderOf mailbox (length left))
-          (get_or_append_left one (second ∷ []) first (length left) (omega arith) ∙ get_or-append_seam left first [] first) there.0
+      (get_or_append_left one (second ∷ []) first (length left) (omega arith) ∙ get_or-append_seam left first [] first) there.0
 
   pub one_ended : (senders left : List (Sender Q ℕ L)) (sender : Sender Q ℕ L) (one : Ended ℕ) (ended : List (Ended ℕ)) → length senders ≡ 1 → AreNewSenders mailbox senders → senders ≡ left ++ sender ∷ [] → IsEndedOf (mailbox_of_sender sender) (number_of sender) one → ended ≡ one ∷ [] → AreEndedOf mailbox ended
   one_ended senders left sender one ended count are split is all =
@@ -44,7 +44,7 @@ module _ {Q L : Type 0} (mailbox : Mailbox ℕ L) where
       let none : length left ≡ 0 = omega arith in
       let here = ended_of (length left) sender one (last_of left sender (subst (λ (l : List (Sender Q ℕ L)). AreNewSenders mailbox l) split are)) is in
       subst (λ (l : List (Ended ℕ)). AreEndedOf mailbox l) (sym all)
-          (only mailbox one (subst (λ (n : ℕ). IsEndedOf mailbox n one) none here))
+      (only mailbox one (subst (λ (n : ℕ). IsEndedOf mailbox n one) none here))
 
   pub two_ended : (senders left rest : List (Sender Q ℕ L)) (first second : Sender Q ℕ L) (one two : Ended ℕ) (ended : List (Ended ℕ)) → length senders ≡ 2 → AreNewSenders mailbox senders → senders ≡ left ++ second ∷ [] → left ≡ rest ++ first ∷ [] → IsEndedOf (mailbox_of_sender first) (number_of first) one → IsEndedOf (mailbox_of_sender second) (number_of second) two → ended ≡ one ∷ two ∷ [] → AreEndedOf mailbox ended
   two_ended senders left rest first second one two ended count are split split_left is_one is_two all =
@@ -56,4 +56,4 @@ module _ {Q L : Type 0} (mailbox : Mailbox ℕ L) where
       let last = ended_of (length left) second two (last_of left second senders_are) is_two in
       let front = ended_of (length rest) first one (last_but_one rest first second (subst (λ (l : List (Sender Q ℕ L)). AreNewSenders mailbox (l ++ second ∷ [])) split_left senders_are)) is_one in
       subst (λ (l : List (Ended ℕ)). AreEndedOf mailbox l) (sym all)
-          (both mailbox one two (subst (λ (n : ℕ). IsEndedOf mailbox n one) none front) (subst (λ (n : ℕ). IsEndedOf mailbox n two) single last))
+      (both mailbox one two (subst (λ (n : ℕ). IsEndedOf mailbox n one) none front) (subst (λ (n : ℕ). IsEndedOf mailbox n two) single last))
