@@ -1,14 +1,13 @@
 -- What was received of senders that have ended.
-use Rattle.std.proofs.Common.{◌≡◌, ℕ, zero, suc, ◌+◌, ◌<◌, ◌≤◌, true, Option, Some, None, IsSome, All, List, [], ◌∷◌, ◌++◌, map, length, get_or, set, take, drop, refl, sym, ap, ◌∙◌, subst, arith, length-append}
+use Rattle.std.proofs.Common.{◌≡◌, ℕ, zero, suc, ◌<◌, ◌≤◌, true, Option, Some, IsSome, All, List, [], ◌∷◌, ◌++◌, map, length, get_or, set, take, drop, refl, sym, ap, ◌∙◌, subst, arith, length-append}
 use Rattle.std.proofs.lemmas.List.{get_or_append_left, append_assoc}
 use Rattle.std.proofs.lemmas.List.Elements.{All-cons, All-nil}
 use Rattle.std.proofs.Math.Seq.{get_or-append_seam, drop-append_seam}
 use Rattle.crossbeam_channel.specs.Claims.{view}
 use Rattle.cal_mail.specs.declared.ended.Ended.{Ended}
 use Rattle.cal_mail.specs.declared.mail.Mail.{Mail}
-use Rattle.cal_mail.specs.declared.view.View.{View}
 use Rattle.cal_mail.specs.Ends.{Mailbox, AreEndedOf, IsEndedOf, IsWhole, sent_in}
-use Rattle.cal_mail.specs.Messages.{ended_with, has_last, of, parts_among, parts_in, parts_of}
+use Rattle.cal_mail.specs.Messages.{has_last, of, parts_among, parts_in}
 use Rattle.cal_mail.specs.Rule.{sent_at}
 use Rattle.cal_mail.proofs.Sending.{parts_among-ended_with, parts_of-parts_in}
 use Rattle.cal_mail.proofs.Steps.{of-append}

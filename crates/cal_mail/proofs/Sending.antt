@@ -2,11 +2,9 @@
 use Rattle.std.proofs.Common.{◌≡◌, ℕ, true, false, Bool, cond, eqb, Option, Some, None, List, [], ◌∷◌, ◌++◌, map, get_or, set, refl, sym, ap, ◌∙◌}
 use mathlib.Core.Logic.{dite}
 use native.Mathlib.Decide.{ℕ_discrete}
-use Rattle.std.specs.List.{filter_map}
 use Rattle.std.proofs.lemmas.List.{append-nil, map-append}
 use Rattle.std.proofs.lemmas.List.Elements.{filter_map-append}
 use Rattle.cal_mail.specs.declared.mail.Mail.{Mail}
-use Rattle.cal_mail.specs.declared.mail.Received.{Received}
 use Rattle.cal_mail.specs.Messages.{ended_with, has_last, of, part_in, parts_among, parts_in, parts_of}
 use Rattle.cal_mail.proofs.Places.{get_or-set-else}
 use Rattle.cal_mail.proofs.Steps.{of-append, of-more}

@@ -1,5 +1,5 @@
 -- Each step keeps the rule of the channel.
-use Rattle.std.proofs.Common.{◌≡◌, ◌≢◌, ◌⊎◌, ℕ, zero, suc, ◌+◌, ◌-◌, ◌<◌, ◌≤◌, Bool, true, false, cond, eqb, Option, Some, None, IsSome, All, List, [], ◌∷◌, ◌++◌, length, get_or, set, sym, refl, ap, ◌∙◌, subst, inl, inr, ⊎_elim, arith, length-set, length-append, eq-eqb, ne_eqb}
+use Rattle.std.proofs.Common.{◌≡◌, ◌≢◌, ℕ, zero, suc, Bool, true, false, cond, eqb, Option, Some, None, IsSome, All, List, [], ◌∷◌, ◌++◌, length, get_or, set, sym, refl, ap, ◌∙◌, subst, inl, inr, ⊎_elim, arith, length-set, length-append, eq-eqb, ne_eqb}
 use Rattle.std.proofs.lemmas.List.{append_assoc, append-nil}
 use Rattle.std.proofs.lemmas.List.Elements.{All-head, All-tail}
 use mathlib.Core.Option.{some, some-injective}
@@ -10,7 +10,7 @@ use Rattle.atomic_table.proofs.Lists.{at_set, set_here, set_else}
 use Rattle.crossbeam_channel.specs.Fifo.{Pushes, Pops, Forks, Merges, Learns}
 use Rattle.cal_mail.specs.declared.mail.Mail.{Mail}
 use Rattle.cal_mail.specs.declared.view.View.{View}
-use Rattle.cal_mail.specs.Messages.{of, parts_among}
+use Rattle.cal_mail.specs.Messages.{of}
 use Rattle.cal_mail.specs.Passes.{with_sent, posting, getting, cut_off, new_sender, joined, spent, collecting}
 use Rattle.cal_mail.specs.Rule.{sent_at, told_by, told, Sits, Accounts, MayFollow, IsLawful, Tells, Kept}
 use Rattle.cal_mail.proofs.Places.{at_below, some_at, at_end, at_some, get_or-snoc-nil, get_or-here, get_or-set-here, get_or-set-else, split_last}

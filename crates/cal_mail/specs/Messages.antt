@@ -1,7 +1,7 @@
 -- Messages and mails. A message is a part, or (None) a sender's last message; a mail is a message
 -- with its sender's number.
 use Rattle.std.specs.Prelude.{ℕ, ◌==◌, if◌then◌else◌, Bool, true, false, Option, Some, None, List}
-use Rattle.std.specs.Prelude.{[], ◌∷◌, ◌++◌, filter_map}
+use Rattle.std.specs.Prelude.{[], ◌∷◌, filter_map}
 use Rattle.std.specs.Option.{option_map}
 use Rattle.cal_mail.specs.declared.mail.Mail.{Mail}
 use Rattle.cal_mail.specs.declared.mail.Received.{Received}

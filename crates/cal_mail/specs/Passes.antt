@@ -1,5 +1,5 @@
 -- What each step makes of what a pass knows.
-use Rattle.std.specs.Prelude.{ℕ, Bool, true, false, Option, Some, None, List, [], ◌∷◌, ◌++◌}
+use Rattle.std.specs.Prelude.{ℕ, true, false, Option, Some, None, List, [], ◌∷◌, ◌++◌}
 use Rattle.std.specs.Prelude.{length, slice_set}
 use Rattle.cal_mail.specs.declared.mail.Mail.{Mail}
 use Rattle.cal_mail.specs.declared.view.View.{View}

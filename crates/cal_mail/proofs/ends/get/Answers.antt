@@ -1,4 +1,4 @@
-use Rattle.std.proofs.Common.{ap, ◌∙◌, sym, subst}
+use Rattle.std.proofs.Common.{ap, ◌∙◌}
 use Rattle.cal_mail.proofs.Steps.{pops}
 use Rattle.cal_mail.proofs.ends.get.Goals as goal
 

@@ -1,4 +1,4 @@
-use Rattle.std.proofs.Common.{◌≡◌, ◌++◌, List, map, length, take, drop, vec_len}
+use Rattle.std.proofs.Common.{◌≡◌, ◌++◌, map, length, take, drop, vec_len}
 use Rattle.crossbeam_channel.specs.Claims.{IsSeatAt, view}
 use Rattle.crossbeam_channel.specs.Ends.{sends_on}
 use Rattle.cal_mail.specs.Ends.{AreEndedOf}

@@ -1,4 +1,4 @@
-use Rattle.std.proofs.Common.{◌≡◌, length, slice_index_or, true, false, length-set, ap, sym, ◌∙◌, subst}
+use Rattle.std.proofs.Common.{length, slice_index_or, true, false, length-set, ap, sym, ◌∙◌, subst}
 use Rattle.crossbeam_channel.specs.Claims.{IsSeatAt, view}
 use Rattle.cal_mail.specs.Messages.{has_last, of, parts_in}
 use Rattle.cal_mail.specs.Rule.{MayFollow}
