@@ -1,0 +1,5 @@
+pub mod Places
+pub mod Steps
+pub mod Whole
+pub mod Ending
+pub mod Sending

@@ -1,0 +1,4 @@
+pub mod Ends
+pub mod Messages
+pub mod Passes
+pub mod Rule
