@@ -58,7 +58,7 @@ fn part_senders<'a, Q, S: Shapes>(
     alloc: Global,
     senders: Vec<Sender<'a, Q, Part, PartLaw<S>>>,
 ) -> Result<Vec<PartSender<'a, Q, S>>, OutOfMemory>
-    ensures { IfOk result (λ all. senders_in all.items ≡ senders.items) }
+    ensures { IfOk result (λ all. senders_in all.items ≡ senders.entry.items) }
 {
     let mut all = Vec::with_capacity(alloc, senders.len())?;
     for sender in senders {
