@@ -1,5 +1,5 @@
 -- What a collector has merged: at first, when a part comes, and in the end.
-use Rattle.std.proofs.Common.{◌≡◌, ◌≢◌, ℕ, zero, suc, ◌+◌, ◌*◌, ◌<◌, ◌≤◌, ◌^◌, Option, Some, None, List, [], ◌∷◌, ◌++◌, map, length, get_or, set, refl, sym, ap, ◌∙◌, subst, arith, length-set}
+use Rattle.std.proofs.Common.{◌≡◌, ◌≢◌, ℕ, zero, suc, ◌<◌, ◌≤◌, ◌^◌, Some, List, [], ◌∷◌, ◌++◌, map, length, get_or, refl, sym, ap, ◌∙◌, subst, arith, length-set}
 use mathlib.Core.Logic.{dite}
 use native.Mathlib.Decide.{ℕ_discrete}
 use Rattle.std.specs.List.{slice_get}
@@ -7,7 +7,7 @@ use Rattle.std.proofs.lemmas.List.{get_or-set_other, get_or-set_same, length-map
 use Rattle.std.proofs.lemmas.Option.{get_or_from_slice_get, slice_get-get_or, slice_get_within}
 use Rattle.cal_mail.specs.declared.mail.Received.{Received}
 use Rattle.cal_mail.specs.Messages.{parts_of}
-use Rattle.cal_table.specs.Tables.{Same, TableValue, empty_table, merged_tables}
+use Rattle.cal_table.specs.Tables.{Same, TableValue, empty_table}
 use Rattle.cal_table.specs.TableLaws.{Same-refl}
 use Rattle.cal_table.specs.declared.shape.TableShape.{TableShape}
 use Rattle.cal_collect.specs.Collecting.{AreMerged, FitsAt, MergedAt}
@@ -91,7 +91,7 @@ module _ (shapes : List TableShape) (senders : ℕ) (received : List (Received P
       let table : TableValue = get_or tables one.part.channel one.part.table in
       let at : slice_get tables one.part.channel ≡ Some table = slice_get-get_or tables one.part.channel one.part.table within in
       let same : Same table (merge_of one.part.table.shape (sent_for one.part.channel before.sents)) =
-          before.merges.each one.part.channel one.part.table.shape table may.shape at in
+      before.merges.each one.part.channel one.part.table.shape table may.shape at in
       record {
         table = table;
         at = at;
@@ -109,8 +109,8 @@ module _ (shapes : List TableShape) (senders : ℕ) (received : List (Received P
     merges_here : (shape : TableShape) (table : TableValue) → slice_get shapes one.part.channel ≡ Some shape → slice_get new one.part.channel ≡ Some table → Same table (merge_of shape (sent_for one.part.channel (more_sent before.sents one)))
     merges_here shape table at is =
         let put : merged.is ≡ table = sym (get_or-set_same tables one.part.channel merged.is table within)
-            ∙ ap (λ (l : List TableValue). get_or l one.part.channel table) (sym merged.put)
-            ∙ get_or_from_slice_get new one.part.channel table table is in
+        ∙ ap (λ (l : List TableValue). get_or l one.part.channel table) (sym merged.put)
+        ∙ get_or_from_slice_get new one.part.channel table table is in
         subst (λ (t : TableValue). Same t (merge_of shape (sent_for one.part.channel (more_sent before.sents one)))) put
         (same-here shape before.sents one.sender one.part merged.was merged.is below
         (before.merges.each one.part.channel shape merged.was at merged.at) merged.merged)
@@ -122,8 +122,8 @@ module _ (shapes : List TableShape) (senders : ℕ) (received : List (Received P
     merges_other c shape table ne at is =
         let inside : c < length tables = subst (λ (n : ℕ). c < n) new_long (slice_get_within new c table is) in
         let stays : get_or tables c table ≡ table = sym (get_or-set_other tables one.part.channel c merged.is table (λ e. ne (sym e)))
-            ∙ ap (λ (l : List TableValue). get_or l c table) (sym merged.put)
-            ∙ get_or_from_slice_get new c table table is in
+        ∙ ap (λ (l : List TableValue). get_or l c table) (sym merged.put)
+        ∙ get_or_from_slice_get new c table table is in
         same-other c shape before.sents one.sender one.part table below ne
         (before.merges.each c shape table at (slice_get-get_or tables c table inside ∙ ap Some stays))
 

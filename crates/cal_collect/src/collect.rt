@@ -12,6 +12,15 @@ use cal_mail::Received;
 use cal_value::OutOfMemory;
 use std::sync::Wait;
 
+impl<'a, Q, S: Shapes> PartCollector<'a, Q, S> {
+    /// How many parts came, modulo 2^64.
+    pub fn received(&self) -> u64
+        ensures { result ≡ length (received_by self.now.collector) % 2 ^ 64 }
+    {
+        self.count
+    }
+}
+
 impl<'a, Q: Wait, S: Shapes> PartCollector<'a, Q, S> {
     /// Receives until each sender's last message came, and merges each part into its channel's
     /// table. It waits while the channel is empty. An `Err` is want of memory: it comes in the end
@@ -34,13 +43,6 @@ impl<'a, Q: Wait, S: Shapes> PartCollector<'a, Q, S> {
             }
         }
         unreachable!()
-    }
-
-    /// How many parts came, modulo 2^64.
-    pub fn received(&self) -> u64
-        ensures { result ≡ length (received_by self.now.collector) % 2 ^ 64 }
-    {
-        self.count
     }
 
     // The next part of any sender, which is counted. None: each sender's last message came.

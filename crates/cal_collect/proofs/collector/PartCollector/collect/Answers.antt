@@ -1,4 +1,4 @@
-use Rattle.std.proofs.Common.{◌≡◌, ℕ, true, false, Result, Ok, Err, List, [], ◌∷◌, ◌++◌, OnOk, sym, ap, ◌∙◌, subst, rules}
+use Rattle.std.proofs.Common.{◌≡◌, ℕ, false, Result, Ok, Err, List, OnOk, sym, ap, ◌∙◌, subst, rules}
 use Rattle.std.specs.Result.{is_err}
 use Rattle.cal_mail.specs.Ends.{received_by, senders_of}
 use Rattle.cal_mail.specs.declared.mail.Received.{Received}
