@@ -21,8 +21,9 @@ pub mod Results
 pub mod Totalling
 pub mod GroupRows
 pub mod Regroups
-pub mod Sifting
-pub mod Choosing
+pub mod TakerLemmas
+pub mod ShareLemmas
+pub mod ImmLemmas
 pub mod KeyLemmas
 pub mod Counting
 pub mod Seekers
