@@ -36,6 +36,7 @@ pub mod SnapshotRanking
 pub mod MovedNumbers
 pub mod MovedKeys
 pub mod MergedGroups
+pub mod SieveLemmas
 pub mod AnswerParts
 pub mod KeyWays
 pub mod SingleKeys

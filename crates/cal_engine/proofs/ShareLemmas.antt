@@ -8,6 +8,7 @@ use Rattle.std.proofs.lemmas.Bool.Decides.{Decides-eqb, nat_tests}
 use Rattle.std.proofs.lemmas.Grind.{common_steps}
 use Rattle.std.proofs.lemmas.List.{drop-append-le, drop_at, get_or-append_right, get_or-drop, get_or_append_left, length-append, length-drop, length-map, length-replicate, map-append, replicate-append-replicate, take-append-le, take_all, take_more}
 use Rattle.std.proofs.lemmas.List.Elements.{All-cons, All-nil, All-tail, All-weaker, filter-append}
+use Rattle.cal_context.specs.Lists.{IsFront}
 use Rattle.cal_context.specs.Snapshots.{IsBelowRoot}
 use Rattle.cal_context.specs.Tree.{Grows, IsContext, Tree, path_at}
 use Rattle.cal_context.specs.declared.numbers.NodeNumber.{NodeNumber}
@@ -480,7 +481,7 @@ map-blank shares (suc n) = ap (λ xs. [] ∷ xs) (map-blank shares n)
 pub spans_end : (shares : List Share) (spans : List Span) (count : ℕ) (span : Span) → length spans ≤ count → spanned shares span ≡ []
     → with_nones (map (spanned shares) spans) (count + 1) ≡ with_nones (map (spanned shares) spans) count ++ spanned shares span ∷ []
 spans_end shares spans count span within none =
-    with_nones-next (map (spanned shares) spans) count (omega (arith, within, length-map (spanned shares) spans))
+    with_nones-next (map (spanned shares) spans) count (omega (arith, within, length-map spans (spanned shares)))
     ∙ ap (λ x. with_nones (map (spanned shares) spans) count ++ x ∷ []) (sym none)
 
 pub padded_spans : (shares : List Share) (spans now : List Span) (count : ℕ) (span : Span) → length spans ≤ count
@@ -488,7 +489,7 @@ pub padded_spans : (shares : List Share) (spans now : List Span) (count : ℕ) (
     → with_nones (map (spanned shares) now) (count + 1) ≡ with_nones (map (spanned shares) spans) count ++ spanned shares span ∷ []
 padded_spans shares spans now count span within is =
     let lists = map (spanned shares) spans in
-    let counted = length-map (spanned shares) spans in
+    let counted = length-map spans (spanned shares) in
     let mapped : map (spanned shares) now ≡ with_nones lists count ++ spanned shares span ∷ [] =
     ap (map (spanned shares)) is ∙ map-append (spanned shares) (spans ++ replicate (count - length spans) no_span) (span ∷ [])
     ∙ ap (λ xs. xs ++ spanned shares span ∷ []) (map-append (spanned shares) spans (replicate (count - length spans) no_span)
@@ -507,7 +508,7 @@ All-blank P x h zero = All-nil P
 All-blank P x h (suc n) = All-cons P x (replicate n x) h (All-blank P x h n)
 
 pub spans_padded : (shares : List Share) (spans : List Span) (n : ℕ) → All (IsSpanIn shares) spans → All (IsSpanIn shares) (spans ++ replicate n no_span)
-spans_padded shares spans n h = All-append (IsSpanIn shares) spans (replicate n no_span) h (All-blank (IsSpanIn shares) no_span (omega arith) n)
+spans_padded shares spans n h = All-append (IsSpanIn shares) spans (replicate n no_span) h (All-blank (IsSpanIn shares) no_span (record { rise = omega arith; within = omega arith }) n)
 
 -- spans stay where the shares behind them grow
 pub spans_grow : (shares more : List Share) (spans : List Span) → All (IsSpanIn shares) spans
@@ -515,11 +516,11 @@ pub spans_grow : (shares more : List Share) (spans : List Span) → All (IsSpanI
 spans_grow shares more [] h = refl
 spans_grow shares more (s ∷ spans) h =
     let first : IsSpanIn shares s = h 0 s (omega arith) in
-    λ i. range_front shares more s.from s.to first i ∷ spans_grow shares more spans (All-tail (IsSpanIn shares) s spans h) i
+    λ i. range_front shares more s.from s.to first.within i ∷ spans_grow shares more spans (All-tail (IsSpanIn shares) s spans h) i
 
 pub spans_within : (shares more : List Share) (spans : List Span) → All (IsSpanIn shares) spans → All (IsSpanIn (shares ++ more)) spans
 spans_within shares more spans h =
-    All-weaker (IsSpanIn shares) (IsSpanIn (shares ++ more)) (λ s l. let whole = length-append shares more in omega (arith, l, whole)) spans h
+    All-weaker (IsSpanIn shares) (IsSpanIn (shares ++ more)) (λ s l. let whole = length-append shares more in record { rise = l.rise; within = omega (arith, l.within, whole) }) spans h
 
 pub read_span : (shares : List Share) (spans : List Span) (count i : ℕ)
     → get_or (with_nones (map (spanned shares) spans) count) i [] ≡ spanned shares (get_or spans i no_span)
@@ -531,6 +532,57 @@ read_span shares spans count i = read-with_nones (map (spanned shares) spans) co
     by (s ∷ spans) (suc i) = by spans i
 
 pub span_in : (shares : List Share) (spans : List Span) (i : ℕ) → All (IsSpanIn shares) spans → IsSpanIn shares (get_or spans i no_span)
-span_in shares [] i h = omega arith
+span_in shares [] i h = record { rise = omega arith; within = omega arith }
 span_in shares (s ∷ spans) zero h = h 0 s (omega arith)
 span_in shares (s ∷ spans) (suc i) h = span_in shares spans i (All-tail (IsSpanIn shares) s spans h)
+
+pub spans_pushed : (shares : List Share) (spans now : List Span) (n : ℕ) (span : Span) → All (IsSpanIn shares) spans → IsSpanIn shares span
+    → now ≡ (spans ++ replicate n no_span) ++ span ∷ [] → All (IsSpanIn shares) now
+spans_pushed shares spans now n span all h is =
+    subst (All (IsSpanIn shares)) (sym is)
+    (All-append (IsSpanIn shares) (spans ++ replicate n no_span) (span ∷ []) (spans_padded shares spans n all) (All-cons (IsSpanIn shares) span [] h (All-nil (IsSpanIn shares))))
+
+-- a list more in one block
+pub pushed_with : (shares now : List Share) (spans : List Span) (count : ℕ) (made span : Span) (like : ℕ) (share : Share) (view : List (List Share))
+    → All (IsSpanIn shares) spans → IsFront shares now → span ≡ get_or spans like no_span → with_nones (map (spanned shares) spans) count ≡ view
+    → spanned now made ≡ with_share share (spanned shares span)
+    → with_nones (map (spanned now) spans) count ++ spanned now made ∷ [] ≡ view ++ with_share share (get_or view like []) ∷ []
+pushed_with shares now spans count made span like share view all front at view_is made_is =
+    let lists = ap (λ xs. map (spanned xs) spans) front.1 ∙ spans_grow shares front.0 spans all in
+    let read : spanned shares span ≡ get_or view like [] = ap (spanned shares) at ∙ sym (read_span shares spans count like) ∙ ap (λ xs. get_or xs like []) view_is in
+    (λ i. (ap (λ xs. with_nones xs count) lists ∙ view_is) i ++ (made_is ∙ ap (with_share share) read) i ∷ [])
+
+-- ---- one share joined
+
+pub same_read : {A : Type 0} (xs : List A) (i : ℕ) (d e : A) → i < length xs → get_or xs i d ≡ get_or xs i e
+same_read [] i d e l = absurd (omega (arith, l))
+same_read (x ∷ xs) zero d e l = refl
+same_read (x ∷ xs) (suc i) d e l = same_read xs i d e (omega (arith, l))
+
+no_front : (xs ys : List Entry) → xs ++ ys ≡ [] → ys ≡ []
+no_front [] ys e = e
+no_front (x ∷ xs) ys e = cc
+
+pub shares_join : (own new : Tree) → IsContext own → IsContext new → (count : ℕ) (takes : ℕ → List Entry) (xs : List Share) (share made : Share) → made.place ≡ share.place
+    → Grows own new → IsShareIn own count share → Leads new (takes share.place ++ path_at own share.node) made.node → AreShares own count takes xs
+    → AreShares new count (with_path own share takes) (with_share made xs)
+shares_join own new context later count takes xs share made at grows one leads h =
+    shares_with own new count takes (with_path own share takes) xs made grows (subst (λ n. n < count) (sym at) one.place) (below made.node.0 refl)
+    (subst (λ n. Leads new (with_path own share takes n) made.node) (sym at) (subst (λ es. Leads new es made.node) (sym here) leads))
+    (λ p isnt. ap (λ b. if b then takes p ++ path_at own share.node else takes p) (ap (λ n. n == p) (sym at) ∙ isnt)) h
+  where
+    here : with_path own share takes share.place ≡ takes share.place ++ path_at own share.node
+    here = ap (λ b. if b then takes share.place ++ path_at own share.node else takes share.place) (eqb_so share.place share.place refl)
+
+    below : (m : ℕ) → made.node.0 ≡ m → 0 < made.node.0
+    below zero e =
+        let none = no_front (takes share.place) (path_at own share.node) (leads-root new later (takes share.place ++ path_at own share.node) made.node e leads) in
+        absurd (leads-below own context share.node (λ f. omega (arith, f, one.below)) (record { within = one.within; is = none }))
+    below (suc m) e = omega (arith, e)
+
+-- what was added at the end
+pub list_end : (old new xs : List Share) (from to : ℕ) (made : Share) → to ≡ length old → new ≡ old ++ with_share made (slice_range old from to)
+    → drop to new ≡ with_share made (drop from old)
+list_end old new xs from to made end is =
+    ap (drop to) is ∙ drop_at old (with_share made (slice_range old from to)) to (sym end)
+    ∙ ap (with_share made) (range_rest old from to (omega (arith, end)))

@@ -60,5 +60,6 @@ with_nones lists count = lists ++ replicate (count - length lists) []
 abbrev pub spanned : List Share → Span → List Share
 spanned shares span = slice_range shares span.from span.to
 
-abbrev pub IsSpanIn : List Share → Span → Type 0
-IsSpanIn shares span = span.to ≤ length shares
+pub record IsSpanIn (shares : List Share) (span : Span) : Type 0 where
+  pub rise : span.from ≤ span.to
+  pub within : span.to ≤ length shares

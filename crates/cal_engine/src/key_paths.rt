@@ -35,12 +35,14 @@ pub(crate) fn key_paths(
 {
     own.has_each_once();
     if let [node] = nodes {
-        return nodes_of(sieve.shares(*node), room);
+        let paths = nodes_of(sieve.shares(*node), room)?;
+        return Ok(paths);
     }
     let mut list = Vec::new(alloc);
     let from = join_all(alloc, sieve, own, nodes, &mut list)?;
     own.has_each_once();
-    nodes_of(list_from(&list, from), room)
+    let paths = nodes_of(list_from(&list, from), room)?;
+    Ok(paths)
 }
 
 /// The nodes of shares.

@@ -33,7 +33,8 @@ pub(crate) fn add_with(
     to: usize,
     share: Share,
 ) -> Result<(), OutOfMemory>
-    requires { to ≤ length list.old.items }
+    requires rise { from ≤ to }
+    requires within { to ≤ length list.old.items }
     ensures added { OnOk result (list.new.items
         ≡ list.old.items ++ with_share share (slice_range list.old.items from to)) }
     ensures front { IsFront list.old.items list.new.items }
@@ -50,7 +51,8 @@ fn add_below(
     to: usize,
     place: u32,
 ) -> Result<(), OutOfMemory>
-    requires { to ≤ length list.old.items }
+    requires rise { from ≤ to }
+    requires within { to ≤ length list.old.items }
     ensures added { OnOk result (list.new.items
         ≡ list.old.items ++ filter (is_below place) (slice_range list.old.items from to)) }
     ensures front { IsFront list.old.items list.new.items }
@@ -71,7 +73,8 @@ fn add_above(
     to: usize,
     place: u32,
 ) -> Result<(), OutOfMemory>
-    requires { to ≤ length list.old.items }
+    requires rise { from ≤ to }
+    requires within { to ≤ length list.old.items }
     ensures added { OnOk result (list.new.items
         ≡ list.old.items ++ filter (is_above place) (slice_range list.old.items from to)) }
     ensures front { IsFront list.old.items list.new.items }

@@ -126,15 +126,18 @@ impl Sieve {
     {
         own.has_each_once();
         let Some(link) = context.link(node) else {
-            return self.shares.push_none();
+            self.shares.push_none()?;
+            return Ok(());
         };
         let Some(place) = self.takers.in_paths(link.attribute) else {
-            return self.shares.push_same(link.parent);
+            self.shares.push_same(link.parent)?;
+            return Ok(());
         };
         let above = node_for(self.shares.get(link.parent), place);
         let attribute = context.attribute_at(link.attribute);
         let node = step(own, above, attribute, context.value_at(link.value))?;
         own.has_each_once();
-        self.shares.push_with(link.parent, Share { place, node })
+        self.shares.push_with(link.parent, Share { place, node })?;
+        Ok(())
     }
 }

@@ -1,6 +1,6 @@
-use Rattle.std.proofs.Common.{◌≡◌, ◌+◌, [], ◌∷◌, ◌++◌, arith, length, map, ap, sym, ◌∙◌}
+use Rattle.std.proofs.Common.{◌≡◌, ◌+◌, ◌-◌, [], ◌∷◌, ◌++◌, arith, length, map, ap, sym, ◌∙◌}
 use Rattle.cal_engine.specs.Shares.{IsSpanIn, spanned, with_nones}
-use Rattle.cal_engine.proofs.ShareLemmas.{padded_spans, range_none, spans_end}
+use Rattle.cal_engine.proofs.ShareLemmas.{padded_spans, range_none, spans_end, spans_pushed}
 use Rattle.cal_engine.proofs.share_lists.add_span.Goals as goal
 
 pub returns-then-span-clause-added : goal.returns-then-span-clause-added
@@ -14,4 +14,6 @@ returns-clause-added c = λ shares.
     (c.in_ok-push.ensures.items ∙ ap (λ xs. xs ++ c.args.span ∷ []) c.in_ok-pad.ensures.ok)
 
 pub returns-clause-within : goal.returns-clause-within
-returns-clause-within c = ?
+returns-clause-within c = λ shares all within.
+    spans_pushed shares c.args.spans.now.items c.push.new.self.items (c.args.count - length c.args.spans.now.items) c.args.span all within
+    (c.in_ok-push.ensures.items ∙ ap (λ xs. xs ++ c.args.span ∷ []) c.in_ok-pad.ensures.ok)
