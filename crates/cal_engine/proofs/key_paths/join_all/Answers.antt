@@ -1,9 +1,10 @@
-use Rattle.std.proofs.Common.{◌+◌, ◌++◌, true, drop, get_or, length, map, subst, sym, take}
+use Rattle.std.proofs.Common.{◌+◌, ◌++◌, ℕ, List, true, drop, get_or, length, map, subst, sym, take}
 use Rattle.std.proofs.lemmas.List.{take_all}
 use Rattle.cal_context.specs.Tree.{path_at}
 use Rattle.cal_context.specs.declared.numbers.NodeNumber.{NodeNumber}
 use Rattle.cal_context.proofs.CallerLemmas.{Grows-trans}
 use Rattle.cal_value.specs.Flat.{joined}
+use Rattle.cal_value.specs.declared.attribute.Entry.{Entry}
 use Rattle.cal_engine.specs.Shares.{AreShares}
 use Rattle.cal_engine.specs.Takers.{taken_at}
 use Rattle.cal_engine.proofs.ShareLemmas.{AreShares-agree, same_read}
@@ -23,8 +24,8 @@ loop-node-preserved c =
       grows = Grows-trans own mid new c.loop-node.invariant.grows c.in_ok-from.ensures.grows;
       within = c.in_ok-from.ensures.within;
       shares = λ t names ready below.
-          let so_far = λ place. taken_at true names place (joined (map (path_at t) (take at nodes))) in
-          let here = λ place. taken_at true names place (path_at t n) in
+          let so_far : ℕ → List Entry = λ place. taken_at true names place (joined (map (path_at t) (take at nodes))) in
+          let here : ℕ → List Entry = λ place. taken_at true names place (path_at t n) in
           AreShares-agree new (length names) (λ place. so_far place ++ here place) (λ place. taken_at true names place (joined (map (path_at t) (take (at + 1) nodes))))
           (drop c.in_ok-from.from c.join_shares.new.list.items)
           (λ p. taken_next t names nodes at n p c.loop-node-test.true (same_read nodes at root n c.loop-node-test.true))
