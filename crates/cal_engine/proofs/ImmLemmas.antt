@@ -100,11 +100,13 @@ Climb-weaker low from to (x ∷ xs) less h = (omega (arith, less, h.0), h.1, h.2
 climbs : (from to : ℕ) (xs : List TakenImm) → All (λ (x : TakenImm). x.place < to) xs → ((i : ℕ) (d : TakenImm) → i < length xs → from ≤ (get_or xs i d).place)
     → IsNonDecreasingBy (λ (x : TakenImm). x.place) xs → Climb from to xs
 climbs from to [] all low up = tt
-climbs from to (x ∷ xs) all low up =
-    (low 0 x (omega arith), all 0 x (omega arith),
-    climbs x.place to xs (All-tail (λ (x : TakenImm). x.place < to) x xs all)
-    (λ i d l. up 0 (suc i) d (omega arith) (omega (arith, l)))
-    (λ i j d l m. up (suc i) (suc j) d (omega (arith, l)) (omega (arith, m))))
+climbs from to (x ∷ xs) all low up = (
+  low 0 x (omega arith),
+  all 0 x (omega arith),
+  climbs x.place to xs (All-tail (λ (x : TakenImm). x.place < to) x xs all)
+      (λ i d l. up 0 (suc i) d (omega arith) (omega (arith, l)))
+      (λ i j d l m. up (suc i) (suc j) d (omega (arith, l)) (omega (arith, m))),
+)
 
 module _ (t : Tree) where
   abbrev entries_at : List TakenImm → ℕ → List Entry

@@ -45,12 +45,7 @@ pub(crate) fn add_with(
 }
 
 /// Adds those of them that stand below a place.
-fn add_below(
-    list: &mut Vec<Share>,
-    from: usize,
-    to: usize,
-    place: u32,
-) -> Result<(), OutOfMemory>
+fn add_below(list: &mut Vec<Share>, from: usize, to: usize, place: u32) -> Result<(), OutOfMemory>
     requires rise { from ≤ to }
     requires within { to ≤ length list.old.items }
     ensures added { OnOk result (list.new.items
@@ -67,12 +62,7 @@ fn add_below(
 }
 
 /// Adds those of them that stand above a place.
-fn add_above(
-    list: &mut Vec<Share>,
-    from: usize,
-    to: usize,
-    place: u32,
-) -> Result<(), OutOfMemory>
+fn add_above(list: &mut Vec<Share>, from: usize, to: usize, place: u32) -> Result<(), OutOfMemory>
     requires rise { from ≤ to }
     requires within { to ≤ length list.old.items }
     ensures added { OnOk result (list.new.items

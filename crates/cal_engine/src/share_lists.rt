@@ -138,7 +138,9 @@ fn span_at(spans: &[Span], node: NodeNumber) -> Span
 fn share_range(shares: &[Share], span: Span) -> &[Share]
     ensures { IsSpanIn shares.now span → result.now ≡ spanned shares.now span }
 {
-    shares.get(span.from as usize..span.to as usize).unwrap_or(&[])
+    shares
+        .get(span.from as usize..span.to as usize)
+        .unwrap_or(&[])
 }
 
 /// Puts the shares of a span behind all, with one more or in place of another.

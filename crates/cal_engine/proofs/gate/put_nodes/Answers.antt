@@ -1,6 +1,6 @@
 use Rattle.std.proofs.Common.{◌<◌, ◌∷◌, [], ◌++◌, length, get_or, sym, ◌∙◌, arith}
 use Rattle.std.proofs.lemmas.List.{take_all, take_more}
-use Rattle.cal_engine.proofs.Sifting.{root}
+use Rattle.cal_filter.proofs.MemoLemmas.{root}
 use Rattle.cal_engine.proofs.gate.put_nodes.Goals as goal
 
 pub loop-place-preserved : goal.loop-place-preserved

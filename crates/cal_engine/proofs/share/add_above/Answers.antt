@@ -13,12 +13,12 @@ loop-at-preserved c =
     let short : c.loop-at.at < length old = omega (arith, c.loop-at-test.true, c.requires.within) in
     let read : share ≡ get_or old c.loop-at.at share = c.index-share.ensures ∙ read_front old c.loop-at.list.items so_far c.loop-at.at share c.loop-at.invariant.added short in
     elim c.if-place-share.branch [
-      then-place-share+in_ok-push w ↦ record {
+      | then-place-share+in_ok-push w ↦ record {
         added = (λ i. (w.list-is i).items)
             ∙ added_next (is_above c.args.place) old c.loop-at.list.items w.push.new.self.items c.args.from c.loop-at.at share c.loop-at.auto.at short read
             (lt_so c.args.place c.index-share.result.now.place w.if-place-share.true) c.loop-at.invariant.added w.in_ok-push.ensures.items;
       }
-    | else-place-share w ↦ record {
+      | else-place-share w ↦ record {
         added = (λ i. (w.list-is i).items)
             ∙ added_not (is_above c.args.place) old c.loop-at.list.items c.args.from c.loop-at.at share c.loop-at.auto.at short read
             (lt_not c.args.place c.index-share.result.now.place w.if-place-share.false) c.loop-at.invariant.added;

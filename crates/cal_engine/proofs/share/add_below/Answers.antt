@@ -13,12 +13,12 @@ loop-at-preserved c =
     let short : c.loop-at.at < length old = omega (arith, c.loop-at-test.true, c.requires.within) in
     let read : share ≡ get_or old c.loop-at.at share = c.index-share.ensures ∙ read_front old c.loop-at.list.items so_far c.loop-at.at share c.loop-at.invariant.added short in
     elim c.if-share-place.branch [
-      then-share-place+in_ok-push w ↦ record {
+      | then-share-place+in_ok-push w ↦ record {
         added = (λ i. (w.list-is i).items)
             ∙ added_next (is_below c.args.place) old c.loop-at.list.items w.push.new.self.items c.args.from c.loop-at.at share c.loop-at.auto.at short read
             (lt_so c.index-share.result.now.place c.args.place w.if-share-place.true) c.loop-at.invariant.added w.in_ok-push.ensures.items;
       }
-    | else-share-place w ↦ record {
+      | else-share-place w ↦ record {
         added = (λ i. (w.list-is i).items)
             ∙ added_not (is_below c.args.place) old c.loop-at.list.items c.args.from c.loop-at.at share c.loop-at.auto.at short read
             (lt_not c.index-share.result.now.place c.args.place w.if-share-place.false) c.loop-at.invariant.added;
