@@ -2,7 +2,6 @@ use Rattle.std.proofs.Common.{◌∙◌, arith, refl, subst, sym}
 use Rattle.std.proofs.lemmas.List.Elements.{All-push}
 use Rattle.cal_context.specs.declared.snapshot.Immediate.{Immediate}
 use Rattle.cal_engine.specs.TakenImms.{IsTakenIn}
-use Rattle.cal_engine.specs.Takers.{taker_at}
 use Rattle.std.specs.List.{All}
 use Rattle.std.proofs.Common.{◌<◌, length}
 use Rattle.cal_engine.proofs.ImmLemmas.{imm_taken, imm_not_taken}

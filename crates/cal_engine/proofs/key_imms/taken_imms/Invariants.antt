@@ -1,4 +1,4 @@
-use Rattle.std.proofs.Common.{◌≡◌, ◌<◌, ℕ, List, length, take}
+use Rattle.std.proofs.Common.{◌<◌, ℕ, List, length, take}
 use Rattle.std.specs.List.{All}
 use Rattle.cal_context.specs.Tree.{Tree}
 use Rattle.cal_context.specs.declared.snapshot.Immediate.{Immediate}

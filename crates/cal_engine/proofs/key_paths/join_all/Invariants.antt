@@ -1,4 +1,4 @@
-use Rattle.std.proofs.Common.{◌≡◌, ◌≤◌, ℕ, true, List, drop, length, map, take}
+use Rattle.std.proofs.Common.{◌≤◌, ℕ, true, List, drop, length, map, take}
 use Rattle.std.specs.List.{All}
 use Rattle.cal_context.specs.Snapshots.{IsBelowRoot}
 use Rattle.cal_context.specs.Tree.{Grows, Tree, path_at}

@@ -1,4 +1,4 @@
-use Rattle.std.proofs.Common.{◌+◌, ◌<◌, ◌++◌, drop, get_or, length, refl, ap, subst, sym, take}
+use Rattle.std.proofs.Common.{◌+◌, ◌<◌, ◌++◌, drop, get_or, length, subst, take}
 use Rattle.std.proofs.lemmas.List.{take_all}
 use Rattle.cal_context.proofs.CallerLemmas.{Grows-trans, within_paths}
 use Rattle.cal_engine.specs.Shares.{AreShares, IsShareIn, with_path}

@@ -1,4 +1,4 @@
-use Rattle.std.proofs.Common.{◌≡◌, ◌<◌, ◌++◌, arith, ◌∙◌, ap, filter, get_or, length, sym}
+use Rattle.std.proofs.Common.{◌≡◌, ◌<◌, ◌++◌, arith, ◌∙◌, ap, filter, get_or, length}
 use Rattle.std.specs.Prelude.{slice_range}
 use Rattle.cal_engine.specs.Shares.{is_above}
 use Rattle.cal_engine.proofs.ShareLemmas.{added_next, added_not, lt_not, lt_so, range_end, read_front}

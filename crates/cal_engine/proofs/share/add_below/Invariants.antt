@@ -1,4 +1,4 @@
-use Rattle.std.proofs.Common.{◌≡◌, ◌≤◌, ◌++◌, filter}
+use Rattle.std.proofs.Common.{◌≡◌, ◌++◌, filter}
 use Rattle.std.specs.Prelude.{slice_range}
 use Rattle.cal_engine.specs.Shares.{is_below}
 use Rattle.cal_engine.proofs.share.add_below.Given as goal

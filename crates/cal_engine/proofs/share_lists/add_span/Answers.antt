@@ -1,5 +1,4 @@
-use Rattle.std.proofs.Common.{◌≡◌, ◌+◌, ◌-◌, [], ◌∷◌, ◌++◌, arith, length, map, ap, sym, ◌∙◌}
-use Rattle.cal_engine.specs.Shares.{IsSpanIn, spanned, with_nones}
+use Rattle.std.proofs.Common.{◌-◌, [], ◌∷◌, ◌++◌, arith, length, ap, ◌∙◌}
 use Rattle.cal_engine.proofs.ShareLemmas.{padded_spans, range_none, spans_end, spans_pushed}
 use Rattle.cal_engine.proofs.share_lists.add_span.Goals as goal
 

@@ -1,5 +1,5 @@
-use Rattle.std.proofs.Common.{Some, sym, ap, ◌∙◌}
-use Rattle.std.specs.Prelude.{cond, is_some}
+use Rattle.std.proofs.Common.{Some, sym, ◌∙◌}
+use Rattle.std.specs.Prelude.{cond}
 use Rattle.std.specs.Ordering.{eq_by_cmp}
 use Rattle.indexmap.specs.IndexMap.{get}
 use Rattle.cal_value.specs.Texts.{text_cmp}

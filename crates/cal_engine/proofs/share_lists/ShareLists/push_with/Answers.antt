@@ -1,4 +1,4 @@
-use Rattle.std.proofs.Common.{◌≡◌, ◌+◌, arith, map, sym, ap, ◌∙◌, get_or}
+use Rattle.std.proofs.Common.{◌≡◌, ◌+◌, arith, map, ap, ◌∙◌, get_or}
 use Rattle.cal_engine.specs.Shares.{spanned, with_nones}
 use Rattle.cal_engine.proofs.ShareLemmas.{no_span, pushed_with}
 use Rattle.cal_engine.proofs.share_lists.ShareLists.push_with.Goals as goal

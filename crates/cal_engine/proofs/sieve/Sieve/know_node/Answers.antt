@@ -1,6 +1,5 @@
 use Rattle.std.proofs.Common.{◌∙◌, [], refl, ap, sym}
 use Rattle.cal_context.proofs.CallerLemmas.{Grows-refl}
-use Rattle.cal_context.specs.Tree.{attribute_at, value_at}
 use Rattle.cal_engine.specs.Shares.{node_for, with_share}
 use Rattle.cal_engine.specs.Sieves.{shares_at}
 use Rattle.cal_engine.specs.Totals.{IsStep}

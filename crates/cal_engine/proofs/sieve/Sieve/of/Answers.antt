@@ -1,4 +1,4 @@
-use Rattle.std.proofs.Common.{◌≡◌, [], arith, ap, length, subst, sym, ◌∙◌}
+use Rattle.std.proofs.Common.{◌≡◌, arith, ap, length, subst, sym, ◌∙◌}
 use Rattle.cal_engine.specs.Keys.{names_in}
 use Rattle.cal_engine.specs.Takers.{AreTakers}
 use Rattle.cal_engine.proofs.sieve.Sieve.of.Goals as goal

@@ -1,4 +1,4 @@
-use Rattle.std.proofs.Common.{◌≤◌, ◌⊎◌, ◌≡◌, ℕ, List, length}
+use Rattle.std.proofs.Common.{◌≡◌, ℕ, List, length}
 use Rattle.cal_engine.specs.Takers.{AreTakers}
 use Rattle.cal_engine.proofs.takers.Takers.catch_up.Given as goal
 

@@ -1,4 +1,4 @@
-use Rattle.std.proofs.Common.{◌∙◌, ap, arith, sym}
+use Rattle.std.proofs.Common.{◌∙◌, arith}
 use Rattle.cal_engine.proofs.TakerLemmas.{path_placed}
 use Rattle.cal_engine.proofs.takers.Takers.of.Goals as goal
 
