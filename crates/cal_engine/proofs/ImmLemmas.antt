@@ -1,5 +1,5 @@
 -- The immediates that the names of GROUP BY take, in the order of the names.
-use Rattle.std.proofs.Common.{◌≡◌, ℕ, zero, suc, ◌+◌, ◌<◌, ◌≤◌, Bool, true, false, true≢false, List, [], ◌∷◌, ◌++◌, ◌⊎◌, inl, inr, None, Some, Option, Bor, length, filter, map, take, get_or, refl, sym, ap, subst, ◌∙◌, arith, append-nil, append_assoc, if◌then◌else◌}
+use Rattle.std.proofs.Common.{◌≡◌, ℕ, zero, suc, ◌+◌, ◌<◌, ◌≤◌, Bool, true, false, List, [], ◌∷◌, ◌++◌, ◌⊎◌, inl, inr, None, Some, Bor, length, filter, map, take, get_or, refl, sym, ap, subst, ◌∙◌, arith, append-nil, if◌then◌else◌}
 use Rattle.std.specs.Prelude.{◌==◌, ◌&&◌, cond, not, ⊤}
 use Rattle.std.specs.declared.cmp.Ordering.TheVariants.{Equal, Greater, Less}
 use Rattle.std.specs.List.{All}
@@ -17,7 +17,7 @@ use Rattle.cal_context.specs.declared.snapshot.Immediate.{Immediate}
 use Rattle.cal_value.specs.Flat.{joined}
 use Rattle.cal_value.specs.declared.attribute.Entry.{Entry}
 use Rattle.cal_engine.specs.Groups.{taken, takes_attribute}
-use Rattle.cal_engine.specs.TakenImms.{AreTaken, IsTakenIn, taken_entry}
+use Rattle.cal_engine.specs.TakenImms.{AreTaken, taken_entry}
 use Rattle.cal_engine.specs.Takers.{KnowsTakers, is_place, taken_at, taker, taker_at}
 use Rattle.cal_engine.specs.declared.key_imms.TakenImm.{TakenImm}
 use Rattle.cal_engine.specs.declared.takers.Takers.{Takers}

@@ -1,31 +1,27 @@
 -- The keys of groups by numbers.
-use Rattle.std.proofs.Common.{◌≡◌, ℕ, zero, suc, ◌+◌, ◌<◌, Bool, true, false, true≢false, List, [], ◌∷◌, ◌++◌, inl, inr, length, map, take, filter, get_or, slice_get, Some, None, Option}
-use Rattle.std.proofs.Common.{refl, sym, ◌∙◌, ap, subst, arith, append-nil, Contains}
-use Rattle.std.specs.Prelude.{◌==◌}
+use Rattle.std.proofs.Common.{◌≡◌, ℕ, zero, suc, ◌+◌, ◌<◌, true, false, List, [], ◌∷◌, ◌++◌, inl, inr, length, map, take, filter, get_or, slice_get, Some, None, Option}
+use Rattle.std.proofs.Common.{refl, sym, ◌∙◌, ap, subst, arith, Contains}
 use Rattle.std.specs.List.{All}
-use Rattle.std.proofs.lemmas.Bool.Decides.{Decides-eqb}
-use Rattle.std.proofs.lemmas.Grind.{flat_map-append}
 use Rattle.std.proofs.lemmas.List.{map-append, take_more}
-use Rattle.std.proofs.lemmas.List.Elements.{All-head, All-push, All-tail, filter-append}
+use Rattle.std.proofs.lemmas.List.Elements.{All-head, All-tail}
 use Rattle.cal_context.specs.Lists.{AreApart, Adds, Interns}
-use Rattle.cal_context.specs.Snapshots.{IsBelowRoot, IsIn, entry_of, meaning}
+use Rattle.cal_context.specs.Snapshots.{IsBelowRoot, entry_of, meaning}
 use Rattle.cal_context.specs.Tree.{Tree, Grows, IsContext, path_at}
 use Rattle.cal_context.specs.declared.numbers.NodeNumber.{NodeNumber}
 use Rattle.cal_context.specs.declared.snapshot.Immediate.{Immediate}
 use Rattle.cal_context.specs.declared.snapshot.Snapshot.{Snapshot}
-use Rattle.cal_context.proofs.CallerLemmas.{All-Adds, one_node, path_at-Grows, root_path, root_within, within_paths}
+use Rattle.cal_context.proofs.CallerLemmas.{All-Adds, one_node, path_at-Grows, within_paths}
 use Rattle.cal_context.proofs.ListLemmas.{map-alike}
 use Rattle.cal_value.specs.Flat.{joined}
 use Rattle.cal_value.specs.declared.attribute.Entry.{Entry}
 use Rattle.cal_value.specs.declared.record.Rec.{Rec}
 use Rattle.cal_engine.specs.Folding.{Gathers}
 use Rattle.cal_engine.specs.Groups.{group_of, has_entries, taken}
-use Rattle.cal_engine.specs.Keys.{ArePaths, IsKeyIn, IsKeyOf, key_in, room_of, with_node}
+use Rattle.cal_engine.specs.Keys.{ArePaths, IsKeyIn, IsKeyOf, key_in, room_of}
 use Rattle.cal_engine.specs.Numbered.{GathersKey, Numbered, grouped_in}
 use Rattle.cal_engine.specs.Parts.{Gathered}
 use Rattle.cal_engine.specs.Totals.{Leads}
 use Rattle.cal_engine.specs.declared.key.GroupKey.{GroupKey}
-use Rattle.cal_engine.proofs.Reaching.{leads-below, leads-root}
 
 -- ---- the paths of a key
 

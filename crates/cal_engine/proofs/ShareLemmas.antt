@@ -1,18 +1,17 @@
 -- The shares of the names of GROUP BY in a path.
 use Rattle.std.proofs.Common.{◌≡◌, ℕ, zero, suc, ◌+◌, ◌-◌, ◌<◌, ◌≤◌, Bool, true, false, true≢false, List, [], ◌∷◌, ◌++◌, ◌⊎◌, inl, inr}
 use Rattle.std.proofs.Common.{length, filter, map, take, drop, get_or, refl, sym, ap, subst, ◌∙◌, arith, append-nil, append_assoc, if◌then◌else◌}
-use Rattle.std.specs.Prelude.{nat_lt, ◌==◌, replicate, slice_range, ⊤}
+use Rattle.std.specs.Prelude.{nat_lt, ◌==◌, replicate, slice_range}
 use Rattle.std.specs.List.{All}
 use Rattle.std.proofs.lemmas.Bool.{cases_lt}
 use Rattle.std.proofs.lemmas.Bool.Decides.{Decides-eqb, nat_tests}
-use Rattle.std.proofs.lemmas.Grind.{common_steps}
 use Rattle.std.proofs.lemmas.List.{drop-append-le, drop_at, get_or-append_right, get_or-drop, get_or_append_left, length-append, length-drop, length-map, length-replicate, map-append, replicate-append-replicate, take-append-le, take_all, take_more}
 use Rattle.std.proofs.lemmas.List.Elements.{All-cons, All-nil, All-tail, All-weaker, filter-append}
 use Rattle.cal_context.specs.Lists.{IsFront}
 use Rattle.cal_context.specs.Snapshots.{IsBelowRoot}
 use Rattle.cal_context.specs.Tree.{Grows, IsContext, Tree, path_at}
 use Rattle.cal_context.specs.declared.numbers.NodeNumber.{NodeNumber}
-use Rattle.cal_context.proofs.CallerLemmas.{path_at-Grows, within_paths}
+use Rattle.cal_context.proofs.CallerLemmas.{path_at-Grows}
 use Rattle.cal_value.specs.declared.attribute.Entry.{Entry}
 use Rattle.cal_engine.specs.Groups.{has_entries}
 use Rattle.cal_engine.specs.Keys.{ArePaths}

@@ -1,10 +1,10 @@
 -- What a sieve gets to know of nodes, one after another.
-use Rattle.std.proofs.Common.{◌≡◌, ℕ, zero, suc, ◌+◌, ◌<◌, ◌≤◌, Bool, true, false, true≢false, List, [], ◌∷◌, ◌++◌, ◌⊎◌, inl, inr, None, Some, Option, length, filter, map, take, get_or, refl, sym, ap, subst, ◌∙◌, arith, append-nil, if◌then◌else◌}
+use Rattle.std.proofs.Common.{◌≡◌, ℕ, zero, suc, ◌+◌, ◌<◌, ◌≤◌, true, false, List, [], ◌∷◌, ◌++◌, ◌⊎◌, inl, inr, None, Some, length, filter, map, take, get_or, refl, sym, ap, subst, ◌∙◌, arith, append-nil, if◌then◌else◌}
 use Rattle.std.specs.Prelude.{◌==◌, ◌-◌, replicate}
 use Rattle.std.specs.List.{All}
 use Rattle.std.proofs.lemmas.Bool.{cases_lt}
 use Rattle.std.proofs.lemmas.Grind.{flat_map-append}
-use Rattle.std.proofs.lemmas.List.{get_or-append_right, get_or_append_left, get_or_push, length-append, length-replicate, map-append, take_more}
+use Rattle.std.proofs.lemmas.List.{get_or_append_left, get_or_push, length-append, length-replicate, map-append, take_more}
 use Rattle.std.proofs.lemmas.List.Elements.{filter-append}
 use Rattle.cal_context.specs.Children.{IsLinked}
 use Rattle.cal_context.specs.Snapshots.{IsBelowRoot}
@@ -23,8 +23,8 @@ use Rattle.cal_engine.specs.declared.share.Share.{Share}
 use Rattle.cal_engine.specs.declared.sieve.Sieve.{Sieve}
 use Rattle.cal_engine.proofs.MergedGroups.{sieve_own}
 use Rattle.cal_engine.proofs.Reaching.{leads-root}
-use Rattle.cal_engine.proofs.ShareLemmas.{AreShares-Grows, AreShares-agree, eqb_is, eqb_so, no_shares, nodes_are, read-with_nones, shares_with}
-use Rattle.cal_engine.proofs.TakerLemmas.{at_places, first_within, taken_places}
+use Rattle.cal_engine.proofs.ShareLemmas.{AreShares-Grows, AreShares-agree, eqb_so, no_shares, nodes_are, read-with_nones, shares_with}
+use Rattle.cal_engine.proofs.TakerLemmas.{first_within, taken_places}
 
 -- ---- what is taken of one entry more
 

@@ -1,13 +1,12 @@
 -- Which name of GROUP BY takes an attribute's entries, and what they take together.
-use Rattle.std.proofs.Common.{◌≡◌, ℕ, zero, suc, ◌+◌, ◌<◌, ◌≤◌, Bool, true, false, true≢false, ◌&&◌, ◌||◌, not, List, [], ◌∷◌, ◌++◌, ◌⊎◌, inl, inr}
-use Rattle.std.proofs.Common.{length, filter, map, take, Option, None, Some, option_map, is_some, get_or, refl, sym, ap, subst, ◌∙◌, arith, if◌then◌else◌}
+use Rattle.std.proofs.Common.{◌≡◌, ℕ, zero, suc, ◌+◌, ◌<◌, ◌≤◌, Bool, true, false, true≢false, ◌&&◌, not, List, [], ◌∷◌, ◌++◌, ◌⊎◌, inl, inr}
+use Rattle.std.proofs.Common.{length, filter, take, Option, None, Some, option_map, is_some, get_or, refl, sym, ap, subst, ◌∙◌, arith, if◌then◌else◌}
 use Rattle.std.specs.Prelude.{nat_lt, cond, ◌==◌, codes}
 use Rattle.std.specs.Cmp.Lexicographic.{bytes_decides}
 use Rattle.std.specs.Ordering.{eq_by_cmp}
 use Rattle.std.proofs.lemmas.Bool.{cases_lt}
 use Rattle.std.proofs.lemmas.Bool.Decides.{Decides-eqb, nat_tests, same_from_decides}
 use Rattle.std.specs.Map.{lookup}
-use Rattle.std.proofs.lemmas.Grind.{common_steps}
 use Rattle.std.proofs.lemmas.List.{get_or_append_left, get_or_push, length-append, take_more}
 use Rattle.std.proofs.lemmas.List.Elements.{filter_agree}
 use Rattle.indexmap.specs.IndexMap.{IndexMap, IsEmpty, get, index_map_len}
@@ -21,7 +20,7 @@ use Rattle.cal_value.specs.Texts.{text_cmp}
 use Rattle.cal_value.specs.declared.attribute.Attribute.{Attribute}
 use Rattle.cal_value.specs.declared.attribute.Entry.{Entry}
 use Rattle.cal_engine.specs.Groups.{taken, takes, takes_attribute}
-use Rattle.cal_engine.specs.Takers.{AreTakers, HasPlaces, HasTaker, IsPlaced, IsTaker, KnowsTakers, first_place, is_place, lower_place, taken_at, taker, taker_at}
+use Rattle.cal_engine.specs.Takers.{AreTakers, HasTaker, IsPlaced, IsTaker, first_place, is_place, lower_place, taken_at, taker, taker_at}
 use Rattle.cal_engine.specs.declared.takers.Taker.{Taker}
 use Rattle.cal_engine.specs.declared.takers.Takers.{Takers}
 

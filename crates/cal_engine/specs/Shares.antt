@@ -1,5 +1,5 @@
 -- What the names of GROUP BY take of a path, as a list in the order of the names.
-use Rattle.std.specs.Prelude.{◌≡◌, ℕ, ◌+◌, ◌<◌, ◌-◌, ◌==◌, ◌≤◌, Bool, List, [], ◌∷◌, ◌++◌, ⊤}
+use Rattle.std.specs.Prelude.{ℕ, ◌+◌, ◌<◌, ◌-◌, ◌==◌, ◌≤◌, Bool, List, [], ◌∷◌, ◌++◌, ⊤}
 use Rattle.std.specs.Prelude.{filter, length, replicate, slice_range}
 use Rattle.std.specs.Prelude.{if◌then◌else◌, nat_lt}
 use Rattle.cal_context.specs.Tree.{Tree, path_at}
