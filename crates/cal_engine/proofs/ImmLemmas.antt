@@ -18,10 +18,12 @@ use Rattle.cal_value.specs.Flat.{joined}
 use Rattle.cal_value.specs.declared.attribute.Entry.{Entry}
 use Rattle.cal_engine.specs.Groups.{taken, takes_attribute}
 use Rattle.cal_engine.specs.TakenImms.{AreTaken, taken_entry}
+use Rattle.cal_engine.specs.Shares.{Say}
+use Rattle.cal_engine.specs.declared.share.Share.{Share}
 use Rattle.cal_engine.specs.Takers.{KnowsTakers, is_place, taken_at, taker, taker_at}
 use Rattle.cal_engine.specs.declared.key_imms.TakenImm.{TakenImm}
 use Rattle.cal_engine.specs.declared.takers.Takers.{Takers}
-use Rattle.cal_engine.proofs.ShareLemmas.{eqb_is, eqb_isnt, eqb_not, eqb_so, lt_not, lt_so}
+use Rattle.cal_engine.proofs.ShareLemmas.{eqb_is, eqb_isnt, eqb_not, eqb_so, lt_not, lt_so, say_sorted}
 use Rattle.cal_engine.proofs.TakerLemmas.{at_places, first_within, taken_places}
 
 -- ---- one immediate more
@@ -192,6 +194,28 @@ same_at (x ∷ xs) ys shuffled stable p =
     sym (filter_agree test (λ (o : TakenImm). o.place == p) (λ o. tie_place p o.place) ys)
     ∙ stable one
     ∙ filter_agree test (λ (o : TakenImm). o.place == p) (λ o. tie_place p o.place) (x ∷ xs)
+
+same_shares : (xs ys : List Share) → IsPermutation xs ys → IsStableByKey (λ (x : Share). x.place) nat_cmp xs ys
+    → (p : ℕ) → filter (λ (o : Share). o.place == p) ys ≡ filter (λ (o : Share). o.place == p) xs
+same_shares [] [] shuffled stable p = refl
+same_shares [] (y ∷ ys) shuffled stable p = let long = length_permutation [] (y ∷ ys) shuffled in absurd (omega (arith, long))
+same_shares (x ∷ xs) ys shuffled stable p =
+    let one : Share = record { place = p; node = x.node } in
+    let test = λ (o : Share). ties (λ (a b : Share). is_lt (nat_cmp a.place b.place)) one o in
+    sym (filter_agree test (λ (o : Share). o.place == p) (λ o. tie_place p o.place) ys)
+    ∙ stable one
+    ∙ filter_agree test (λ (o : Share). o.place == p) (λ o. tie_place p o.place) (x ∷ xs)
+
+-- shares sorted by the places of names
+pub shares_sorted : {F : Type 0} {g : Mut F (Bor Share × Unit {0}) ℕ} {f : F} (own : Tree) (count : ℕ) (takes : ℕ → List Entry) (before after : List Share)
+    → Say own count takes before → IsPermutation before after → IsSortedByKeyClosure g nat_cmp f after → IsStableByKeyClosure g nat_cmp f before after
+    → ((a : Bor Share × Unit {0}) (r : ℕ) (f' : F) → Called g f a r f' → (r ≡ a.0.now.place) × (f' ≡ f))
+    → Say own count takes after × IsNonDecreasingBy (λ (x : Share). x.place) after
+shares_sorted {g = g} {f = f} own count takes before after h shuffled up stable answers =
+    let computes = always_returns_same g (λ a r. r ≡ a.0.now.place) f answers in (
+      say_sorted own count takes before after shuffled (same_shares before after shuffled (stable (λ (x : Share). x.place) computes)) h,
+      IsNonDecreasingBy-from_sort (λ (x : Share). x.place) after (up (λ (x : Share). x.place) computes),
+    )
 
 pub taken_in_order : (t : Tree) (names : List (List ℕ)) (imms : List Immediate) (xs ys : List TakenImm) → AreTaken t names imms xs → IsPermutation xs ys
     → IsNonDecreasingBy (λ (x : TakenImm). x.place) ys → IsStableByKey (λ (x : TakenImm). x.place) nat_cmp xs ys

@@ -6,6 +6,8 @@ use Rattle.std.specs.List.{All}
 use Rattle.std.proofs.lemmas.Bool.{cases_lt}
 use Rattle.std.proofs.lemmas.Bool.Decides.{Decides-eqb, nat_tests}
 use Rattle.std.proofs.lemmas.List.{drop-append-le, drop_at, get_or-append_right, get_or-drop, get_or_append_left, length-append, length-drop, length-map, length-replicate, map-append, replicate-append-replicate, take-append-le, take_all, take_more}
+use Rattle.std.specs.List.Sorted.{IsPermutation}
+use Rattle.std.proofs.lemmas.List.Sorted.{All-permutation}
 use Rattle.std.proofs.lemmas.List.Elements.{All-cons, All-nil, All-tail, All-weaker, filter-append}
 use Rattle.cal_context.specs.Lists.{IsFront}
 use Rattle.cal_context.specs.Snapshots.{IsBelowRoot}
@@ -15,7 +17,7 @@ use Rattle.cal_context.proofs.CallerLemmas.{path_at-Grows}
 use Rattle.cal_value.specs.declared.attribute.Entry.{Entry}
 use Rattle.cal_engine.specs.Groups.{has_entries}
 use Rattle.cal_engine.specs.Keys.{ArePaths}
-use Rattle.cal_engine.specs.Shares.{AreShares, IsShareIn, IsSpanIn, Rise, is_above, is_below, node_for, spanned, with_nones, with_path, with_share}
+use Rattle.cal_engine.specs.Shares.{AreShares, IsShareIn, IsSpanIn, Rise, is_above, is_below, node_for, spanned, with_nones, with_path, with_share, Say, said}
 use Rattle.cal_engine.specs.Totals.{Leads}
 use Rattle.cal_engine.specs.declared.share.Share.{Share}
 use Rattle.cal_engine.specs.declared.share_lists.Span.{Span}
@@ -268,11 +270,6 @@ pub members_of : (own : Tree) → IsContext own → (f : ℕ → List Entry) (co
 members_of own context f count xs h = members own context f 0 count xs h.rise (λ p l. h.lead p)
 
 -- ---- shares joined
-
--- what shares say of a path at a place
-abbrev pub said : Tree → List Share → ℕ → List Entry
-said own [] p = []
-said own (x ∷ xs) p = (if x.place == p then path_at own x.node else []) ++ said own xs p
 
 said_absent : (own : Tree) (p from to : ℕ) (xs : List Share) → p < from → Rise from to xs → said own xs p ≡ []
 said_absent own p from to [] low h = refl
@@ -579,9 +576,113 @@ shares_join own new context later count takes xs share made at grows one leads h
         absurd (leads-below own context share.node (λ f. omega (arith, f, one.below)) (record { within = one.within; is = none }))
     below (suc m) e = omega (arith, e)
 
--- what was added at the end
-pub list_end : (old new xs : List Share) (from to : ℕ) (made : Share) → to ≡ length old → new ≡ old ++ with_share made (slice_range old from to)
-    → drop to new ≡ with_share made (drop from old)
-list_end old new xs from to made end is =
-    ap (drop to) is ∙ drop_at old (with_share made (slice_range old from to)) to (sym end)
-    ∙ ap (with_share made) (range_rest old from to (omega (arith, end)))
+-- ---- the last share of rising ones
+
+Rise-front : (from to : ℕ) (xs : List Share) (x : Share) → Rise from to (xs ++ x ∷ []) → Rise from x.place xs
+Rise-front from to [] x h = tt
+Rise-front from to (y ∷ xs) x h = (h.0, omega (arith, ahead (y.place + 1) xs h.3), h.2, Rise-front (y.place + 1) to xs x h.3)
+  where
+    ahead : (n : ℕ) (ys : List Share) → Rise n to (ys ++ x ∷ []) → n ≤ x.place
+    ahead n [] k = k.0
+    ahead n (z ∷ ys) k = let l = ahead (z.place + 1) ys k.3 in omega (arith, k.0, l)
+
+Rise-end : (from to : ℕ) (xs : List Share) (x : Share) → Rise from to (xs ++ x ∷ []) → x.place < to
+Rise-end from to [] x h = h.1
+Rise-end from to (y ∷ xs) x h = Rise-end (y.place + 1) to xs x h.3
+
+all_below : (q from : ℕ) (xs : List Share) → Rise from q xs → filter (is_below q) xs ≡ xs
+all_below q from [] h = refl
+all_below q from (x ∷ xs) h = rw (lt_so x.place q h.1) (ap (λ ys. x ∷ ys) (all_below q (x.place + 1) xs h.3))
+
+none_above : (q from : ℕ) (xs : List Share) → Rise from (q + 1) xs → filter (is_above q) xs ≡ []
+none_above q from [] h = refl
+none_above q from (x ∷ xs) h = rw (lt_not q x.place (omega (arith, h.1))) (none_above q (x.place + 1) xs h.3)
+
+none_at : (q from : ℕ) (xs : List Share) → Rise from q xs → node_for xs q ≡ record { 0 = 0 }
+none_at q from [] h = refl
+none_at q from (x ∷ xs) h = rw (eqb_not x.place q (λ e. omega (arith, e, h.1))) (none_at q (x.place + 1) xs h.3)
+
+node_end : (q from : ℕ) (xs : List Share) (x : Share) → Rise from q xs → x.place ≡ q → node_for (xs ++ x ∷ []) q ≡ x.node
+node_end q from [] x h at = ap (λ b. if b then x.node else record { 0 = 0 }) (eqb_so x.place q at)
+node_end q from (y ∷ xs) x h at = rw (eqb_not y.place q (λ e. omega (arith, e, h.1))) (node_end q (y.place + 1) xs x h.3 at)
+
+Rise-at : (from to : ℕ) (q : ℕ) (xs : List Share) → Rise from to xs → to ≤ q → Rise from q xs
+Rise-at from to q [] h l = tt
+Rise-at from to q (x ∷ xs) h l = (h.0, omega (arith, h.1, l), h.2, Rise-at (x.place + 1) to q xs h.3 l)
+
+-- the last share is that at a place, or none is
+pub last_at : (q : ℕ) (old xs : List Share) (x : Share) → old ≡ xs ++ x ∷ [] → x.place ≡ q → Rise 0 (q + 1) old
+    → (x.node ≡ node_for old q) × (xs ≡ filter (is_below q) old)
+last_at q old xs x is at h =
+    let rise = subst (Rise 0 (q + 1)) is h in
+    let front = subst (λ n. Rise 0 n xs) at (Rise-front 0 (q + 1) xs x rise) in
+    let isnt : nat_lt x.place q ≡ false = lt_not x.place q (omega (arith, at)) in (
+      sym (ap (λ ys. node_for ys q) is ∙ node_end q 0 xs x front at),
+      sym (ap (filter (is_below q)) is ∙ filter-append (is_below q) xs (x ∷ [])
+          ∙ (λ i. all_below q 0 xs front i ++ (if isnt i then x ∷ [] else [])) ∙ append-nil xs),
+    )
+
+pub last_before : (q : ℕ) (old xs : List Share) (x : Share) → old ≡ xs ++ x ∷ [] → (x.place ≡ q → ⊥) → Rise 0 (q + 1) old
+    → (record { 0 = 0 } ≡ node_for old q) × (old ≡ filter (is_below q) old)
+last_before q old xs x is other h =
+    let rise = subst (Rise 0 (q + 1)) is h in
+    let front = Rise-front 0 (q + 1) xs x rise in
+    let low : x.place < q = lower (cases_lt x.place q) (Rise-end 0 (q + 1) xs x rise) in
+    let whole : Rise 0 q old = subst (Rise 0 q) (sym is) (closed 0 xs (Rise-at 0 x.place q xs front (omega (arith, low))) rise low) in
+    (sym (none_at q 0 old whole), sym (all_below q 0 old whole))
+  where
+    lower : (x.place < q) ⊎ (q ≤ x.place) → x.place < q + 1 → x.place < q
+    lower (inl l) m = l
+    lower (inr l) m = absurd (other (omega (arith, l, m)))
+
+    closed : (from : ℕ) (ys : List Share) → Rise from q ys → Rise from (q + 1) (ys ++ x ∷ []) → x.place < q → Rise from q (ys ++ x ∷ [])
+    closed from [] a k l = (k.0, l, k.2, tt)
+    closed from (y ∷ ys) a k l = (k.0, a.1, k.2, closed (y.place + 1) ys a.3 k.3 l)
+
+pub no_last : (q : ℕ) (old : List Share) → old ≡ [] → (record { 0 = 0 } ≡ node_for old q) × (old ≡ filter (is_below q) old)
+no_last q old is = (sym (ap (λ xs. node_for xs q) is), is ∙ sym (ap (filter (is_below q)) is))
+
+pub put_last : (q : ℕ) (old rest now : List Share) (made : Share) → made.place ≡ q → Rise 0 (q + 1) old → rest ≡ filter (is_below q) old → now ≡ rest ++ made ∷ []
+    → now ≡ with_share made old
+put_last q old rest now made at h rest_is is =
+    is
+    ∙ ap (λ xs. xs ++ made ∷ []) (rest_is ∙ ap (λ n. filter (is_below n) old) (sym at))
+    ∙ ap (λ xs. filter (is_below made.place) old ++ made ∷ xs) (sym (ap (λ n. filter (is_above n) old) at ∙ none_above q 0 old h))
+
+-- ---- shares of several nodes
+
+pub said_append : (own : Tree) (xs ys : List Share) (p : ℕ) → said own (xs ++ ys) p ≡ said own xs p ++ said own ys p
+said_append own [] ys p = refl
+said_append own (x ∷ xs) ys p =
+    ap (λ es. (if x.place == p then path_at own x.node else []) ++ es) (said_append own xs ys p)
+    ∙ sym (append_assoc (if x.place == p then path_at own x.node else []) (said own xs p) (said own ys p))
+
+pub say_none : (own : Tree) (count : ℕ) (takes : ℕ → List Entry) → ((p : ℕ) → takes p ≡ []) → Say own count takes []
+say_none own count takes none = record { within = All-nil (IsShareIn own count); say = λ p. sym (none p) }
+
+pub say_more : (own : Tree) → IsContext own → (count : ℕ) (f g h : ℕ → List Entry) (xs ys now : List Share) → now ≡ xs ++ ys → ((p : ℕ) → f p ++ g p ≡ h p)
+    → Say own count f xs → AreShares own count g ys → Say own count h now
+say_more own context count f g h xs ys now is both one other = record {
+  within = subst (All (IsShareIn own count)) (sym is) (All-append (IsShareIn own count) xs ys one.within (members_of own context g count ys other));
+  say = λ p. ap (λ zs. said own zs p) is ∙ said_append own xs ys p
+      ∙ (λ i. one.say p i ++ (said_node own context p 0 count ys other.rise ∙ (other.lead p).is) i) ∙ both p;
+}
+
+said_filter : (own : Tree) (xs : List Share) (p : ℕ) → said own xs p ≡ said own (filter (λ (s : Share). s.place == p) xs) p
+said_filter own [] p = refl
+said_filter own (x ∷ xs) p = by (x.place == p) refl (said_filter own xs p)
+  where
+    by : (b : Bool) → (x.place == p) ≡ b → said own xs p ≡ said own (filter (λ (s : Share). s.place == p) xs) p
+        → said own (x ∷ xs) p ≡ said own (filter (λ (s : Share). s.place == p) (x ∷ xs)) p
+    by true e rest =
+        ap (λ es. (if x.place == p then path_at own x.node else []) ++ es) rest
+        ∙ sym (ap (λ b. said own (if b then x ∷ filter (λ (s : Share). s.place == p) xs else filter (λ (s : Share). s.place == p) xs) p) e)
+    by false e rest = rw e rest
+
+-- a stable sort leaves what shares say
+pub say_sorted : (own : Tree) (count : ℕ) (takes : ℕ → List Entry) (xs ys : List Share) → IsPermutation xs ys
+    → ((p : ℕ) → filter (λ (s : Share). s.place == p) ys ≡ filter (λ (s : Share). s.place == p) xs) → Say own count takes xs → Say own count takes ys
+say_sorted own count takes xs ys shuffled same h = record {
+  within = All-permutation (IsShareIn own count) xs ys shuffled h.within;
+  say = λ p. said_filter own ys p ∙ ap (λ zs. said own zs p) (same p) ∙ sym (said_filter own xs p) ∙ h.say p;
+}

@@ -1,7 +1,8 @@
 -- What the names of GROUP BY take of a path, as a list in the order of the names.
-use Rattle.std.specs.Prelude.{ℕ, ◌+◌, ◌<◌, ◌-◌, ◌==◌, ◌≤◌, Bool, List, [], ◌∷◌, ◌++◌, ⊤}
+use Rattle.std.specs.Prelude.{◌≡◌, ℕ, ◌+◌, ◌<◌, ◌-◌, ◌==◌, ◌≤◌, Bool, List, [], ◌∷◌, ◌++◌, ⊤}
 use Rattle.std.specs.Prelude.{filter, length, replicate, slice_range}
 use Rattle.std.specs.Prelude.{if◌then◌else◌, nat_lt}
+use Rattle.std.specs.List.{All}
 use Rattle.cal_context.specs.Tree.{Tree, path_at}
 use Rattle.cal_context.specs.declared.numbers.NodeNumber.{NodeNumber}
 use Rattle.cal_value.specs.declared.attribute.Entry.{Entry}
@@ -44,6 +45,18 @@ pub record IsShareIn (t : Tree) (count : ℕ) (share : Share) : Type 0 where
   pub place : share.place < count
   pub below : 0 < share.node.0
   pub within : share.node.0 < length t.paths
+
+-- what shares say of a path at a place: the paths of those there, one behind another
+abbrev pub said : Tree → List Share → ℕ → List Entry
+said t [] place = []
+said t (share ∷ shares) place =
+    (if share.place == place then path_at t share.node else []) ++ said t shares place
+
+-- shares in any order, which together say what each name takes
+pub record Say (t : Tree) (count : ℕ) (takes : ℕ → List Entry) (shares : List Share)
+    : Type 0 where
+  pub within : All (IsShareIn t count) shares
+  pub say : (place : ℕ) → said t shares place ≡ takes place
 
 -- the name at a share's place takes the share's path too
 abbrev pub with_path : Tree → Share → (ℕ → List Entry) → ℕ → List Entry

@@ -1,17 +1,19 @@
 //! What the names of GROUP BY take of the paths of a record.
-ghost use Rattle.std.specs.Prelude.{◌≡◌, ℕ, ◌≤◌, ◌++◌, [], true, List, drop, filter, length, map, IfOk, OnOk};
+ghost use Rattle.std.specs.Prelude.{◌≡◌, ℕ, ◌+◌, true, List, filter, length, map, IfOk, OnOk};
 ghost use Rattle.std.specs.List.{All};
+ghost use Rattle.std.specs.List.Sorted.{IsNonDecreasingBy};
 ghost use Rattle.cal_context.specs.Snapshots.{IsBelowRoot};
 ghost use Rattle.cal_context.specs.Tree.{Grows, Tree, path_at};
 ghost use Rattle.cal_value.specs.Flat.{joined as joined_paths};
 ghost use Rattle.cal_value.specs.declared.attribute.Entry.{Entry as AnEntry};
 ghost use Rattle.cal_engine.specs.Groups.{has_entries, taken};
 ghost use Rattle.cal_engine.specs.Keys.{ArePaths};
-ghost use Rattle.cal_engine.specs.Shares.{AreShares, IsShareIn, with_path};
+ghost use Rattle.cal_engine.specs.Shares.{AreShares, IsShareIn, Rise, Say, is_below};
+ghost use Rattle.cal_engine.specs.Shares.{node_for as node_of, with_path};
 ghost use Rattle.cal_engine.specs.Sieves.{IsReadySieve};
 ghost use Rattle.cal_engine.specs.Takers.{taken_at};
 
-use crate::share::{Share, add_with, node_for};
+use crate::share::Share;
 use crate::sieve::Sieve;
 use crate::stepping::joined;
 use cal_context::{Context, NodeNumber};
@@ -38,10 +40,11 @@ pub(crate) fn key_paths(
         let paths = nodes_of(sieve.shares(*node), room)?;
         return Ok(paths);
     }
-    let mut list = Vec::new(alloc);
-    let from = join_all(alloc, sieve, own, nodes, &mut list)?;
+    let mut all = all_shares(alloc, sieve, own, nodes)?;
+    all.sort_by_key(|share| share.place)?;
+    let joined = join_shares(alloc, own, &all)?;
     own.has_each_once();
-    let paths = nodes_of(list_from(&list, from), room)?;
+    let paths = nodes_of(&joined, room)?;
     Ok(paths)
 }
 
@@ -57,86 +60,83 @@ fn nodes_of(shares: &[Share], room: Vec<NodeNumber>) -> Result<Vec<NodeNumber>, 
     Ok(nodes)
 }
 
-/// The shares from a place on.
-fn list_from(list: &[Share], from: usize) -> &[Share]
-    ensures { result.now ≡ drop from list.now }
-{
-    list.get(from..).unwrap_or(&[])
-}
-
-/// Puts what is taken of the paths of nodes, one behind another, at the end of a list, which is
-/// empty: the place from which on it stands there.
-fn join_all(
+/// What is taken of the paths of nodes, one node's behind another's.
+fn all_shares(
     alloc: Global,
     sieve: &Sieve,
-    own: &mut Context,
+    own: &Context,
     nodes: &[NodeNumber],
-    list: &mut Vec<Share>,
-) -> Result<usize, OutOfMemory>
-    requires { list.old.items ≡ [] }
-    ensures shares { IfOk result (λ from. (t : Tree) (names : List (List ℕ))
-        → IsReadySieve t own.old names sieve.now → All (IsBelowRoot t) nodes.now
-        → AreShares own.new (length names)
+) -> Result<Vec<Share>, OutOfMemory>
+    ensures { IfOk result (λ all. (t : Tree) (names : List (List ℕ))
+        → IsReadySieve t own.now names sieve.now → All (IsBelowRoot t) nodes.now
+        → Say own.now (length names)
         (λ place. taken_at true names place (joined_paths (map (path_at t) nodes.now)))
-        (drop from list.new.items)) }
-    ensures grows { OnOk result (Grows own.old own.new) }
+        all.items) }
 {
     own.has_each_once();
-    let mut from = 0;
+    let mut all = Vec::new(alloc);
     for node in nodes {
-        from = join_shares(alloc, own, sieve.shares(*node), list, from)?;
+        all.extend_from_slice(sieve.shares(*node))?;
     }
-    Ok(from)
+    Ok(all)
 }
 
-/// Puts the shares from a place on, joined with others, at the end of the list: the place from which
-/// on they stand there.
+/// Shares in the order of the names, where each name has one.
 fn join_shares(
     alloc: Global,
     own: &mut Context,
     shares: &[Share],
-    list: &mut Vec<Share>,
-    from: usize,
-) -> Result<usize, OutOfMemory>
-    requires { from ≤ length list.old.items }
-    ensures within { IfOk result (λ now. now ≤ length list.new.items) }
-    ensures shares { IfOk result (λ now. (count : ℕ) (takes more : ℕ → List AnEntry)
-        → AreShares own.old count takes (drop from list.old.items)
-        → AreShares own.old count more shares.now
-        → AreShares own.new count (λ place. takes place ++ more place)
-        (drop now list.new.items)) }
+) -> Result<Vec<Share>, OutOfMemory>
+    ensures shares { IfOk result (λ joined. (count : ℕ) (takes : ℕ → List AnEntry)
+        → IsNonDecreasingBy (λ share. share.place) shares.now → Say own.old count takes shares.now
+        → AreShares own.new count takes joined.items) }
     ensures grows { OnOk result (Grows own.old own.new) }
 {
     own.has_each_once();
-    let mut at = from;
+    let mut joined = Vec::new(alloc);
     for share in shares {
-        at = join_share(alloc, own, *share, list, at)?;
+        join_share(alloc, own, &mut joined, *share)?;
     }
-    Ok(at)
+    Ok(joined)
 }
 
-/// The same for one share.
+/// Adds a share at the end, behind what its name takes already.
 fn join_share(
     alloc: Global,
     own: &mut Context,
+    shares: &mut Vec<Share>,
     share: Share,
-    list: &mut Vec<Share>,
-    from: usize,
-) -> Result<usize, OutOfMemory>
-    requires { from ≤ length list.old.items }
-    ensures within { IfOk result (λ now. now ≤ length list.new.items) }
-    ensures shares { IfOk result (λ now. (count : ℕ) (takes : ℕ → List AnEntry)
-        → AreShares own.old count takes (drop from list.old.items)
-        → IsShareIn own.old count share
-        → AreShares own.new count (with_path own.old share takes) (drop now list.new.items)) }
+) -> Result<(), OutOfMemory>
+    ensures shares { OnOk result ((count : ℕ) (takes : ℕ → List AnEntry)
+        → IsShareIn own.old count share → Rise 0 (share.place + 1) shares.old.items
+        → AreShares own.old count takes shares.old.items
+        → AreShares own.new count (with_path own.old share takes) shares.new.items) }
     ensures grows { OnOk result (Grows own.old own.new) }
 {
     own.has_each_once();
-    let before = node_for(list_from(list, from), share.place);
+    let place = share.place;
+    let before = take_last(shares, place)?;
     let node = joined(alloc, own, before, share.node)?;
     own.has_each_once();
-    let to = list.len();
-    let place = share.place;
-    add_with(list, from, to, Share { place, node })?;
-    Ok(to)
+    shares.push(Share { place, node })?;
+    Ok(())
+}
+
+/// Takes out the last share, if it is that of the name at a place: its node, or else the root.
+fn take_last(shares: &mut Vec<Share>, place: u32) -> Result<NodeNumber, OutOfMemory>
+    ensures node { IfOk result (λ node. Rise 0 (place + 1) shares.old.items
+        → node ≡ node_of shares.old.items place) }
+    ensures rest { OnOk result (Rise 0 (place + 1) shares.old.items
+        → shares.new.items ≡ filter (is_below place) shares.old.items) }
+{
+    match shares.pop() {
+        Some(last) => {
+            if last.place == place {
+                return Ok(last.node);
+            }
+            shares.push(last)?;
+            Ok(NodeNumber::ROOT)
+        }
+        None => Ok(NodeNumber::ROOT),
+    }
 }
