@@ -5,10 +5,10 @@ use Rattle.std.specs.Prelude.{nat_lt, ◌==◌, replicate, slice_range}
 use Rattle.std.specs.List.{All}
 use Rattle.std.proofs.lemmas.Bool.{cases_lt}
 use Rattle.std.proofs.lemmas.Bool.Decides.{Decides-eqb, nat_tests}
-use Rattle.std.proofs.lemmas.List.{drop-append-le, drop_at, get_or-append_right, get_or-drop, get_or_append_left, length-append, length-drop, length-map, length-replicate, map-append, replicate-append-replicate, take-append-le, take_all, take_more}
+use Rattle.std.proofs.lemmas.List.{drop-append-le, get_or-append_right, get_or-drop, get_or_append_left, length-append, length-drop, length-map, length-replicate, map-append, replicate-append-replicate, take-append-le, take_more}
 use Rattle.std.specs.List.Sorted.{IsPermutation}
 use Rattle.std.proofs.lemmas.List.Sorted.{All-permutation}
-use Rattle.std.proofs.lemmas.List.Elements.{All-cons, All-nil, All-tail, All-weaker, filter-append}
+use Rattle.std.proofs.lemmas.List.Elements.{All-cons, All-nil, All-tail, filter-append}
 use Rattle.cal_context.specs.Lists.{IsFront}
 use Rattle.cal_context.specs.Snapshots.{IsBelowRoot}
 use Rattle.cal_context.specs.Tree.{Grows, IsContext, Tree, path_at}
@@ -296,13 +296,6 @@ said_more own (y ∷ xs) x p =
 abbrev pub with_said : Tree → (ℕ → List Entry) → List Share → ℕ → List Entry
 with_said own f xs p = f p ++ said own xs p
 
-pub said_none : (own : Tree) (f : ℕ → List Entry) (p : ℕ) → f p ≡ with_said own f [] p
-said_none own f p = sym (append-nil (f p))
-
-pub said_all : (own : Tree) → IsContext own → (f g : ℕ → List Entry) (count : ℕ) (xs : List Share) → AreShares own count g xs
-    → (p : ℕ) → with_said own f xs p ≡ f p ++ g p
-said_all own context f g count xs h p = ap (λ es. f p ++ es) (said_node own context p 0 count xs h.rise ∙ (h.lead p).is)
-
 pub said_next : (own mid : Tree) (f : ℕ → List Entry) (xs : List Share) (i : ℕ) (x : Share) → Grows own mid → i < length xs
     → x ≡ get_or xs i x → x.node.0 < length own.paths
     → (p : ℕ) → with_path mid x (with_said own f (take i xs)) p ≡ with_said own f (take (i + 1) xs) p
@@ -341,17 +334,6 @@ module _ {A : Type 0} where
           let long = length-drop from xs in
           ap (take (to - from)) (drop-append-le from xs more (omega (arith, l, short)))
           ∙ take-append-le (to - from) (drop from xs) more (omega (arith, long, short))
-
-  pub range_back : (xs more : List A) (from to : ℕ) → from ≡ length xs → to ≡ length (xs ++ more) → slice_range (xs ++ more) from to ≡ more
-  range_back xs more from to start end =
-      let long = length-append xs more in
-      ap (take (to - from)) (drop_at xs more from (sym start))
-      ∙ take_all (to - from) more (omega (arith, start, end, long))
-
-  pub range_rest : (xs : List A) (from to : ℕ) → length xs ≤ to → slice_range xs from to ≡ drop from xs
-  range_rest xs from to long =
-      let rest = length-drop from xs in
-      take_all (to - from) (drop from xs) (omega (arith, rest, long))
 
   pub range_none : (xs : List A) (from to : ℕ) → to ≤ from → slice_range xs from to ≡ []
   range_none xs from to less = let none : to - from ≡ 0 = omega (arith, less) in ap (λ n. take n (drop from xs)) none
@@ -459,10 +441,6 @@ pub with_nones-more : (lists : List (List Share)) (one other : ℕ) → length l
     → with_nones (with_nones lists one) other ≡ with_nones lists other
 with_nones-more lists one other within more = padded-more [] lists one other within more
 
-pub with_nones-less : (lists : List (List Share)) (one other : ℕ) → length lists ≤ one → other ≤ one
-    → with_nones (with_nones lists one) other ≡ with_nones lists one
-with_nones-less lists one other within less = padded-less [] lists one other within less
-
 pub with_nones-next : (lists : List (List Share)) (count : ℕ) → length lists ≤ count → with_nones lists (count + 1) ≡ with_nones lists count ++ [] ∷ []
 with_nones-next lists count within = padded-blank [] lists count within
 
@@ -513,10 +491,6 @@ spans_grow shares more [] h = refl
 spans_grow shares more (s ∷ spans) h =
     let first : IsSpanIn shares s = h 0 s (omega arith) in
     λ i. range_front shares more s.from s.to first.within i ∷ spans_grow shares more spans (All-tail (IsSpanIn shares) s spans h) i
-
-pub spans_within : (shares more : List Share) (spans : List Span) → All (IsSpanIn shares) spans → All (IsSpanIn (shares ++ more)) spans
-spans_within shares more spans h =
-    All-weaker (IsSpanIn shares) (IsSpanIn (shares ++ more)) (λ s l. let whole = length-append shares more in record { rise = l.rise; within = omega (arith, l.within, whole) }) spans h
 
 pub read_span : (shares : List Share) (spans : List Span) (count i : ℕ)
     → get_or (with_nones (map (spanned shares) spans) count) i [] ≡ spanned shares (get_or spans i no_span)
@@ -639,9 +613,6 @@ last_before q old xs x is other h =
     closed from [] a k l = (k.0, l, k.2, tt)
     closed from (y ∷ ys) a k l = (k.0, a.1, k.2, closed (y.place + 1) ys a.3 k.3 l)
 
-pub no_last : (q : ℕ) (old : List Share) → old ≡ [] → (record { 0 = 0 } ≡ node_for old q) × (old ≡ filter (is_below q) old)
-no_last q old is = (sym (ap (λ xs. node_for xs q) is), is ∙ sym (ap (filter (is_below q)) is))
-
 pub put_last : (q : ℕ) (old rest now : List Share) (made : Share) → made.place ≡ q → Rise 0 (q + 1) old → rest ≡ filter (is_below q) old → now ≡ rest ++ made ∷ []
     → now ≡ with_share made old
 put_last q old rest now made at h rest_is is =
@@ -656,9 +627,6 @@ said_append own [] ys p = refl
 said_append own (x ∷ xs) ys p =
     ap (λ es. (if x.place == p then path_at own x.node else []) ++ es) (said_append own xs ys p)
     ∙ sym (append_assoc (if x.place == p then path_at own x.node else []) (said own xs p) (said own ys p))
-
-pub say_none : (own : Tree) (count : ℕ) (takes : ℕ → List Entry) → ((p : ℕ) → takes p ≡ []) → Say own count takes []
-say_none own count takes none = record { within = All-nil (IsShareIn own count); say = λ p. sym (none p) }
 
 pub say_more : (own : Tree) → IsContext own → (count : ℕ) (f g h : ℕ → List Entry) (xs ys now : List Share) → now ≡ xs ++ ys → ((p : ℕ) → f p ++ g p ≡ h p)
     → Say own count f xs → AreShares own count g ys → Say own count h now
