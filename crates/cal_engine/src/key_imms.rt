@@ -1,5 +1,5 @@
 //! What the names of GROUP BY take of the immediates of a record.
-ghost use Rattle.std.specs.Prelude.{◌≡◌, ℕ, ◌<◌, false, List, length, map, IfOk, OnOk};
+ghost use Rattle.std.specs.Prelude.{ℕ, ◌<◌, false, List, length, map, IfOk, OnOk};
 ghost use Rattle.std.specs.List.{All};
 ghost use Rattle.cal_context.specs.Snapshots.{entry_of};
 ghost use Rattle.cal_context.specs.Tree.{Grows, Tree};

@@ -1,5 +1,5 @@
 //! What one name of GROUP BY takes of a path, and lists of it in the order of the names.
-ghost use Rattle.std.specs.Prelude.{◌≡◌, ◌∷◌, ◌++◌, ◌≤◌, filter, length, slice_range, OnOk};
+ghost use Rattle.std.specs.Prelude.{◌≡◌, ◌++◌, ◌≤◌, filter, length, slice_range, OnOk};
 ghost use Rattle.cal_context.specs.Lists.{IsFront};
 ghost use Rattle.cal_engine.specs.Shares.{is_above, is_below, node_for as node_of, with_share};
 

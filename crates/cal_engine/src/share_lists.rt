@@ -39,7 +39,8 @@ impl Model for ShareLists {
 
     ghost view = { λ s. with_nones (map (spanned s.shares.items) s.spans.items) s.count };
 
-    ghost invariant = { λ s. (length s.spans.items ≤ s.count) × All (IsSpanIn s.shares.items) s.spans.items };
+    ghost invariant = { λ s. (length s.spans.items ≤ s.count)
+        × All (IsSpanIn s.shares.items) s.spans.items };
 }
 
 impl ShareLists {

@@ -1,19 +1,15 @@
 //! What the names of GROUP BY take of records by number.
-ghost use Rattle.std.specs.Prelude.{◌≡◌, ℕ, ◌+◌, ◌<◌, [], ◌∷◌, ◌++◌, List, length, slice_index_or};
-ghost use Rattle.std.specs.Prelude.{IfOk, OnOk};
+ghost use Rattle.std.specs.Prelude.{◌≡◌, ℕ, ◌+◌, ◌<◌, [], List, length, IfOk, OnOk};
 ghost use Rattle.cal_context.specs.Tree.{Grows, Tree};
-ghost use Rattle.cal_context.specs.Children.{IsLinked};
 ghost use Rattle.cal_engine.specs.Keys.{names_in};
 ghost use Rattle.cal_engine.specs.Sieves.{IsReadySieve, IsSieve, KnowsAttributes, shares_at};
 ghost use Rattle.cal_engine.specs.Takers.{taker_at};
-ghost use Rattle.cal_engine.specs.Shares.{node_for as node_of};
-ghost use Rattle.cal_engine.specs.Totals.{IsStep};
 
 use crate::share::{Share, node_for};
 use crate::share_lists::ShareLists;
 use crate::stepping::step;
 use crate::takers::Takers;
-use cal_context::{AttributeNumber, Context, Link, NodeNumber};
+use cal_context::{AttributeNumber, Context, NodeNumber};
 use cal_seeds::Seeds;
 use cal_value::{OutOfMemory, Seq, Text};
 use std::alloc::Global;
