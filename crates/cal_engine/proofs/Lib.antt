@@ -21,9 +21,8 @@ pub mod Results
 pub mod Totalling
 pub mod GroupRows
 pub mod Regroups
-pub mod TakerLemmas
-pub mod ShareLemmas
-pub mod ImmLemmas
+pub mod Sifting
+pub mod Choosing
 pub mod KeyLemmas
 pub mod Counting
 pub mod Seekers
@@ -36,7 +35,6 @@ pub mod SnapshotRanking
 pub mod MovedNumbers
 pub mod MovedKeys
 pub mod MergedGroups
-pub mod SieveLemmas
 pub mod AnswerParts
 pub mod KeyWays
 pub mod SingleKeys

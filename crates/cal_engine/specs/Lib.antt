@@ -15,9 +15,7 @@ pub mod Visiting
 pub mod Trails
 pub mod Totals
 pub mod Finishing
-pub mod Takers
-pub mod Shares
-pub mod TakenImms
+pub mod Choices
 pub mod Sieves
 pub mod Keys
 pub mod Numbered
