@@ -1,12 +1,13 @@
 //! What a text of declarations says.
 
-use cal_value::{Attribute, Seq};
+use crate::Line;
+use cal_value::Seq;
 use cal_words::Shape;
 
-/// The declarations of each thread in order, and the shape of a table that has room for their
-/// names.
+/// The declarations of each thread in order, whose names stand in the text, and the shape of a table
+/// that has room for them.
 #[derive(Debug, Drop)]
-pub struct Declarations {
-    pub threads: Seq<Seq<Attribute>>,
+pub struct Declarations<'a> {
+    pub threads: Seq<Seq<Line<'a>>>,
     pub shape: Shape,
 }

@@ -7,9 +7,10 @@ ghost use Rattle.cal_script.specs.Names.{is_name};
 ghost use Rattle.cal_script.specs.Parts.{attribute_of, declarable, declared_props, is_text_kind};
 ghost use Rattle.cal_script.specs.Steps.{Gives, words_behind};
 
+use crate::Line;
 use crate::name::is_attribute_name;
 use cal_script::{LineEnd, ScriptKind, first_word, read_decimal};
-use cal_value::{Attribute, Kind, Props, Text};
+use cal_value::{Kind, Props};
 use std::alloc::Global;
 
 const GREATEST_PROPS: u64 = 65_535;
@@ -66,12 +67,12 @@ fn is_text_kind(kind: Kind) -> bool
 
 /// The declaration that these words say.
 #[tactic(auto, using(cal_script::proofs::FirstWords::declared_name))]
-pub(crate) fn read_declaration(
+pub(crate) fn read_declaration<'a>(
     alloc: Global,
-    name: &str,
+    name: &'a str,
     kind: &str,
     props: &str,
-) -> Result<Attribute, LineEnd>
+) -> Result<Line<'a>, LineEnd>
     ensures said { Gives (λ declared. declared) result
         (attribute_of [] (name.now, kind.now, props.now)) }
     ensures name { IfOk result (λ declared. declared.name ≡ name.now) }
@@ -85,9 +86,5 @@ pub(crate) fn read_declaration(
     if props.is_as_value() && is_text_kind(kind) {
         return Err(LineEnd::Bad(ScriptKind::BadKind));
     }
-    Ok(Attribute {
-        name: Text::from_str(alloc, name)?,
-        kind,
-        props,
-    })
+    Ok(Line::new(name, kind, props))
 }

@@ -11,10 +11,11 @@ ghost use Rattle.cal_declarations.specs.Reading.{declare_after, line_after, no_l
 ghost use Rattle.cal_declarations.specs.Reading.{thread_after, threads_of, words_after};
 
 use crate::Declarations;
+use crate::Line;
 use crate::counts::Counts;
 use crate::declare::{read_declaration, three_words};
 use cal_script::{LineEnd, Rest, ScriptKind, first_word};
-use cal_value::{Attribute, OutOfMemory, Seq};
+use cal_value::{OutOfMemory, Seq};
 use cal_words::text_len;
 use std::alloc::Global;
 use std::mem;
@@ -23,16 +24,16 @@ const MOST_THREADS: u64 = 64;
 
 /// What the lines have said so far. After an `Err` it is of no more use.
 #[derive(Drop)]
-pub struct Reader {
-    pub(crate) earlier: Seq<Seq<Attribute>>,
+pub struct Reader<'a> {
+    pub(crate) earlier: Seq<Seq<Line<'a>>>,
     pub(crate) in_thread: bool,
-    pub(crate) lines: Seq<Attribute>,
+    pub(crate) lines: Seq<Line<'a>>,
     pub(crate) counts: Counts,
 }
 
-impl Reader {
+impl<'a> Reader<'a> {
     /// The reader before the first line. It takes no memory.
-    pub fn new(alloc: Global) -> Reader
+    pub fn new(alloc: Global) -> Reader<'a>
         ensures start { state_of result ≡ no_lines }
         ensures kept { IsReading result }
         ensures fits { fits (threads_of (state_of result)) ≡ true }
@@ -50,7 +51,7 @@ impl Reader {
     }
 
     /// Reads the next line, of which it may be known that it is a text.
-    pub(crate) fn read_rest(&mut self, alloc: Global, line: Rest<'_>) -> Result<(), LineEnd>
+    pub(crate) fn read_rest(&mut self, alloc: Global, line: Rest<'a>) -> Result<(), LineEnd>
         requires kept { IsReading self.old }
         requires fits { fits (threads_of (state_of self.old)) ≡ true }
         ensures said { Gives (λ _. state_of self.new) result
@@ -65,7 +66,7 @@ impl Reader {
     }
 
     #[tactic(auto, unfolding(crate::specs::Reading::line_after), using(crate::proofs::Runs::texts))]
-    fn read_line(&mut self, alloc: Global, line: &[u8]) -> Result<(), LineEnd>
+    fn read_line(&mut self, alloc: Global, line: &'a [u8]) -> Result<(), LineEnd>
         requires kept { IsReading self.old }
         requires fits { fits (threads_of (state_of self.old)) ≡ true }
         ensures said { Gives (λ _. state_of self.new) result
@@ -81,7 +82,7 @@ impl Reader {
 
     /// Reads the next line, which is a text.
     #[tactic(auto, unfolding(crate::specs::Reading::line_after), using(crate::proofs::Runs::texts))]
-    fn read_known(&mut self, alloc: Global, line: &str) -> Result<(), LineEnd>
+    fn read_known(&mut self, alloc: Global, line: &'a str) -> Result<(), LineEnd>
         requires kept { IsReading self.old }
         requires fits { fits (threads_of (state_of self.old)) ≡ true }
         ensures said { Gives (λ _. state_of self.new) result
@@ -96,7 +97,7 @@ impl Reader {
     }
 
     /// Reads a line that says something.
-    fn read_text(&mut self, alloc: Global, line: &str) -> Result<(), LineEnd>
+    fn read_text(&mut self, alloc: Global, line: &'a str) -> Result<(), LineEnd>
         requires kept { IsReading self.old }
         requires fits { fits (threads_of (state_of self.old)) ≡ true }
         ensures said { Gives (λ _. state_of self.new) result
@@ -111,7 +112,7 @@ impl Reader {
         Ok(())
     }
 
-    fn read_words(&mut self, alloc: Global, line: &str) -> Result<(), LineEnd>
+    fn read_words(&mut self, alloc: Global, line: &'a str) -> Result<(), LineEnd>
         requires kept { IsReading self.old }
         requires fits { fits (threads_of (state_of self.old)) ≡ true }
         ensures said { Gives (λ _. state_of self.new) result
@@ -131,11 +132,9 @@ impl Reader {
     fn end_thread(&mut self, alloc: Global) -> Result<(), OutOfMemory>
         ensures { OnOk result (self.new ≡ ended self.old) }
     {
+        let lines = mem::replace(&mut self.lines, Seq::new(alloc));
         if self.in_thread {
-            let lines = mem::replace(&mut self.lines, Seq::new(alloc));
             self.earlier.push(lines)?;
-        } else {
-            self.lines = Seq::new(alloc);
         }
         Ok(())
     }
@@ -158,7 +157,7 @@ impl Reader {
         Ok(())
     }
 
-    fn read_declare(&mut self, alloc: Global, rest: Option<&str>) -> Result<(), LineEnd>
+    fn read_declare(&mut self, alloc: Global, rest: Option<&'a str>) -> Result<(), LineEnd>
         requires kept { IsReading self.old }
         requires fits { fits (threads_of (state_of self.old)) ≡ true }
         ensures said { Gives (λ _. state_of self.new) result
@@ -199,10 +198,10 @@ impl Reader {
     }
 
     /// The declarations that all lines say.
-    pub(crate) fn into_declarations(self) -> Result<Declarations, OutOfMemory>
+    pub(crate) fn into_declarations(self) -> Result<Declarations<'a>, OutOfMemory>
         requires kept { IsReading self }
         requires fits { fits (threads_of (state_of self)) ≡ true }
-        ensures threads { IfOk result (λ all. all.threads ≡ threads_of (state_of self)) }
+        ensures threads { IfOk result (λ all. all.threads ≡ threads_of (state_of self.entry)) }
         ensures named { IfOk result (λ all. All AreNamed all.threads) }
         ensures shape { IfOk result (λ all. all.shape ≡ names_shape all.threads) }
         ensures is_shape { IfOk result (λ all. IsShape all.shape) }

@@ -12,7 +12,10 @@ use cal_script::{LineEnd, Rest};
 use std::alloc::Global;
 
 /// The declarations that the bytes mean. It takes time in their number.
-pub fn read_declarations(alloc: Global, bytes: &[u8]) -> Result<Declarations, DeclarationsEnd>
+pub fn read_declarations(
+    alloc: Global,
+    bytes: &[u8],
+) -> Result<Declarations<'_>, DeclarationsEnd>
     ensures read { IfOk result (λ all. Means bytes.now all.threads) }
     ensures named { IfOk result (λ all. All AreNamed all.threads) }
     ensures shape { IfOk result (λ all. all.shape ≡ names_shape all.threads) }
@@ -26,7 +29,11 @@ pub fn read_declarations(alloc: Global, bytes: &[u8]) -> Result<Declarations, De
 }
 
 /// Has a reader read all lines.
-fn read_lines(alloc: Global, reader: &mut Reader, bytes: &[u8]) -> Result<(), DeclarationsEnd>
+fn read_lines<'a>(
+    alloc: Global,
+    reader: &mut Reader<'a>,
+    bytes: &'a [u8],
+) -> Result<(), DeclarationsEnd>
     requires start { state_of reader.old ≡ no_lines }
     requires kept { IsReading reader.old }
     requires fits { fits (threads_of (state_of reader.old)) ≡ true }
