@@ -36,7 +36,7 @@ pub struct Made {
 pub fn make_list<R: Threads + Sync>(
     rt: &R,
     alloc: Global,
-    all: &Declarations,
+    all: &Declarations<'_>,
 ) -> Result<Made, OutOfMemory>
     requires named { All AreNamed all.now.threads }
     requires shape { all.now.shape ≡ names_shape all.now.threads }

@@ -11,10 +11,10 @@ ghost use Rattle.cal_call_names.specs.Words.{asked};
 
 use crate::listing::{Made, make_list, write_made};
 use crate::outcome::{Ended, end};
-use crate::reading::read_input;
+use crate::reading::{declarations_of, read_input};
 use crate::{NamesOutcome, read_names_words};
 use cal_base::{Sink, Source};
-use cal_call::Fault;
+use cal_call::{Fault, give_back};
 use cal_declarations::meaning_law;
 use cal_value::OutOfMemory;
 use std::alloc::Global;
@@ -120,7 +120,23 @@ fn made_list<R: Threads + Sync, S: Source>(
         (change_of S.left S.faults input.old input.new) output [] fault) }
     ensures unwritten { IfErr result (λ fault. writes (Some fault) ≡ false) }
 {
-    let all = read_input(alloc, input)?;
+    let bytes = read_input(alloc, input)?;
+    let made = list_of(rt, alloc, bytes.as_slice());
+    give_back(bytes);
+    made
+}
+
+/// The list of the declarations that the bytes of an input mean.
+fn list_of<R: Threads + Sync>(rt: &R, alloc: Global, bytes: &[u8]) -> Result<Made, Fault>
+    ensures made { IfOk result (λ made. Makes bytes.now made.text made.replies) }
+    ensures refused { IfOk result (λ made. made.refused ≡ refused_lines made.replies) }
+
+    // The cause of an input that was read as these bytes.
+    ensures caused { IfErr result (λ fault. (input output : Change)
+        → ReadsInput input (λ read. read ≡ bytes.now) → Causes input output [] fault) }
+    ensures unwritten { IfErr result (λ fault. writes (Some fault) ≡ false) }
+{
+    let all = declarations_of(alloc, bytes)?;
     match make_list(rt, alloc, &all) {
         Ok(made) => Ok(made),
         Err(OutOfMemory) => Err(Fault::OutOfMemory),

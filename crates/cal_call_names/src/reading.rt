@@ -10,18 +10,14 @@ ghost use Rattle.cal_words.specs.Shapes.{IsShape};
 ghost use Rattle.cal_call_names.specs.Answers.{Causes};
 
 use cal_base::{ReadEnd, Source, read_all};
-use cal_call::{Fault, INPUT_LIMIT, InputKind, give_back};
+use cal_call::{Fault, INPUT_LIMIT, InputKind};
 use cal_declarations::{Declarations, DeclarationsEnd, read_declarations};
 use std::alloc::Global;
 
-/// Reads the declarations that the input has left, and the end behind them.
-pub fn read_input<S: Source>(alloc: Global, input: &mut S) -> Result<Declarations, Fault>
-    ensures read { IfOk result (λ all. ReadsInput
-        (change_of S.left S.faults input.old input.new) (λ bytes. Means bytes all.threads)) }
-    ensures named { IfOk result (λ all. All AreNamed all.threads) }
-    ensures shape { IfOk result (λ all. all.shape ≡ names_shape all.threads) }
-    ensures is_shape { IfOk result (λ all. IsShape all.shape) }
-    ensures fits { IfOk result (λ all. fits all.threads ≡ true) }
+/// Reads the bytes that the input has left, and the end behind them.
+pub fn read_input<S: Source>(alloc: Global, input: &mut S) -> Result<Vec<u8>, Fault>
+    ensures read { IfOk result (λ bytes. ReadsInput
+        (change_of S.left S.faults input.old input.new) (λ read. read ≡ bytes.items)) }
 
     // The cause lies in the input, whatever becomes of the output.
     ensures caused { IfErr result (λ fault. (output : Change) → Causes
@@ -29,11 +25,7 @@ pub fn read_input<S: Source>(alloc: Global, input: &mut S) -> Result<Declaration
     ensures unwritten { IfErr result (λ fault. writes (Some fault) ≡ false) }
 {
     match read_all(alloc, input, INPUT_LIMIT) {
-        Ok(bytes) => {
-            let read = declarations_of(alloc, bytes.as_slice());
-            give_back(bytes);
-            read
-        }
+        Ok(bytes) => Ok(bytes),
         Err(ReadEnd::ReadFault) => Err(Fault::ReadFault),
         Err(ReadEnd::TooLong) => Err(Fault::TooLong),
         Err(ReadEnd::OutOfMemory) => Err(Fault::OutOfMemory),
@@ -41,7 +33,7 @@ pub fn read_input<S: Source>(alloc: Global, input: &mut S) -> Result<Declaration
 }
 
 /// The declarations that bytes mean, or their first fault.
-fn declarations_of(alloc: Global, bytes: &[u8]) -> Result<Declarations, Fault>
+pub fn declarations_of(alloc: Global, bytes: &[u8]) -> Result<Declarations<'_>, Fault>
     ensures read { IfOk result (λ all. Means bytes.now all.threads) }
     ensures named { IfOk result (λ all. All AreNamed all.threads) }
     ensures shape { IfOk result (λ all. all.shape ≡ names_shape all.threads) }

@@ -7,8 +7,9 @@ ghost use Rattle.cal_once.specs.Views.{first_seat};
 ghost use Rattle.cal_script.specs.Reader.{AreNamed};
 
 use crate::worker::Worker;
+use cal_declarations::Line;
 use cal_names::{Declared, NameSeat, Names};
-use cal_value::{Attribute, OutOfMemory, Seq};
+use cal_value::{OutOfMemory, Seq};
 use std::alloc::Global;
 
 /// A worker for each thread, in their order. An `Err` is want of memory, and seats are lost.
@@ -16,7 +17,7 @@ pub(crate) fn hire<'a>(
     alloc: Global,
     names: &Names,
     first: &mut NameSeat,
-    threads: &'a [Seq<Attribute>],
+    threads: &'a [Seq<Line<'a>>],
 ) -> Result<Vec<Worker<'a>>, OutOfMemory>
     requires seat { IsNameSeat names.now first.old }
     requires fresh { view first.old ≡ first_seat (plan_of names.now) }
@@ -40,7 +41,7 @@ fn hire_one<'a>(
     alloc: Global,
     names: &Names,
     first: &mut NameSeat,
-    lines: &'a [Attribute],
+    lines: &'a [Line<'a>],
 ) -> Result<Worker<'a>, OutOfMemory>
     requires first { IsFirst names.now first.old (length (view first.old).others) }
     requires left { length (view first.old).others + 1 < (plan_of names.now).shape.arenas }

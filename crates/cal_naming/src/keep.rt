@@ -10,15 +10,16 @@ ghost use Rattle.cal_once.specs.declared.view.Plan.{Plan};
 ghost use Rattle.cal_once.specs.declared.view.View.{View};
 ghost use Rattle.cal_value.specs.declared.attribute.Attribute as attributes;
 
+use cal_declarations::Line;
 use cal_names::Declared;
-use cal_value::{Attribute, OutOfMemory, Seq, TryCopy};
+use cal_value::{Attribute, OutOfMemory, Seq};
 use std::alloc::Global;
 
 /// The kept declarations among the lines of threads, by their answers. It takes a mark for each
 /// slot of the table, and a copy of each line that is kept.
 pub(crate) fn keep_all(
     alloc: Global,
-    threads: &[Seq<Attribute>],
+    threads: &[Seq<Line<'_>>],
     answers: &[Seq<Declared>],
     slots: u64,
 ) -> Result<Seq<Attribute>, OutOfMemory>
@@ -32,7 +33,7 @@ pub(crate) fn keep_all(
 /// The same with a mark for each slot, of which none is set yet.
 fn keep_threads(
     alloc: Global,
-    threads: &[Seq<Attribute>],
+    threads: &[Seq<Line<'_>>],
     answers: &[Seq<Declared>],
     marks: &mut [bool],
 ) -> Result<Seq<Attribute>, OutOfMemory>
@@ -51,7 +52,7 @@ fn keep_threads(
 /// Adds the kept declarations among the lines of one thread.
 fn keep_lines(
     alloc: Global,
-    lines: &[Attribute],
+    lines: &[Line<'_>],
     answers: &[Declared],
     marks: &mut [bool],
     kept: &mut Seq<Attribute>,
@@ -74,7 +75,7 @@ fn keep_lines(
 /// Adds a line where it is the kept one and isn't there yet, by its place's mark.
 fn keep_line(
     alloc: Global,
-    line: &Attribute,
+    line: &Line<'_>,
     answer: Declared,
     marks: &mut [bool],
     kept: &mut Seq<Attribute>,
@@ -94,5 +95,5 @@ fn keep_line(
         return Ok(());
     }
     marks[place as usize] = true;
-    kept.push(line.copy(alloc)?)
+    kept.push(line.to_attribute(alloc)?)
 }

@@ -19,9 +19,9 @@ use crate::keep::keep_all;
 use crate::narrow::narrowed;
 use crate::replies::reply_to_all;
 use crate::worker::{Worker, are_done, work};
-use cal_declarations::Declarations;
+use cal_declarations::{Declarations, Line};
 use cal_names::{Declared, NameSeat, Names};
-use cal_value::{Attribute, OutOfMemory, Seq};
+use cal_value::{OutOfMemory, Seq};
 use cal_words::Shape;
 use std::alloc::Global;
 use std::thread;
@@ -36,7 +36,7 @@ use std::thread::Threads;
 pub fn declare_all<R: Threads + Sync>(
     rt: &R,
     alloc: Global,
-    all: &Declarations,
+    all: &Declarations<'_>,
 ) -> Result<Named, OutOfMemory>
     requires named { All AreNamed all.now.threads }
     requires shape { all.now.shape ≡ names_shape all.now.threads }
@@ -58,7 +58,7 @@ fn declare_in<R: Threads + Sync>(
     rt: &R,
     alloc: Global,
     shape: Shape,
-    threads: &[Seq<Attribute>],
+    threads: &[Seq<Line<'_>>],
 ) -> Result<Option<Named>, OutOfMemory>
     requires is_shape { IsShape shape }
     requires laid { IsLaid shape }
@@ -82,7 +82,7 @@ fn declare_with<R: Threads + Sync>(
     names: &Names,
     first: &mut NameSeat,
     slots: u64,
-    threads: &[Seq<Attribute>],
+    threads: &[Seq<Line<'_>>],
 ) -> Result<Option<Named>, OutOfMemory>
     requires seat { IsNameSeat names.now first.old }
     requires fresh { view first.old ≡ first_seat (plan_of names.now) }
@@ -108,7 +108,7 @@ fn declare_with<R: Threads + Sync>(
 /// What the threads are told, and what is kept.
 fn tell(
     alloc: Global,
-    threads: &[Seq<Attribute>],
+    threads: &[Seq<Line<'_>>],
     answers: &[Seq<Declared>],
     slots: u64,
 ) -> Result<Named, OutOfMemory>
@@ -127,7 +127,7 @@ fn answer_all<R: Threads + Sync>(
     alloc: Global,
     names: &Names,
     first: &mut NameSeat,
-    threads: &[Seq<Attribute>],
+    threads: &[Seq<Line<'_>>],
 ) -> Result<Option<Vec<Seq<Declared>>>, OutOfMemory>
     requires seat { IsNameSeat names.now first.old }
     requires fresh { view first.old ≡ first_seat (plan_of names.now) }

@@ -10,14 +10,14 @@ ghost use Rattle.cal_once.specs.Views.{IsLater};
 ghost use Rattle.cal_script.specs.Names.{is_name};
 ghost use Rattle.cal_script.specs.Reader.{AreNamed};
 
+use cal_declarations::Line;
 use cal_names::{Declared, NameSeat, Names};
-use cal_value::Attribute;
 
 /// A thread's seat and lines, with room for an answer to each.
 #[derive(Drop)]
 pub(crate) struct Worker<'a> {
     pub(crate) seat: NameSeat,
-    pub(crate) lines: &'a [Attribute],
+    pub(crate) lines: &'a [Line<'a>],
     pub(crate) answers: Vec<Declared>,
     /// Whether all lines are declared.
     pub(crate) is_done: bool,
@@ -50,7 +50,7 @@ pub(crate) fn are_done(workers: &[Worker<'_>]) -> bool
 fn declare_lines(
     names: &Names,
     seat: &mut NameSeat,
-    lines: &[Attribute],
+    lines: &[Line<'_>],
     answers: &mut [Declared],
 ) -> bool
     requires roomy { IsRoomy (plan_of names.now) }
@@ -75,7 +75,7 @@ fn declare_lines(
 }
 
 /// Declares a line, where the seat's arena has room.
-fn declare_line(names: &Names, seat: &mut NameSeat, line: &Attribute) -> Option<Declared>
+fn declare_line(names: &Names, seat: &mut NameSeat, line: &Line<'_>) -> Option<Declared>
     requires roomy { IsRoomy (plan_of names.now) }
     requires seat { IsNameSeat names.now seat.old }
     requires named { IsTrue (is_name line.now.name) }
@@ -88,7 +88,7 @@ fn declare_line(names: &Names, seat: &mut NameSeat, line: &Attribute) -> Option<
     ensures room { (view seat.old).used + record_words line.now ≤ (plan_of names.now).shape.arena
         → IsSome result }
 {
-    match names.declare(seat, line.name.as_str(), line.kind, line.props.0) {
+    match names.declare(seat, line.name(), line.kind(), line.props().0) {
         Ok(answer) => Some(answer),
         Err(_) => None,
     }

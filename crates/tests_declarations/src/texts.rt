@@ -139,10 +139,10 @@ fn says_two(alloc: Global) -> Result<bool, DeclarationsEnd> {
         return Ok(false);
     };
     Ok(
-        b.name.as_str() == "b"
-            && b.kind == Kind::Str
-            && b.props.0 == 276
-            && c.name.as_str() == "c"
+        b.name() == "b"
+            && b.kind() == Kind::Str
+            && b.props().0 == 276
+            && c.name() == "c"
             && all.shape.slots == 7
             && all.shape.arena == 10
             && all.shape.arenas == 3,
