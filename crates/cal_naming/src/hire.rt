@@ -13,12 +13,12 @@ use cal_value::{OutOfMemory, Seq};
 use std::alloc::Global;
 
 /// A worker for each thread, in their order. An `Err` is want of memory, and seats are lost.
-pub(crate) fn hire<'a>(
+pub(crate) fn hire<'a, 'b>(
     alloc: Global,
     names: &Names,
     first: &mut NameSeat,
-    threads: &'a [Seq<Line<'a>>],
-) -> Result<Vec<Worker<'a>>, OutOfMemory>
+    threads: &'a [Seq<Line<'b>>],
+) -> Result<Vec<Worker<'a, 'b>>, OutOfMemory>
     requires seat { IsNameSeat names.now first.old }
     requires fresh { view first.old ≡ first_seat (plan_of names.now) }
     requires arenas { (plan_of names.now).shape.arenas ≡ length threads.now + 1 }
@@ -37,12 +37,12 @@ pub(crate) fn hire<'a>(
 }
 
 /// A worker for these lines, with the next number.
-fn hire_one<'a>(
+fn hire_one<'a, 'b>(
     alloc: Global,
     names: &Names,
     first: &mut NameSeat,
-    lines: &'a [Line<'a>],
-) -> Result<Worker<'a>, OutOfMemory>
+    lines: &'a [Line<'b>],
+) -> Result<Worker<'a, 'b>, OutOfMemory>
     requires first { IsFirst names.now first.old (length (view first.old).others) }
     requires left { length (view first.old).others + 1 < (plan_of names.now).shape.arenas }
     requires named { AreNamed lines.now }

@@ -17,7 +17,7 @@ pub(crate) fn join_all(
     alloc: Global,
     names: &Names,
     first: &mut NameSeat,
-    workers: Vec<Worker<'_>>,
+    workers: Vec<Worker<'_, '_>>,
 ) -> Result<Vec<Seq<Declared>>, OutOfMemory>
     requires first { IsFirst names.now first.old (length workers.items) }
     requires done { All (IsDone names.now) workers.items }
@@ -34,7 +34,7 @@ pub(crate) fn join_all(
 }
 
 /// Joins a worker's seat, and gives back its answers.
-fn join_one(names: &Names, first: &mut NameSeat, worker: Worker<'_>) -> Seq<Declared>
+fn join_one(names: &Names, first: &mut NameSeat, worker: Worker<'_, '_>) -> Seq<Declared>
     requires first { IsFirst names.now first.old (length (view first.old).others) }
     requires done { IsDone names.now worker }
     requires number { (k : ℕ) × (k < length (view first.old).others)

@@ -149,7 +149,7 @@ fn answer_all<R: Threads + Sync>(
 }
 
 /// Has each worker declare its lines, in a thread of its own.
-fn work_all<R: Threads + Sync>(rt: &R, names: &Names, workers: &mut [Worker<'_>])
+fn work_all<R: Threads + Sync>(rt: &R, names: &Names, workers: &mut [Worker<'_, '_>])
     requires roomy { IsRoomy (plan_of names.now) }
     requires ready { All (IsReady names.now) workers.old }
     ensures many { length workers.new ≡ length workers.old }

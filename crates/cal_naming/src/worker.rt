@@ -15,16 +15,16 @@ use cal_names::{Declared, NameSeat, Names};
 
 /// A thread's seat and lines, with room for an answer to each.
 #[derive(Drop)]
-pub(crate) struct Worker<'a> {
+pub(crate) struct Worker<'a, 'b> {
     pub(crate) seat: NameSeat,
-    pub(crate) lines: &'a [Line<'a>],
+    pub(crate) lines: &'a [Line<'b>],
     pub(crate) answers: Vec<Declared>,
     /// Whether all lines are declared.
     pub(crate) is_done: bool,
 }
 
 /// Declares the lines of a worker, all of them where its arena has room. It takes no memory.
-pub(crate) fn work(names: &Names, worker: &mut Worker<'_>)
+pub(crate) fn work(names: &Names, worker: &mut Worker<'_, '_>)
     requires roomy { IsRoomy (plan_of names.now) }
     requires ready { IsReady names.now worker.old }
     ensures { HasWorked names.now worker.old worker.new }
@@ -39,7 +39,7 @@ pub(crate) fn work(names: &Names, worker: &mut Worker<'_>)
 }
 
 /// Whether all workers have declared all lines.
-pub(crate) fn are_done(workers: &[Worker<'_>]) -> bool
+pub(crate) fn are_done(workers: &[Worker<'_, '_>]) -> bool
     ensures { result ≡ are_done workers.now }
 {
     workers.iter().all(|worker| worker.is_done)
