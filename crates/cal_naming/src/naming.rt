@@ -139,8 +139,8 @@ fn answer_all<R: Threads + Sync>(
     ensures room { HasRoom (plan_of names.now).shape threads.now
         → IfOk result (λ some. IsSome some) }
 {
-    let mut workers = hire(alloc, names, first, threads)?;
-    work_all(rt, names, workers.as_mut_slice());
+    let hired = hire(alloc, names, first, threads)?;
+    let workers = work_all(rt, names, hired);
     if !are_done(workers.as_slice()) {
         return Ok(None);
     }
@@ -149,12 +149,18 @@ fn answer_all<R: Threads + Sync>(
 }
 
 /// Has each worker declare its lines, in a thread of its own.
-fn work_all<R: Threads + Sync>(rt: &R, names: &Names, workers: &mut [Worker<'_, '_>])
+fn work_all<'a, 'b, R: Threads + Sync>(
+    rt: &R,
+    names: &Names,
+    mut workers: Vec<Worker<'a, 'b>>,
+) -> Vec<Worker<'a, 'b>>
     requires roomy { IsRoomy (plan_of names.now) }
-    requires ready { All (IsReady names.now) workers.old }
-    ensures many { length workers.new ≡ length workers.old }
-    ensures worked { HaveWorked names.now workers.old workers.new }
+    requires ready { All (IsReady names.now) workers.items }
+    ensures many { length result.items ≡ length workers.entry.items }
+    ensures worked { HaveWorked names.now workers.entry.items result.items }
 {
     let threads = workers.len().max(1);
-    thread::for_each_mut(rt, workers, threads, &|_number, worker| work(names, worker));
+    let each = workers.as_mut_slice();
+    thread::for_each_mut(rt, each, threads, &|_number, worker| work(names, worker));
+    workers
 }

@@ -20,10 +20,10 @@ returns-clause-kept c plan v all sound told among is =
     let line = c.args.line.now in
     let place = c.in-Same.place in
     let less = subst (λ (a : Declared). place_of a < length marks) c.in-Same.is c.requires in
-    on-ok c.push.result (c.push.new.self ≡ kept ++ c.in_ok-copy.field-0 ∷ [])
+    on-ok c.push.result (c.push.new.self ≡ kept ++ c.in_ok-to_attribute.field-0 ∷ [])
     ((Grows plan v all kept c.push.new.self (set marks place true))
     × IsListed c.push.new.self line c.args.answer)
     (λ pushed. takes plan v sound all kept marks is line c.args.answer place c.in-Same.is told
     among (mark-at marks place false false less c.if-marks-place.false) c.push.new.self
-    (pushed ∙ ap (λ x. kept ++ x ∷ []) c.in_ok-copy.ensures))
+    (pushed ∙ ap (λ x. kept ++ x ∷ []) c.in_ok-to_attribute.ensures))
     c.push.ensures.ok
