@@ -1,35 +1,27 @@
 -- The keys of groups by numbers.
-use Rattle.std.proofs.Common.{◌≡◌, ℕ, zero, suc, ◌+◌, ◌<◌, Bool, true, false, true≢false, List, [], ◌∷◌, ◌++◌, inl, inr, length, map, take, filter, get_or, slice_get, Some, None, Option}
-use Rattle.std.proofs.Common.{refl, sym, ◌∙◌, ap, subst, arith, append-nil, Contains}
-use Rattle.std.specs.Prelude.{◌==◌}
+use Rattle.std.proofs.Common.{◌≡◌, ℕ, zero, suc, ◌+◌, ◌<◌, true, false, List, [], ◌∷◌, ◌++◌, inl, inr, length, map, take, filter, get_or, slice_get, Some, None, Option}
+use Rattle.std.proofs.Common.{refl, sym, ◌∙◌, ap, subst, arith, Contains}
 use Rattle.std.specs.List.{All}
-use Rattle.std.proofs.lemmas.Bool.Decides.{Decides-eqb}
-use Rattle.std.proofs.lemmas.Grind.{flat_map-append}
 use Rattle.std.proofs.lemmas.List.{map-append, take_more}
-use Rattle.std.proofs.lemmas.List.Elements.{All-head, All-push, All-tail, filter-append}
+use Rattle.std.proofs.lemmas.List.Elements.{All-head, All-tail}
 use Rattle.cal_context.specs.Lists.{AreApart, Adds, Interns}
-use Rattle.cal_context.specs.Snapshots.{IsBelowRoot, IsIn, entry_of, meaning}
+use Rattle.cal_context.specs.Snapshots.{IsBelowRoot, entry_of, meaning}
 use Rattle.cal_context.specs.Tree.{Tree, Grows, IsContext, path_at}
 use Rattle.cal_context.specs.declared.numbers.NodeNumber.{NodeNumber}
 use Rattle.cal_context.specs.declared.snapshot.Immediate.{Immediate}
 use Rattle.cal_context.specs.declared.snapshot.Snapshot.{Snapshot}
-use Rattle.cal_context.proofs.CallerLemmas.{All-Adds, one_node, path_at-Grows, root_path, root_within, within_paths}
+use Rattle.cal_context.proofs.CallerLemmas.{All-Adds, one_node, path_at-Grows, within_paths}
 use Rattle.cal_context.proofs.ListLemmas.{map-alike}
 use Rattle.cal_value.specs.Flat.{joined}
 use Rattle.cal_value.specs.declared.attribute.Entry.{Entry}
 use Rattle.cal_value.specs.declared.record.Rec.{Rec}
-use Rattle.cal_engine.specs.Choices.{choices_of}
 use Rattle.cal_engine.specs.Folding.{Gathers}
-use Rattle.cal_engine.specs.Groups.{group_of, has_entries}
-use Rattle.cal_engine.specs.Keys.{ArePaths, IsKeyIn, IsKeyOf, key_in, room_of, with_node}
+use Rattle.cal_engine.specs.Groups.{group_of, has_entries, taken}
+use Rattle.cal_engine.specs.Keys.{ArePaths, IsKeyIn, IsKeyOf, key_in, room_of}
 use Rattle.cal_engine.specs.Numbered.{GathersKey, Numbered, grouped_in}
 use Rattle.cal_engine.specs.Parts.{Gathered}
-use Rattle.cal_engine.specs.Sieves.{beside_paths, choice_of, in_paths}
 use Rattle.cal_engine.specs.Totals.{Leads}
 use Rattle.cal_engine.specs.declared.key.GroupKey.{GroupKey}
-use Rattle.cal_engine.specs.declared.sieve.Sieve.{Sieve}
-use Rattle.cal_engine.proofs.Choosing.{taken_by_sieves}
-use Rattle.cal_engine.proofs.Reaching.{leads-below, leads-root}
 
 -- ---- the paths of a key
 
@@ -39,91 +31,25 @@ ArePaths-Grows {old} {new} grows nodes paths h = record {
   are = map-alike (path_at new) (path_at old) nodes (λ k d l. path_at-Grows grows (get_or nodes k d) (h.within k d l).within) ∙ h.are;
 }
 
-pub no_paths : (t : Tree) (nodes : List NodeNumber) → nodes ≡ [] → ArePaths t nodes []
-no_paths t nodes none = subst (λ ns. ArePaths t ns []) (sym none) (record { within = λ k d l. absurd (omega (arith, l)); are = refl })
-
--- one name more
-pub paths_next : (mid new : Tree) (nodes : List NodeNumber) (paths : List (List Entry)) (es : List Entry) (part : NodeNumber)
-    → IsContext new → Grows mid new → ArePaths mid nodes (filter has_entries paths) → Leads new es part
-    → ArePaths new (with_node nodes part) (filter has_entries (paths ++ es ∷ []))
-paths_next mid new nodes paths es part context grows before leads = by (part.0 == 0) refl es refl
-  where
-    now : ArePaths new nodes (filter has_entries paths)
-    now = ArePaths-Grows grows nodes (filter has_entries paths) before
-
-    appended : (fs : List Entry) → filter has_entries (paths ++ fs ∷ []) ≡ filter has_entries paths ++ filter has_entries (fs ∷ [])
-    appended fs = filter-append has_entries paths (fs ∷ [])
-
-    by : (b : Bool) → (part.0 == 0) ≡ b → (fs : List Entry) → es ≡ fs → ArePaths new (with_node nodes part) (filter has_entries (paths ++ es ∷ []))
-    by true at [] is =
-        rw (at, is) (subst (ArePaths new nodes) (sym (appended [] ∙ append-nil (filter has_entries paths))) now)
-    by true at (x ∷ xs) is =
-        let none : es ≡ [] = leads-root new context es part ((Decides-eqb part.0 0).0 at) leads in absurd (not_empty x xs (sym is ∙ none))
-      where
-        not_empty : (x : Entry) (xs : List Entry) → x ∷ xs ≡ [] → ⊥
-        not_empty x xs e = cc
-    by false at [] is =
-        absurd (leads-below new context part (λ zero_is. true≢false (sym ((Decides-eqb part.0 0).1 zero_is) ∙ at)) (subst (λ p. Leads new p part) is leads))
-    by false at (x ∷ xs) is =
-        let below : 0 < part.0 = above part.0 at in
-        rw (at, is) (record {
-          within = All-push (IsBelowRoot new) nodes part now.within (record { below = below; within = leads.within });
-          are = map-append (path_at new) nodes (part ∷ []) ∙ (λ i. now.are i ++ (leads.is ∙ is) i ∷ []) ∙ sym (appended (x ∷ xs));
-        })
-      where
-        above : (n : ℕ) → (n == 0) ≡ false → 0 < n
-        above zero e = absurd (true≢false ((sym ((Decides-eqb 0 0).1 refl)) ∙ e))
-        above (suc n) e = omega arith
-
 pub map_next : {A B : Type 0} (f : A → B) (xs : List A) (i : ℕ) (x : A) → i < length xs → x ≡ get_or xs i x
     → map f (take (i + 1) xs) ≡ map f (take i xs) ++ f x ∷ []
 map_next f xs i x short read =
     ap (map f) (take_more xs i x short ∙ ap (λ y. take i xs ++ y ∷ []) (sym read)) ∙ map-append f (take i xs) (x ∷ [])
 
-pub sieve_next : (mid new : Tree) (f : Sieve → List Entry) (sieves : List Sieve) (i : ℕ) (s : Sieve) (nodes now : List NodeNumber) (part : NodeNumber)
-    → i < length sieves → s ≡ get_or sieves i s → now ≡ with_node nodes part → IsContext new → Grows mid new
-    → ArePaths mid nodes (filter has_entries (map f (take i sieves))) → Leads new (f s) part
-    → ArePaths new now (filter has_entries (map f (take (i + 1) sieves)))
-sieve_next mid new f sieves i s nodes now part short read is context grows before leads =
-    subst (λ ns. ArePaths new ns (filter has_entries (map f (take (i + 1) sieves)))) (sym is)
-    (subst (λ ps. ArePaths new (with_node nodes part) (filter has_entries ps)) (sym (map_next f sieves i s short read))
-    (paths_next mid new nodes (map f (take i sieves)) (f s) part context grows before leads))
-
-pub imms_more : (mid new : Tree) (f : Sieve → List Entry) (sieves : List Sieve) (i : ℕ) (s : Sieve) (node now : NodeNumber)
-    → i < length sieves → s ≡ get_or sieves i s → ((es : List Entry) → Leads mid es node → Leads new (es ++ f s) now)
-    → Leads mid (joined (map f (take i sieves))) node → Leads new (joined (map f (take (i + 1) sieves))) now
-imms_more mid new f sieves i s node now short read adds before =
-    subst (λ p. Leads new p now)
-    (sym (ap joined (map_next f sieves i s short read)
-    ∙ flat_map-append (λ p. p) (map f (take i sieves)) (f s ∷ [])
-    ∙ ap (λ p. joined (map f (take i sieves)) ++ p) (append-nil (f s))))
-    (adds (joined (map f (take i sieves))) before)
-
 -- ---- the key of a record
 
-pub key_of_names : (mid own : Tree) (r : Rec) (names : List (List ℕ)) (sieves : List Sieve) (nodes : List NodeNumber) (key : GroupKey)
-    → Grows mid own → map choice_of sieves ≡ choices_of [] names
-    → ArePaths mid nodes (filter has_entries (map (λ s. in_paths s (joined r.paths)) sieves))
-    → Leads own (joined (map (λ s. beside_paths s r.imms) sieves)) key.imms → key.paths ≡ nodes
-    → IsKeyOf own (group_of (Some names) r) key
-key_of_names mid own r names sieves nodes key grows choices paths imms same =
-    let now = ArePaths-Grows grows nodes _ paths in
-    let are = now.are ∙ ap (filter has_entries) (taken_by_sieves true names sieves (joined r.paths) choices) in
-    let last = imms.is ∙ ap joined (taken_by_sieves false names sieves r.imms choices) in
-    record {
-      within = record { paths = subst (All (IsBelowRoot own)) (sym same) now.within; imms = imms.within };
-      is = λ i. record { paths = (ap (map (path_at own)) same ∙ are) i; imms = last i };
-    }
-
-pub key_of_snapshot : (t mid own : Tree) (s : Snapshot) (names : List (List ℕ)) (sieves : List Sieve) (ns : List NodeNumber) (is : List Immediate)
-    (nodes : List NodeNumber) (key : GroupKey) → ns ≡ s.nodes.items → is ≡ s.imms.items → Grows mid own → map choice_of sieves ≡ choices_of [] names
-    → ArePaths mid nodes (filter has_entries (map (λ x. in_paths x (joined (map (path_at t) ns))) sieves))
-    → Leads own (joined (map (λ x. beside_paths x (map (entry_of t) is)) sieves)) key.imms → key.paths ≡ nodes
+pub key_of_snapshot : (t mid own : Tree) (s : Snapshot) (names : List (List ℕ)) (ns : List NodeNumber) (is : List Immediate)
+    (nodes : List NodeNumber) (key : GroupKey) → ns ≡ s.nodes.items → is ≡ s.imms.items → Grows mid own
+    → ArePaths mid nodes (filter has_entries (taken true names (joined (map (path_at t) ns))))
+    → Leads own (joined (taken false names (map (entry_of t) is))) key.imms → key.paths ≡ nodes
     → IsKeyOf own (group_of (Some names) (meaning t s)) key
-key_of_snapshot t mid own s names sieves ns is nodes key e f grows choices paths imms same =
-    key_of_names mid own (meaning t s) names sieves nodes key grows choices
-    (subst (λ ms. ArePaths mid nodes (filter has_entries (map (λ x. in_paths x (joined (map (path_at t) ms))) sieves))) e paths)
-    (subst (λ js. Leads own (joined (map (λ x. beside_paths x (map (entry_of t) js)) sieves)) key.imms) f imms) same
+key_of_snapshot t mid own s names ns is nodes key e f grows paths imms same =
+    let now = ArePaths-Grows grows nodes _ (subst (λ ms. ArePaths mid nodes (filter has_entries (taken true names (joined (map (path_at t) ms))))) e paths) in
+    let last = subst (λ js. Leads own (joined (taken false names (map (entry_of t) js))) key.imms) f imms in
+    record {
+      within = record { paths = subst (All (IsBelowRoot own)) (sym same) now.within; imms = last.within };
+      is = λ i. record { paths = (ap (map (path_at own)) same ∙ now.are) i; imms = last.is i };
+    }
 
 -- ---- keys are alike where their groups are
 

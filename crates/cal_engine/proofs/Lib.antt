@@ -21,8 +21,9 @@ pub mod Results
 pub mod Totalling
 pub mod GroupRows
 pub mod Regroups
-pub mod Sifting
-pub mod Choosing
+pub mod TakerLemmas
+pub mod ShareLemmas
+pub mod ImmLemmas
 pub mod KeyLemmas
 pub mod Counting
 pub mod Seekers
@@ -35,6 +36,7 @@ pub mod SnapshotRanking
 pub mod MovedNumbers
 pub mod MovedKeys
 pub mod MergedGroups
+pub mod SieveLemmas
 pub mod AnswerParts
 pub mod KeyWays
 pub mod SingleKeys

@@ -359,7 +359,7 @@ module _ (q : Query) where
     holds_same t y rows h = record {
       groups = λ is. let old = h.groups is in record {
         counters = old.counters;
-        sieves = old.sieves;
+        sieve = old.sieve;
         keys = old.keys;
         groups = old.groups ∙ groups_same;
         known = old.known;

@@ -3,14 +3,14 @@ use Rattle.std.proofs.Common.{◌≡◌, ℕ, ◌+◌, ◌<◌, ◌≤◌, true,
 use Rattle.std.specs.Prelude.{is_some}
 use Rattle.std.specs.List.{filter_map}
 use Rattle.std.proofs.lemmas.List.{get_or-map, length-map, take_all}
-use Rattle.std.proofs.lemmas.List.Elements.{All-weaker, filter_map-append}
-use Rattle.cal_context.specs.Tree.{Grows, IsContext, Tree}
+use Rattle.std.proofs.lemmas.List.Elements.{filter_map-append}
+use Rattle.cal_context.specs.Tree.{Grows, IsContext, Tree, path_at}
 use Rattle.cal_context.proofs.CallerLemmas.{Grows-refl}
 use Rattle.cal_filter.specs.Kept.{kept}
 use Rattle.cal_ql.specs.declared.query.Query.{Query}
 use Rattle.cal_rowset.specs.NumberedRows.{NumberedRow}
 use Rattle.cal_value.specs.declared.record.Rec.{Rec}
-use Rattle.cal_engine.specs.FoldGrows.{counters-Grows, grouped_in-Grows, keys-Grows, sieves-Grows}
+use Rattle.cal_engine.specs.FoldGrows.{counters-Grows, grouped_in-Grows, keys-Grows, sieve-Grows}
 use Rattle.cal_engine.specs.Folding.{Gathers, groups_over}
 use Rattle.cal_engine.specs.Groups.{groups_of, records_of}
 use Rattle.cal_engine.specs.Keys.{IsKeyOf, key_in, nth_key, room_of}
@@ -18,7 +18,8 @@ use Rattle.cal_engine.specs.Moves.{IsMovedKey}
 use Rattle.cal_engine.specs.Numbered.{AreGroups, GathersKey, Numbered, grouped_in}
 use Rattle.cal_engine.specs.Parts.{Gathered, parts_over}
 use Rattle.cal_engine.specs.Rows.{is_aggregated}
-use Rattle.cal_engine.specs.Sieves.{AreSieves, Sifts}
+use Rattle.cal_engine.specs.Sieves.{IsSieve, shares_at}
+use Rattle.cal_engine.specs.Takers.{taken_at}
 use Rattle.cal_engine.specs.SnapshotRows.{AreRows}
 use Rattle.cal_engine.specs.Tallies.{Holds, IsTally}
 use Rattle.cal_engine.specs.declared.key.GroupKey.{GroupKey}
@@ -27,7 +28,7 @@ use Rattle.cal_engine.specs.declared.tally.Tally.{Tally}
 use Rattle.cal_engine.proofs.KeyLemmas.{gathered_within, gathers_in}
 use Rattle.cal_engine.proofs.MovedKeys.{moved_key_is}
 use Rattle.cal_engine.proofs.Regroups.{groups_over-regrouped, regrouped, regrouped_more}
-use Rattle.cal_engine.proofs.Sifting.{Sifts-Grows}
+use Rattle.cal_engine.proofs.ShareLemmas.{AreShares-Grows}
 use Rattle.cal_engine.proofs.Tallying.{room_by_name, room_by_nodes}
 
 -- ---- the groups so far
@@ -115,11 +116,13 @@ InRoom room q rs y = AreGroups room q rs y.groups
 pub tally_groups : (t room : Tree) (q : Query) (rs : List Rec) (y : Tally) → room_of q.group t y.own ≡ room → IsTally t q rs y → InRoom room q rs y
 tally_groups t room q rs y is h = subst (λ r. InRoom r q rs y) is (record { keys = h.keys; groups = h.groups })
 
-sieves_own : (t : Tree) {own new : Tree} → Grows own new → (names : List (List ℕ)) (sieves : List Sieve) → AreSieves t own names sieves
-    → AreSieves t new names sieves
-sieves_own t {own} {new} grows names sieves h = record {
-  choices = h.choices;
-  sift = All-weaker (Sifts t own) (Sifts t new) (λ s k. Sifts-Grows t grows s k) sieves h.sift;
+pub sieve_own : (t : Tree) {own new : Tree} → Grows own new → (names : List (List ℕ)) (s : Sieve) → IsSieve t own names s → IsSieve t new names s
+sieve_own t grows names s h = record {
+  takers = h.takers;
+  shares = λ n l. let old = h.shares n l in record {
+    within = old.within;
+    are = AreShares-Grows grows (length names) (λ place. taken_at true names place (path_at t n)) (shares_at s n) old.are;
+  };
 }
 
 -- a tally with these groups in grown trees
@@ -127,7 +130,7 @@ with_groups : (t u : Tree) → Grows t u → (q : Query) (rs more : List Rec) (y
     → AreGroups (room_of q.group u own) q more g → IsTally t q rs y → IsTally u q more (record y { own = own; groups = g })
 with_groups t u context q rs more y own grows g are h = record {
   counters = counters-Grows context _ y.counters h.counters;
-  sieves = sieves-Grows context own _ y.sieves.items (sieves_own t grows _ y.sieves.items h.sieves);
+  sieve = sieve-Grows context own _ y.sieve (sieve_own t grows _ y.sieve h.sieve);
   keys = are.keys;
   groups = are.groups;
   known = h.known;

@@ -1,5 +1,5 @@
 -- One more record in the groups by numbers.
-use Rattle.std.proofs.Common.{◌≡◌, ℕ, Bool, true, false, true≢false, List, [], ◌∷◌, ◌++◌, Option, None, Some, length, map, refl, sym, ◌∙◌, ap, subst, if◌then◌else◌}
+use Rattle.std.proofs.Common.{arith, ◌≡◌, ℕ, Bool, true, false, true≢false, List, [], ◌∷◌, ◌++◌, Option, None, Some, length, map, refl, sym, ◌∙◌, ap, subst, if◌then◌else◌}
 use Rattle.std.specs.Prelude.{is_some, not, ◌||◌, ◌==◌}
 use Rattle.std.proofs.lemmas.List.{map-append}
 use Rattle.std.specs.List.{All}
@@ -20,7 +20,7 @@ use Rattle.cal_engine.specs.Numbered.{AreGroups, GathersKey, Numbered, grouped_i
 use Rattle.cal_engine.specs.Parts.{Gathered, parts_over}
 use Rattle.cal_engine.specs.Readings.{parts_of, reading_of}
 use Rattle.cal_engine.specs.Rows.{is_aggregated, row_of, rows_of}
-use Rattle.cal_engine.specs.Sieves.{AreReadySieves, AreSieves}
+use Rattle.cal_engine.specs.Sieves.{IsReadySieve, IsSieve}
 use Rattle.cal_engine.specs.SnapshotRows.{AreRows}
 use Rattle.cal_engine.specs.Tallies.{AllKnowSoMany, Holds, HoldsIn, IsReadyTally, IsTally}
 use Rattle.cal_engine.specs.declared.key.GroupKey.{GroupKey}
@@ -31,17 +31,16 @@ use Rattle.cal_engine.proofs.Counting.{counters_counted, counters_covered, ready
 use Rattle.cal_engine.proofs.Folds.{parts_of_one}
 use Rattle.cal_engine.proofs.Gathering.{groups_over-Gathers}
 use Rattle.cal_engine.proofs.KeyLemmas.{gathered_within, gathers_in, room_context}
-use Rattle.cal_engine.proofs.Sifting.{ready_stays, sieves_counted, sieves_covered}
 
 pub tallied : (t : Tree) (q : Query) (rs : List Rec) (r : Rec) (old new : Tally) (parts : List Gathered) (key : GroupKey)
     → IsContext t → IsContext new.own → Grows old.own new.own → AreReadyCounters t (map reading_of q.aggs) new.counters
-    → AreSieves t new.own (names_in q.group) new.sieves.items → parts ≡ parts_of (map reading_of q.aggs) r
+    → IsSieve t new.own (names_in q.group) new.sieve → parts ≡ parts_of (map reading_of q.aggs) r
     → IsKeyOf (room_of q.group t new.own) (group_of q.group r) key
-    → GathersKey old.groups key parts new.groups → AllKnowSoMany new.known new.counters new.sieves.items
+    → GathersKey old.groups key parts new.groups → AllKnowSoMany new.known new.counters new.sieve
     → IsTally t q rs old → IsTally t q (rs ++ r ∷ []) new
-tallied t q rs r old new parts key context own_context grows counters sieves read found gathers known h = record {
+tallied t q rs r old new parts key context own_context grows counters sieve read found gathers known h = record {
   counters = ready_counters t (map reading_of q.aggs) new.counters counters;
-  sieves = sieves;
+  sieve = sieve;
   keys = gathered_within (room_of q.group t new.own) old.groups new.groups key parts before found.within gathers;
   groups = groups_over-Gathers q rs r (grouped_in (room_of q.group t new.own) old.groups) (grouped_in (room_of q.group t new.own) new.groups) was to_group;
   known = known;
@@ -74,26 +73,33 @@ pub tally_covered : (t : Tree) (q : Query) (rs : List Rec) (y : Tally) → Cover
 tally_covered t q rs y covers h = record {
   is = h;
   counters = counters_covered t y.known covers (map reading_of q.aggs) y.counters h.known.counters h.counters;
-  sieves = sieves_covered t y.own y.known covers (names_in q.group) y.sieves.items h.known.sieves h.sieves;
+  sieve = record {
+    is = h.sieve;
+    attributes = omega (arith, covers.attributes, h.known.sieve.attributes);
+    nodes = omega (arith, covers.nodes, h.known.sieve.nodes);
+  };
 }
 
 -- and one whose counters and sieves got to know it
 pub tally_caught_up : (t : Tree) (q : Query) (rs : List Rec) (old new : Tally) → Grows old.own new.own → new.groups ≡ old.groups
     → new.known.attributes ≡ length t.attributes → new.known.nodes ≡ length t.paths → AreReadyCounters t (map reading_of q.aggs) new.counters
-    → AreReadySieves t new.own (names_in q.group) new.sieves.items → IsTally t q rs old → IsReadyTally t q rs new
-tally_caught_up t q rs old new grows same attributes nodes counters sieves h = record {
+    → IsReadySieve t new.own (names_in q.group) new.sieve → IsTally t q rs old → IsReadyTally t q rs new
+tally_caught_up t q rs old new grows same attributes nodes counters sieve h = record {
   is = record {
     counters = ready_counters t (map reading_of q.aggs) new.counters counters;
-    sieves = ready_stays t (Grows-refl new.own) (names_in q.group) new.sieves.items sieves;
+    sieve = sieve.is;
     keys = subst (λ (g : Numbered). All (IsKeyIn (room_of q.group t new.own)) g.keys) (sym same) (keys-Grows rooms old.groups.keys h.keys);
     groups = ap (grouped_in (room_of q.group t new.own)) same ∙ grouped_in-Grows rooms old.groups h.keys ∙ h.groups;
     known = record {
       counters = counters_counted t new.known attributes nodes (map reading_of q.aggs) new.counters counters;
-      sieves = sieves_counted t new.own new.known attributes nodes (names_in q.group) new.sieves.items sieves;
+      sieve = record {
+        attributes = omega (arith, attributes, sieve.attributes);
+        nodes = omega (arith, nodes, sieve.nodes);
+      };
     };
   };
   counters = counters;
-  sieves = sieves;
+  sieve = sieve;
 }
   where
     rooms : Grows (room_of q.group t old.own) (room_of q.group t new.own)
@@ -121,12 +127,12 @@ pub room_by_nodes : (names : Option (List (List ℕ))) (t own : Tree) → is_som
 room_by_nodes None t own e = refl
 room_by_nodes (Some names) t own e = absurd (true≢false e)
 
-pub key_found_by_names : (t mid own : Tree) (names : Option (List (List ℕ))) (r : Rec) (sieves : List Sieve) (key : GroupKey) → is_some names ≡ true
-    → AreReadySieves t mid (names_in names) sieves
-    → ((ns : List (List ℕ)) → AreReadySieves t mid ns sieves → IsKeyOf own (group_of (Some ns) r) key)
+pub key_found_by_names : (t mid own : Tree) (names : Option (List (List ℕ))) (r : Rec) (sieve : Sieve) (key : GroupKey) → is_some names ≡ true
+    → IsReadySieve t mid (names_in names) sieve
+    → ((ns : List (List ℕ)) → IsReadySieve t mid ns sieve → IsKeyOf own (group_of (Some ns) r) key)
     → IsKeyOf (room_of names t own) (group_of names r) key
-key_found_by_names t mid own None r sieves key e ready finds = absurd (true≢false (sym e))
-key_found_by_names t mid own (Some names) r sieves key e ready finds = finds names ready
+key_found_by_names t mid own None r sieve key e ready finds = absurd (true≢false (sym e))
+key_found_by_names t mid own (Some names) r sieve key e ready finds = finds names ready
 
 -- what is held, in the tree of the keys
 either_false : (a b : Bool) → (a || b) ≡ false → a ≡ false

@@ -1,5 +1,5 @@
 -- What a fold over snapshots has taken stays while the context grows.
-use Rattle.std.specs.Prelude.{◌≡◌, ℕ, ◌<◌, false, List, Option, None, Some, length, map}
+use Rattle.std.specs.Prelude.{◌≡◌, ℕ, ◌<◌, true, List, Option, None, Some, length, map}
 use Rattle.std.specs.Prelude.{slice_index_or as get_or}
 use Rattle.std.specs.List.{All, filter_map}
 use Rattle.std.proofs.Common.{sym, ap, subst, ◌∙◌}
@@ -17,18 +17,18 @@ use Rattle.cal_ql.specs.declared.query.Query.{Query}
 use Rattle.cal_rowset.specs.NumberedRows.{IsWithin, NumberedRow, meant}
 use Rattle.cal_value.specs.Reading.{IsSmall}
 use Rattle.cal_value.specs.declared.record.Rec.{Rec}
-use Rattle.cal_engine.specs.Choices.{chooses_attribute}
 use Rattle.cal_engine.specs.Counters.{AreCounters}
 use Rattle.cal_engine.specs.Gates.{IsGate}
 use Rattle.cal_engine.specs.Keys.{IsKeyIn, key_in, room_of}
 use Rattle.cal_engine.specs.Looked.{looks_at}
 use Rattle.cal_engine.specs.Numbered.{Numbered, grouped_in}
 use Rattle.cal_engine.specs.Readings.{reading_of}
-use Rattle.cal_engine.specs.Sieves.{AreSieves, Sifts, choice_of, in_paths, part_at}
+use Rattle.cal_engine.specs.Shares.{AreShares}
+use Rattle.cal_engine.specs.Sieves.{IsSieve, shares_at}
 use Rattle.cal_engine.specs.SnapshotRows.{AreRows}
 use Rattle.cal_engine.specs.Standing.{HasFolded}
+use Rattle.cal_engine.specs.Takers.{IsTaker, taken_at, taker_at}
 use Rattle.cal_engine.specs.Tallies.{IsTally}
-use Rattle.cal_engine.specs.Totals.{Leads}
 use Rattle.cal_engine.specs.declared.counters.Counters.{Counters}
 use Rattle.cal_engine.specs.declared.gate.Gate.{Gate}
 use Rattle.cal_engine.specs.declared.key.GroupKey.{GroupKey}
@@ -79,27 +79,24 @@ counters-Grows {old} {new} grows rs cs h = record {
       cs.seekers.items h.knows;
 }
 
--- sieves
-pub sieves-Grows : {t u : Tree} → Grows t u → (own : Tree) (names : List (List ℕ))
-    (sieves : List Sieve) → AreSieves t own names sieves → AreSieves u own names sieves
-sieves-Grows {t} {u} grows own names sieves h = record {
-  choices = h.choices;
-  sift = All-weaker (Sifts t own) (Sifts u own) by sieves h.sift;
+-- a sieve
+pub sieve-Grows : {t u : Tree} → Grows t u → (own : Tree) (names : List (List ℕ)) (s : Sieve)
+    → IsSieve t own names s → IsSieve u own names s
+sieve-Grows {t} {u} grows own names s h = record {
+  takers = record {
+    places = h.takers.places;
+    known = λ a l. let old = h.takers.known a l in record {
+      within = within_attributes grows a.0 old.within;
+      is = subst (λ b. IsTaker names b (taker_at s.takers a))
+          (sym (attribute_at-Grows grows a old.within)) old.is;
+    };
+  };
+  shares = λ n l. let old = h.shares n l in record {
+    within = within_paths grows n.0 old.within;
+    are = subst (λ p. AreShares own (length names) (λ place. taken_at true names place p)
+        (shares_at s n)) (sym (path_at-Grows grows n old.within)) old.are;
+  };
 }
-  where
-    by : (s : Sieve) → Sifts t own s → Sifts u own s
-    by s k = record {
-      nodes = λ n l. let old = k.nodes n l in record {
-        within = within_paths grows n.0 old.within;
-        leads = subst (λ p. Leads own (in_paths s p) (part_at s n))
-            (sym (path_at-Grows grows n old.within)) old.leads;
-      };
-      attributes = λ a l. let old = k.attributes a l in record {
-        within = within_attributes grows a.0 old.within;
-        is = old.is ∙ ap (chooses_attribute false (choice_of s))
-            (sym (attribute_at-Grows grows a old.within));
-      };
-    }
 
 pub gate-Grows : {old new : Tree} → Grows old new → (q : Query) (g : Gate) → IsGate old q g
     → IsGate new q g
@@ -127,7 +124,7 @@ tally-Grows {t} {u} grows q rs y h =
     room_grows q.group grows (Grows-refl y.own) in
     record {
       counters = counters-Grows grows (map reading_of q.aggs) y.counters h.counters;
-      sieves = sieves-Grows grows y.own _ y.sieves.items h.sieves;
+      sieve = sieve-Grows grows y.own _ y.sieve h.sieve;
       keys = keys-Grows rooms y.groups.keys h.keys;
       groups = grouped_in-Grows rooms y.groups h.keys ∙ h.groups;
       known = h.known;

@@ -15,7 +15,9 @@ pub mod Visiting
 pub mod Trails
 pub mod Totals
 pub mod Finishing
-pub mod Choices
+pub mod Takers
+pub mod Shares
+pub mod TakenImms
 pub mod Sieves
 pub mod Keys
 pub mod Numbered

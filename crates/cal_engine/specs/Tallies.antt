@@ -13,30 +13,30 @@ use Rattle.cal_engine.specs.Keys.{IsKeyIn, names_in, room_of}
 use Rattle.cal_engine.specs.Numbered.{AreGroups, Numbered, grouped_in}
 use Rattle.cal_engine.specs.Readings.{reading_of}
 use Rattle.cal_engine.specs.Rows.{is_aggregated}
-use Rattle.cal_engine.specs.Sieves.{AreReadySieves, AreSieves, SiftsSoMany}
+use Rattle.cal_engine.specs.Sieves.{IsReadySieve, IsSieve, SiftsSoMany}
 use Rattle.cal_engine.specs.SnapshotRows.{AreRows}
 use Rattle.cal_engine.specs.declared.counters.Counters.{Counters}
 use Rattle.cal_engine.specs.declared.sieve.Sieve.{Sieve}
 use Rattle.cal_engine.specs.declared.tally.Tally.{Tally}
 
--- all that counters seek by, and all sieves, know at least so many attributes and nodes
-pub record AllKnowSoMany (n : Counts) (cs : Counters) (ss : List Sieve) : Type 0 where
+-- all that counters seek by, and the sieve, know at least so many attributes and nodes
+pub record AllKnowSoMany (n : Counts) (cs : Counters) (s : Sieve) : Type 0 where
   pub counters : All (KnowsSoMany n) cs.seekers.items
-  pub sieves : All (SiftsSoMany n) ss
+  pub sieve : SiftsSoMany n s
 
 -- The groups by numbers are those of these records, and what is kept beside numbers is right.
 pub record IsTally (t : Tree) (q : Query) (rs : List Rec) (y : Tally) : Type 0 where
   pub counters : AreCounters t (map reading_of q.aggs) y.counters
-  pub sieves : AreSieves t y.own (names_in q.group) y.sieves.items
+  pub sieve : IsSieve t y.own (names_in q.group) y.sieve
   pub keys : All (IsKeyIn (room_of q.group t y.own)) y.groups.keys
   pub groups : grouped_in (room_of q.group t y.own) y.groups ≡ groups_over q rs
-  pub known : AllKnowSoMany y.known y.counters y.sieves.items
+  pub known : AllKnowSoMany y.known y.counters y.sieve
 
--- and its counters and sieves know the whole context
+-- and its counters and the sieve know the whole context
 pub record IsReadyTally (t : Tree) (q : Query) (rs : List Rec) (y : Tally) : Type 0 where
   pub is : IsTally t q rs y
   pub counters : AreReadyCounters t (map reading_of q.aggs) y.counters
-  pub sieves : AreReadySieves t y.own (names_in q.group) y.sieves.items
+  pub sieve : IsReadySieve t y.own (names_in q.group) y.sieve
 
 -- A query's rows or groups are those of the kept records.
 pub record Holds (t : Tree) (q : Query) (ks : List Rec) (y : Tally) (made : List NumberedRow)

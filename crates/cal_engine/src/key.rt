@@ -3,11 +3,12 @@ ghost use Rattle.cal_context.specs.Snapshots.{IsIn, meaning};
 ghost use Rattle.cal_context.specs.Tree.{Grows, path_at};
 ghost use Rattle.cal_engine.specs.Groups.{group_of as group_by};
 ghost use Rattle.cal_engine.specs.Keys.{IsKeyOf, key_in, nth_key, single_key};
-ghost use Rattle.cal_engine.specs.Sieves.{AreReadySieves};
+ghost use Rattle.cal_engine.specs.Sieves.{IsReadySieve};
 
+use crate::key_imms::key_imms;
+use crate::key_paths::key_paths;
 use crate::key_table::KeyTable;
 use crate::sieve::Sieve;
-use crate::sieves::{key_imms, key_paths};
 use crate::stepping::path_of;
 use cal_context::{Context, NodeNumber, Snapshot};
 use cal_value::{Entry, Exact, OutOfMemory, Rec, Seq, TryCopy};
@@ -132,7 +133,7 @@ pub(crate) fn key_by_nodes(
 pub(crate) fn key_by_names(
     alloc: Global,
     context: &Context,
-    sieves: &[Sieve],
+    sieve: &Sieve,
     own: &mut Context,
     snapshot: &Snapshot,
     near: NodeNumber,
@@ -140,12 +141,12 @@ pub(crate) fn key_by_names(
 ) -> Result<GroupKey, OutOfMemory>
     requires { IsIn context.now snapshot.now }
     ensures key { IfOk result (λ key. (names : List (List ℕ))
-        → AreReadySieves context.now own.old names sieves.now
+        → IsReadySieve context.now own.old names sieve.now
         → IsKeyOf own.new (group_by (Some names) (meaning context.now snapshot.now)) key) }
     ensures grows { OnOk result (Grows own.old own.new) }
 {
-    let paths = key_paths(alloc, sieves, own, &snapshot.nodes, room)?;
-    let imms = key_imms(context, sieves, own, &snapshot.imms, near)?;
+    let paths = key_paths(alloc, sieve, own, &snapshot.nodes, room)?;
+    let imms = key_imms(alloc, context, sieve, own, &snapshot.imms, near)?;
     Ok(GroupKey {
         paths: Seq::from_vec(paths),
         imms,

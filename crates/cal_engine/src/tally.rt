@@ -6,7 +6,7 @@ ghost use Rattle.cal_ql.specs.declared.query.Query.{Query as AQuery};
 ghost use Rattle.cal_value.specs.declared.record.Rec.{Rec as ARecord};
 ghost use Rattle.cal_engine.specs.Groups.{group_of};
 ghost use Rattle.cal_engine.specs.Keys.{IsKeyOf, names_in, room_of};
-ghost use Rattle.cal_engine.specs.Sieves.{AreReadySieves};
+ghost use Rattle.cal_engine.specs.Sieves.{IsReadySieve};
 ghost use Rattle.cal_engine.specs.Tallies.{IsReadyTally, IsTally};
 
 use crate::counters::Counters;
@@ -15,7 +15,6 @@ use crate::key::{GroupKey, key_by_names, key_by_nodes};
 use crate::numbered::NumberedGroups;
 use crate::reading::readings_of;
 use crate::sieve::Sieve;
-use crate::sieves::{know_nodes, sieves_for};
 use cal_context::{Context, NodeNumber, Snapshot};
 use cal_filter::Counts;
 use cal_ql::Query;
@@ -28,10 +27,10 @@ use std::mem;
 #[derive(Drop)]
 pub(crate) struct Tally {
     counters: Counters,
-    sieves: Vec<Sieve>,
+    sieve: Sieve,
     // the tree of groups, in which the paths lie that the names of GROUP BY take
     own: Context,
-    // so much of the context of records all counters and sieves know
+    // so much of the context of records the counters and the sieve know
     known: Counts,
     groups: NumberedGroups,
     // room to work in
@@ -45,10 +44,10 @@ impl Tally {
     {
         let readings = readings_of(alloc, query.aggs.as_slice())?;
         let counters = Counters::of(alloc, seeds, &readings)?;
-        let sieves = sieves_for(alloc, &query.group)?;
+        let sieve = Sieve::of(alloc, seeds, &query.group)?;
         Ok(Tally {
             counters,
-            sieves,
+            sieve,
             own: Context::seeded(alloc, seeds),
             known: Counts::NONE,
             groups: NumberedGroups::new(alloc, seeds),
@@ -76,7 +75,7 @@ impl Tally {
             by_name,
             context,
             snapshot,
-            &self.sieves,
+            &self.sieve,
             &mut self.own,
             self.groups.near(),
             mem::replace(&mut self.nodes, Vec::new(alloc)),
@@ -88,7 +87,7 @@ impl Tally {
         Ok(())
     }
 
-    /// Lets all counters and sieves know what is new in a context.
+    /// Lets the counters and the sieve know what is new in a context.
     fn catch_up(&mut self, context: &Context) -> Result<(), OutOfMemory>
         ensures { OnOk result ((q : AQuery) (rs : List ARecord)
             → IsTally context.now q rs self.old → IsReadyTally context.now q rs self.new) }
@@ -97,7 +96,7 @@ impl Tally {
             return Ok(());
         }
         self.counters.catch_up(context)?;
-        know_nodes(&mut self.sieves, context, &mut self.own)?;
+        self.sieve.catch_up(context, &mut self.own)?;
         self.known = Counts::of(context);
         Ok(())
     }
@@ -155,14 +154,14 @@ fn key_of(
     by_name: bool,
     context: &Context,
     snapshot: &Snapshot,
-    sieves: &[Sieve],
+    sieve: &Sieve,
     own: &mut Context,
     near: NodeNumber,
     room: Vec<NodeNumber>,
 ) -> Result<GroupKey, OutOfMemory>
     requires { IsIn context.now snapshot.now }
     ensures key { IfOk result (λ key. (q : AQuery) → by_name ≡ is_some q.group
-        → AreReadySieves context.now own.old (names_in q.group) sieves.now
+        → IsReadySieve context.now own.old (names_in q.group) sieve.now
         → IsKeyOf (room_of q.group context.now own.new)
         (group_of q.group (meaning context.now snapshot.now)) key) }
     ensures grows { OnOk result (Grows own.old own.new) }
@@ -170,6 +169,6 @@ fn key_of(
     if !by_name {
         return key_by_nodes(context, snapshot, room);
     }
-    let key = key_by_names(alloc, context, sieves, own, snapshot, near, room)?;
+    let key = key_by_names(alloc, context, sieve, own, snapshot, near, room)?;
     Ok(key)
 }

@@ -1,20 +1,15 @@
-use Rattle.std.proofs.lemmas.List.Elements.{All-weaker}
 use Rattle.cal_context.proofs.CallerLemmas.{Grows-trans}
-use Rattle.cal_engine.specs.Sieves.{ChoosesAll, SiftsAll}
 use Rattle.cal_engine.proofs.KeyLemmas.{key_of_snapshot}
-use Rattle.cal_engine.proofs.Sifting.{chooses_all}
 use Rattle.cal_engine.proofs.key.key_by_names.Goals as goal
 
 pub returns-clause-key : goal.returns-clause-key
 returns-clause-key c = λ names h.
-    key_of_snapshot c.args.context.now c.key_paths.new.own c.key_imms.new.own c.args.snapshot.now names c.args.sieves.now
+    key_of_snapshot c.args.context.now c.key_paths.new.own c.key_imms.new.own c.args.snapshot.now names
     c.deref.result.now c.deref-2.result.now c.in_ok-paths.paths.items
     (record { paths = c.from_vec.result; imms = c.in_ok-imms.imms })
-    c.deref.ensures.value c.deref-2.ensures.value c.in_ok-imms.ensures.grows h.choices
-    (c.in_ok-paths.ensures.paths c.args.context.now h.sift (rw c.deref.ensures.value c.requires.nodes))
-    (c.in_ok-imms.ensures.leads
-    (All-weaker (SiftsAll c.args.context.now c.args.own.now) (ChoosesAll c.args.context.now)
-    (chooses_all c.args.context.now c.args.own.now) c.args.sieves.now h.sift))
+    c.deref.ensures.value c.deref-2.ensures.value c.in_ok-imms.ensures.grows
+    (c.in_ok-paths.ensures.paths c.args.context.now names h (rw c.deref.ensures.value c.requires.nodes))
+    (c.in_ok-imms.ensures.leads c.args.own.now names h)
     c.from_vec.ensures
 
 pub returns-clause-grows : goal.returns-clause-grows

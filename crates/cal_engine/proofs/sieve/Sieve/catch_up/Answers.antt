@@ -1,18 +1,13 @@
-use Rattle.std.proofs.Common.{◌≡◌, ◌∙◌}
-use Rattle.cal_filter.proofs.ReadyLemmas.{on_ok}
-use Rattle.cal_engine.specs.Sieves.{Sifts, SiftsAll, SiftsAttributes, choice_of}
+use Rattle.std.proofs.Common.{subst, sym}
+use Rattle.cal_engine.specs.Sieves.{IsReadySieve, KnowsAttributes}
 use Rattle.cal_engine.proofs.sieve.Sieve.catch_up.Goals as goal
 
-pub returns-clause-sifts : goal.returns-clause-sifts
-returns-clause-sifts c =
+pub returns-then-is_none-clause-ready : goal.returns-then-is_none-clause-ready
+returns-then-is_none-clause-ready c = λ names h.
     let t = c.args.context.now in
-    let own = c.args.own.now in
-    on_ok (SiftsAttributes t own c.know_attributes.new.self → SiftsAll t c.know_nodes.new.own c.know_nodes.new.self)
-    (Sifts t own c.args.self.now → SiftsAll t c.know_nodes.new.own c.know_nodes.new.self) c.know_nodes.result
-    (λ knows h. knows (c.in_ok-know_attributes.ensures.sifts own h)) c.know_nodes.ensures.sifts
-
-pub returns-clause-same : goal.returns-clause-same
-returns-clause-same c =
-    on_ok (choice_of c.know_nodes.new.self ≡ choice_of c.know_attributes.new.self)
-    (choice_of c.know_nodes.new.self ≡ choice_of c.args.self.now) c.know_nodes.result
-    (λ same. same ∙ c.in_ok-know_attributes.ensures.same) c.know_nodes.ensures.same
+    let known = c.in_ok-catch_up.ensures names h.takers in
+    let none = c.is_none.ensures names t c.if-is_none.true known.are in
+    subst (λ ns. IsReadySieve t c.args.own.now ns c.know_nothing.new.self) (sym none)
+    (c.know_nothing.ensures
+    (subst (λ ns. KnowsAttributes t c.args.own.now ns (record { takers = c.catch_up.new.self; shares = c.args.self.now.shares })) none
+    (record { is = record { takers = known.are; shares = h.shares }; attributes = known.all })))
