@@ -43,7 +43,7 @@ turned_total o = record {
 directed_is : {K : Type 0} {R : K → K → Ordering} → IsTotalOrder R → (x y : K) → directed true (R x y) ≡ R y x
 directed_is {K} {R} o x y = ap ordering_reverse (o.antisymm x y) ∙ reverse_twice (R y x)
 
-directed_total : {K : Type 0} {R : K → K → Ordering} → IsTotalOrder R → (down : Bool) → IsTotalOrder (λ x y. directed down (R x y))
+pub directed_total : {K : Type 0} {R : K → K → Ordering} → IsTotalOrder R → (down : Bool) → IsTotalOrder (λ x y. directed down (R x y))
 directed_total o false = o
 directed_total {K} {R} o true =
     let turned = turned_total o in
@@ -53,7 +53,7 @@ directed_total {K} {R} o true =
       congr = λ x y z e. directed_is o x z ∙ turned.congr x y z (sym (directed_is o x y) ∙ e) ∙ sym (directed_is o y z);
     }
 
-equal_total : {K : Type 0} → IsTotalOrder {K = K} (λ x y. Equal)
+pub equal_total : {K : Type 0} → IsTotalOrder {K = K} (λ x y. Equal)
 equal_total = record {
   antisymm = λ x y. refl;
   trans = λ x y z a b. a;

@@ -1,12 +1,14 @@
 -- There is one list that has the items of another in order, where those that tie stay in theirs.
-use Rattle.std.proofs.Common.{◌≡◌, suc, ◌+◌, Bool, true, false, List, [], ◌∷◌, filter, refl, sym, ap, subst, ◌∙◌, arith, true≢false}
+use Rattle.std.proofs.Common.{◌≡◌, suc, ◌+◌, Bool, true, false, ◌&&◌, not, List, [], ◌∷◌, filter, refl, sym, ap, subst, ◌∙◌, arith, true≢false}
 use Rattle.std.specs.declared.cmp.Ordering.{Ordering}
-use Rattle.std.specs.Cmp.{IsStrictWeakOrder}
+use Rattle.std.specs.declared.cmp.Ordering.TheVariants.{Less, Equal, Greater}
+use Rattle.std.specs.Cmp.{IsStrictWeakOrder, IsTotalOrder}
 use Rattle.std.specs.List.{AllByRecursion}
 use Rattle.std.specs.List.Sorted.{IsSortedBy, IsStableBy, ties}
-use Rattle.std.specs.Ordering.{is_lt}
+use Rattle.std.specs.Ordering.{is_lt, ordering_reverse, ordering_then}
+use Rattle.std.proofs.lemmas.Cmp.{then_total}
 use Rattle.std.proofs.lemmas.List.Elements.{recursion_from_All}
-use Rattle.std.proofs.lemmas.List.Sorted.{sorted_far}
+use Rattle.std.proofs.lemmas.List.Sorted.{ranks_by, sorted_far}
 use Rattle.cal_engine.specs.Sorting.{put_in, sorted}
 
 module _ {A : Type 0} (lt : A → A → Bool) (weak : IsStrictWeakOrder lt) where
@@ -161,3 +163,106 @@ module _ {A : Type 0} (cmp : A → A → Ordering) (weak : IsStrictWeakOrder (λ
   sorted-unique xs ys up stable =
       same_rising (λ x y. is_lt (cmp x y)) weak ys (sorted cmp xs) (rises (λ x y. is_lt (cmp x y)) weak ys up) (sorted-rises xs)
       (λ w. stable w ∙ sym (sorted-ties w xs))
+
+-- ---- sorted by one order and then, stably, by another one that counts first
+
+-- where the first order doesn't tell, the second one does: in either sense
+then_ties : (a b : Ordering)
+    → (not (is_lt (ordering_then a b)) && not (is_lt (ordering_then (ordering_reverse a) (ordering_reverse b))))
+    ≡ ((not (is_lt a) && not (is_lt (ordering_reverse a))) && (not (is_lt b) && not (is_lt (ordering_reverse b))))
+then_ties Less b = refl
+then_ties Equal b = refl
+then_ties Greater b = refl
+
+-- what isn't below by the second order isn't so by both where the first one ties or says above
+then_not_below : (a b : Ordering) → is_lt a ≡ false → is_lt b ≡ false → is_lt (ordering_then a b) ≡ false
+then_not_below Less b e f = absurd (true≢false e)
+then_not_below Equal b e f = f
+then_not_below Greater b e f = refl
+
+then_above : (a b : Ordering) → is_lt (ordering_reverse a) ≡ true → is_lt (ordering_then a b) ≡ false
+then_above Less b e = absurd (true≢false (sym e))
+then_above Equal b e = absurd (true≢false (sym e))
+then_above Greater b e = refl
+
+filter_both : {A : Type 0} (p q : A → Bool) (xs : List A) → filter (λ x. p x && q x) xs ≡ filter p (filter q xs)
+filter_both p q [] = refl
+filter_both p q (x ∷ xs) = by (p x) (q x) refl refl (filter_both p q xs)
+  where
+    by : (a b : Bool) → p x ≡ a → q x ≡ b → filter (λ y. p y && q y) xs ≡ filter p (filter q xs)
+        → filter (λ y. p y && q y) (x ∷ xs) ≡ filter p (filter q (x ∷ xs))
+    by true true ea eb rest = grind (arith, ea, eb, rest)
+    by true false ea eb rest = grind (arith, ea, eb, rest)
+    by false true ea eb rest = grind (arith, ea, eb, rest)
+    by false false ea eb rest = grind (arith, ea, eb, rest)
+
+filter_turned : {A : Type 0} (p q : A → Bool) (xs : List A) → filter p (filter q xs) ≡ filter q (filter p xs)
+filter_turned p q xs = sym (filter_both p q xs) ∙ ap (λ t. filter t xs) (λ i x. both_turned (p x) (q x) i) ∙ filter_both q p xs
+  where
+    both_turned : (a b : Bool) → (a && b) ≡ (b && a)
+    both_turned true true = refl
+    both_turned true false = refl
+    both_turned false true = refl
+    both_turned false false = refl
+
+module _ {A : Type 0} {R S : A → A → Ordering} (r : IsTotalOrder R) (s : IsTotalOrder S) where
+  -- by the first, and where that ties by the second
+  abbrev both : A → A → Ordering
+  both x y = ordering_then (R x y) (S x y)
+
+  weak_first : IsStrictWeakOrder (λ x y. is_lt (R x y))
+  weak_first = ranks_by r (λ x. x)
+
+  weak_second : IsStrictWeakOrder (λ x y. is_lt (S x y))
+  weak_second = ranks_by s (λ x. x)
+
+  weak_both : IsStrictWeakOrder (λ x y. is_lt (both x y))
+  weak_both = ranks_by (then_total r s) (λ x. x)
+
+  ties_both : (w x : A) → ties (λ x y. is_lt (both x y)) w x ≡ (ties (λ x y. is_lt (R x y)) w x && ties (λ x y. is_lt (S x y)) w x)
+  ties_both w x =
+      (λ i. not (is_lt (both w x)) && not (is_lt (ordering_then (r.antisymm x w i) (s.antisymm x w i))))
+      ∙ then_ties (R w x) (S w x)
+      ∙ sym (λ i. (not (is_lt (R w x)) && not (is_lt (r.antisymm x w i))) && (not (is_lt (S w x)) && not (is_lt (s.antisymm x w i))))
+
+  -- all stay when they are sorted
+  sorted-all : (P : A → Type 0) (xs : List A) → AllByRecursion P xs → AllByRecursion P (sorted R xs)
+  sorted-all P [] all = tt
+  sorted-all P (x ∷ xs) all = Rises-put_in R weak_first P x (sorted R xs) all.0 (sorted-all P xs all.1)
+
+  put_in-both : (x : A) (ys : List A) → AllByRecursion (λ y. is_lt (S y x) ≡ false) ys → Rises (λ x y. is_lt (both x y)) weak_both ys
+      → Rises (λ x y. is_lt (both x y)) weak_both (put_in R x ys)
+  put_in-both x [] later up = (tt, tt)
+  put_in-both x (y ∷ ys) later up = by (is_lt (R y x)) refl (put_in-both x ys later.1 up.1)
+    where
+      by : (b : Bool) → is_lt (R y x) ≡ b → Rises (λ x y. is_lt (both x y)) weak_both (put_in R x ys)
+          → Rises (λ x y. is_lt (both x y)) weak_both (put_in R x (y ∷ ys))
+      by true e rest =
+          let above : is_lt (both x y) ≡ false = then_above (R x y) (S x y) (sym (ap is_lt (r.antisymm y x)) ∙ e) in
+          rw e (Rises-put_in R weak_first (λ z. is_lt (both z y) ≡ false) x ys above up.0, rest)
+      by false e rest =
+          let level : is_lt (both y x) ≡ false = then_not_below (R y x) (S y x) e later.0 in
+          rw e ((level, not_below_all both weak_both x y ys level up.0), (up.0, up.1))
+
+  sorted-both : (zs : List A) → Rises (λ x y. is_lt (S x y)) weak_second zs → Rises (λ x y. is_lt (both x y)) weak_both (sorted R zs)
+  sorted-both [] up = tt
+  sorted-both (z ∷ zs) up = put_in-both z (sorted R zs) (sorted-all (λ y. is_lt (S y z) ≡ false) zs up.0) (sorted-both zs up.1)
+
+  same_ties : (w : A) (xs : List A) → filter (ties (λ x y. is_lt (both x y)) w) (sorted R (sorted S xs))
+      ≡ filter (ties (λ x y. is_lt (both x y)) w) xs
+  same_ties w xs =
+      let p = ties (λ x y. is_lt (R x y)) w in
+      let q = ties (λ x y. is_lt (S x y)) w in
+      let apart = λ (ys : List A). ap (λ t. filter t ys) (λ i x. ties_both w x i) ∙ filter_both p q ys in
+      apart (sorted R (sorted S xs))
+      ∙ filter_turned p q (sorted R (sorted S xs))
+      ∙ ap (filter q) (sorted-ties R weak_first w (sorted S xs))
+      ∙ filter_turned q p (sorted S xs)
+      ∙ ap (filter p) (sorted-ties S weak_second w xs)
+      ∙ sym (apart xs)
+
+  pub sorted_twice : (xs : List A) → sorted R (sorted S xs) ≡ sorted both xs
+  sorted_twice xs =
+      same_rising (λ x y. is_lt (both x y)) weak_both (sorted R (sorted S xs)) (sorted both xs)
+      (sorted-both (sorted S xs) (sorted-rises S weak_second xs)) (sorted-rises both weak_both xs)
+      (λ w. same_ties w xs ∙ sym (sorted-ties both weak_both w xs))

@@ -1,4 +1,4 @@
-ghost use Rattle.std.specs.Prelude.{◌≡◌, ◌∷◌, map, IfOk};
+ghost use Rattle.std.specs.Prelude.{◌≡◌, map, IfOk};
 ghost use Rattle.std.specs.List.{All};
 ghost use Rattle.std.specs.Option.{option_copied};
 ghost use Rattle.cal_filter.specs.Known.{KnowsAll, sought};
@@ -27,8 +27,13 @@ pub(crate) struct RankedPlace<'a> {
     place: usize,
 }
 
-/// The places of rows by number, sorted stably. It takes memory for their places and for the nodes
-/// of the context, and n log n comparisons of their values; no value is copied.
+/// So many keys of an order have their values looked for at once, each of which takes a table of
+/// the nodes of the context.
+const KEYS_AT_ONCE: usize = 4;
+
+/// The places of rows by number, sorted stably. However many keys there are, it takes memory for
+/// the places of the rows and the nodes of the context a few times over: the rows are sorted by the
+/// last few keys first, and then stably by those before. No value is copied.
 pub(crate) fn sorted_places(
     alloc: Global,
     order: &Seq<OrderKey>,
@@ -39,37 +44,39 @@ pub(crate) fn sorted_places(
     ensures { IfOk result (λ places. map (meant context.now) (in_order rows.now places.items)
         ≡ sorted_rows order.now (map (meant context.now) rows.now)) }
 {
-    let order = order.as_slice();
-    let seekers = seekers_of(alloc, order, context)?;
-    let Some((first, others)) = seekers.split_first() else {
-        let places = all_places(alloc, rows)?;
-        return Ok(places);
-    };
-    let places = sorted_by(alloc, order, first, others, context, rows)?;
+    let keys = order.as_slice();
+    let mut places = all_places(alloc, rows)?;
+    let mut left = keys.len();
+    while left > 0 {
+        let from = left.saturating_sub(KEYS_AT_ONCE);
+        let (before, _) = keys.split_at(left);
+        let (_, last) = before.split_at(from);
+        places = sorted_by(alloc, last, context, rows, places)?;
+        left = from;
+    }
     Ok(places)
 }
 
-/// The places of rows, sorted by the values that the seekers of the keys find.
+/// Places of rows, sorted stably by some keys.
 fn sorted_by(
     alloc: Global,
     order: &[OrderKey],
-    first: &Seeker,
-    others: &[Seeker],
     context: &Context,
     rows: &SnapshotList,
+    places: Vec<usize>,
 ) -> Result<Vec<usize>, OutOfMemory>
-    requires sought { map sought (first.now ∷ others.now)
-        ≡ map (λ key. any_of key.name) order.now }
-    requires first { KnowsAll context.now first.now }
-    requires others { All (KnowsAll context.now) others.now }
-    requires rows { All (IsWithin context.now) rows.now }
-    ensures { IfOk result (λ places. map (meant context.now) (in_order rows.now places.items)
-        ≡ sorted_rows order.now (map (meant context.now) rows.now)) }
+    requires { All (IsWithin context.now) rows.now }
+    ensures { IfOk result (λ sorted. map (meant context.now) (in_order rows.now sorted.items)
+        ≡ sorted_rows order.now (map (meant context.now) (in_order rows.now places.items))) }
 {
-    let mut ranked = ranked_places(alloc, first, others, context, rows)?;
+    let seekers = seekers_of(alloc, order, context)?;
+    let Some((first, others)) = seekers.split_first() else {
+        return Ok(places);
+    };
+    let mut ranked = ranked_places(alloc, first, others, context, rows, &places)?;
     ranked.sort_by(|one, other| compare_ranked(order, one, other))?;
-    let places = places_of(alloc, &ranked)?;
-    Ok(places)
+    let sorted = places_of(alloc, &ranked)?;
+    Ok(sorted)
 }
 
 /// The places of all rows, as they lie.
@@ -102,26 +109,27 @@ fn seekers_of(
     Ok(seekers)
 }
 
-/// The places of all rows beside their values.
+/// Places of rows beside the values of these.
 fn ranked_places<'a>(
     alloc: Global,
     first: &Seeker,
     others: &[Seeker],
     context: &'a Context,
     rows: &'a SnapshotList,
+    places: &[usize],
 ) -> Result<Vec<RankedPlace<'a>>, OutOfMemory>
     requires first { KnowsAll context.now first.now }
     requires others { All (KnowsAll context.now) others.now }
     requires rows { All (IsWithin context.now) rows.now }
     ensures { IfOk result (λ ranked. AreRanked context.now first.now others.now rows.now
-        rows.now ranked.items) }
+        (in_order rows.now places.now) ranked.items) }
 {
-    let mut ranked = Vec::with_capacity(alloc, rows.len())?;
-    for place in 0..rows.len() {
+    let mut ranked = Vec::with_capacity(alloc, places.len())?;
+    for place in places {
         ranked.push(RankedPlace {
-            first: value_at(first, context, rows, place),
-            others: values_at(alloc, others, context, rows, place)?,
-            place,
+            first: value_at(first, context, rows, *place),
+            others: values_at(alloc, others, context, rows, *place)?,
+            place: *place,
         })?;
     }
     Ok(ranked)
