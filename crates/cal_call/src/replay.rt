@@ -16,6 +16,7 @@ use crate::threads::run_in_threads;
 use crate::{Fault, RunText};
 use cal_base::{Clock, Gate, Sink, Source};
 use cal_run::Prober;
+use cal_seeds::Seeds;
 use cal_value::OutOfMemory;
 use std::alloc::Global;
 use std::hash::RandomState;
@@ -88,7 +89,7 @@ fn made_run<R: Threads + Sync, P: Prober + Sync, K: Clock + Send + Drop, G: Gate
         clocks.old.items clocks.new.items) }
     ensures unwritten { IfErr result (λ fault. writes (Some fault) ≡ false) }
 {
-    let script = read_input(alloc, shown, real, input)?;
+    let script = read_input(alloc, Seeds::of(&hashers), shown, real, input)?;
     match run_in_threads(
         rt, alloc, hashers, &script, shown, real, clocks, gate, probes,
     ) {

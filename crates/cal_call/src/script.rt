@@ -10,12 +10,15 @@ ghost use Rattle.cal_call.specs.Tasks.{ThreadsTask};
 use crate::serial::give_back;
 use crate::{Fault, INPUT_LIMIT, InputKind, RunText};
 use cal_base::{ReadEnd, Source, read_all};
-use cal_script::{Script, ScriptEnd, read_script};
+use cal_script::{Script, ScriptEnd, read_script_seeded};
+use cal_seeds::Seeds;
 use std::alloc::Global;
 
-/// Reads the script that the input has left, and the end behind it, for a run in threads.
+/// Reads the script that the input has left, and the end behind it, for a run in threads. Its names
+/// are hashed by the seeds.
 pub fn read_input<S: Source>(
     alloc: Global,
+    seeds: Seeds,
     shown: RunText,
     real: bool,
     input: &mut S,
@@ -30,7 +33,7 @@ pub fn read_input<S: Source>(
 {
     match read_all(alloc, input, INPUT_LIMIT) {
         Ok(bytes) => {
-            let read = script_of(alloc, shown, real, bytes.as_slice());
+            let read = script_of(alloc, seeds, shown, real, bytes.as_slice());
             give_back(bytes);
             read
         }
@@ -41,7 +44,13 @@ pub fn read_input<S: Source>(
 }
 
 /// The script that bytes mean, or their first fault.
-fn script_of(alloc: Global, shown: RunText, real: bool, bytes: &[u8]) -> Result<Script, Fault>
+fn script_of(
+    alloc: Global,
+    seeds: Seeds,
+    shown: RunText,
+    real: bool,
+    bytes: &[u8],
+) -> Result<Script, Fault>
     ensures read { IfOk result (Means bytes.now) }
 
     // The cause of an input that was read as these bytes.
@@ -51,7 +60,7 @@ fn script_of(alloc: Global, shown: RunText, real: bool, bytes: &[u8]) -> Result<
     ensures unwritten { IfErr result (λ fault. writes (Some fault) ≡ false) }
 {
     let _ = (shown, real);
-    match read_script(alloc, bytes) {
+    match read_script_seeded(alloc, seeds, bytes) {
         Ok(script) => Ok(script),
         Err(ScriptEnd::BadLine { line, kind }) => Err(Fault::BadInput {
             line,

@@ -14,7 +14,7 @@ use crate::made::{Made, write_made};
 use crate::outcome::Ended;
 use crate::{Fault, INPUT_LIMIT, InputKind};
 use cal_base::{ReadEnd, Sink, Source, read_all};
-use cal_journal::{BothEnd, read_both};
+use cal_journal::{BothEnd, read_both_seeded};
 use cal_script::{JournalText, Script};
 use cal_seeds::Seeds;
 use cal_valid::valid_script_law;
@@ -54,7 +54,7 @@ fn made_run<S: Source>(alloc: Global, seeds: Seeds, input: &mut S) -> Result<Mad
     ensures caused { IfErr result (λ fault. (output : Change) → Causes SerialTask
         (change_of S.left S.faults input.old input.new) output no_journal fault) }
 {
-    let (script, behind) = read_input(alloc, input)?;
+    let (script, behind) = read_input(alloc, seeds, input)?;
     let made = make_run(alloc, seeds, script, behind)?;
     Ok(made)
 }
@@ -62,6 +62,7 @@ fn made_run<S: Source>(alloc: Global, seeds: Seeds, input: &mut S) -> Result<Mad
 /// Reads the script and the journal behind it that the input has left, and the end behind them.
 fn read_input<S: Source>(
     alloc: Global,
+    seeds: Seeds,
     input: &mut S,
 ) -> Result<(Script, Option<JournalText>), Fault>
     ensures read { IfOk result (λ both. ReadsInput
@@ -74,7 +75,7 @@ fn read_input<S: Source>(
 {
     match read_all(alloc, input, INPUT_LIMIT) {
         Ok(bytes) => {
-            let read = read_bytes(alloc, bytes.as_slice());
+            let read = read_bytes(alloc, seeds, bytes.as_slice());
             give_back(bytes);
             read
         }
@@ -85,7 +86,11 @@ fn read_input<S: Source>(
 }
 
 /// The script and the journal that bytes mean, or their first fault.
-fn read_bytes(alloc: Global, bytes: &[u8]) -> Result<(Script, Option<JournalText>), Fault>
+fn read_bytes(
+    alloc: Global,
+    seeds: Seeds,
+    bytes: &[u8],
+) -> Result<(Script, Option<JournalText>), Fault>
     ensures read { IfOk result (λ both. MeansBoth bytes.now both) }
     ensures runnable { IfOk result (λ both. IsRunnable both.0) }
 
@@ -95,7 +100,7 @@ fn read_bytes(alloc: Global, bytes: &[u8]) -> Result<(Script, Option<JournalText
         → Causes SerialTask input output no_journal fault) }
 {
     valid_script_law();
-    match read_both(alloc, bytes) {
+    match read_both_seeded(alloc, seeds, bytes) {
         Ok(both) => Ok(both),
         Err(BothEnd::Script { line, kind }) => Err(Fault::BadInput {
             line,

@@ -11,6 +11,7 @@ ghost use Rattle.cal_journal.specs.Both.{script_length};
 use crate::BothEnd;
 use crate::reading::read_journal;
 use cal_script::{JournalText, LineEnd, Reader, Rest, Script};
+use cal_seeds::Seeds;
 use std::alloc::Global;
 
 fn ends_word(behind: &[u8]) -> bool
@@ -54,12 +55,12 @@ struct Front<'a> {
     rest: &'a [u8],
 }
 
-fn read_front(alloc: Global, bytes: &[u8]) -> Result<Front<'_>, BothEnd>
+fn read_front(alloc: Global, seeds: Seeds, bytes: &[u8]) -> Result<Front<'_>, BothEnd>
     ensures front { IfOk result (λ front. IsFront bytes.now front.script front.line
         front.rest.now) }
     ensures fault { IfErr result (λ end. IsRefusalOf bytes.now end) }
 {
-    let mut reader = Reader::new(alloc);
+    let mut reader = Reader::seeded(alloc, seeds);
     let (line, rest) = read_lines(alloc, &mut reader, bytes)?;
     let script = reader.into_script()?;
     let rest = rest.bytes();
@@ -95,13 +96,25 @@ fn read_lines<'a>(
 }
 
 /// The script and the journal that the bytes mean, or the script alone where no line begins a
-/// journal. It takes time in their number.
-#[tactic(auto, using(crate::proofs::JournalRuns::both_said, crate::proofs::JournalRuns::both_told))]
+/// journal. It takes time in their number. Names are hashed by numbers that everybody knows.
 pub fn read_both(alloc: Global, bytes: &[u8]) -> Result<(Script, Option<JournalText>), BothEnd>
     ensures both { IfOk result (λ both. MeansBoth bytes.now both) }
     ensures fault { IfErr result (λ end. IsRefusalOf bytes.now end) }
 {
-    match read_front(alloc, bytes) {
+    read_both_seeded(alloc, Seeds::fixed(), bytes)
+}
+
+/// The same, where names are hashed by the seeds of a run.
+#[tactic(auto, using(crate::proofs::JournalRuns::both_said, crate::proofs::JournalRuns::both_told))]
+pub fn read_both_seeded(
+    alloc: Global,
+    seeds: Seeds,
+    bytes: &[u8],
+) -> Result<(Script, Option<JournalText>), BothEnd>
+    ensures both { IfOk result (λ both. MeansBoth bytes.now both) }
+    ensures fault { IfErr result (λ end. IsRefusalOf bytes.now end) }
+{
+    match read_front(alloc, seeds, bytes) {
         Err(end) => Err(end),
         Ok(Front { script, line, rest }) => match read_journal(alloc, line, rest) {
             Err(end) => Err(end),

@@ -14,7 +14,7 @@ mod pending;
 mod printing;
 mod reading;
 
-pub use both::read_both;
+pub use both::{read_both, read_both_seeded};
 pub use ends::BothEnd;
 pub use kind::JournalKind;
 pub use laws::{journal_behind_script_law, printed_journal_law};
