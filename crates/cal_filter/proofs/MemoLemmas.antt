@@ -1,11 +1,17 @@
 -- What is left out at the end of what is kept.
-use Rattle.std.proofs.Common.{◌≡◌, ℕ, zero, suc, ◌+◌, ◌-◌, ◌<◌, ◌≤◌, Bool, false, List, [], ◌∷◌, ◌++◌, ◌⊎◌, inl, inr}
-use Rattle.std.proofs.Common.{length, get_or, refl, sym, ◌∙◌, ap, arith, append_assoc, append-nil}
+use Rattle.std.proofs.Common.{◌≡◌, ℕ, zero, suc, ◌+◌, ◌-◌, ◌<◌, ◌≤◌, Bool, true, false, ◌||◌, ◌==◌}
+use Rattle.std.proofs.Common.{List, [], ◌∷◌, ◌++◌, ◌⊎◌, inl, inr, length, get_or, refl, sym, ◌∙◌, ap, arith, append_assoc, append-nil, add-one, eq-eqb, ne_eqb}
+use Rattle.std.proofs.Common.{Result, Ok, Err, is_ok, nat_cmp}
+use Rattle.std.specs.List.{list_any}
+use Rattle.std.specs.List.Sorted.{IsBinarySearchResult, IsNonDecreasing}
 use Rattle.std.specs.Prelude.{replicate}
-use Rattle.std.proofs.lemmas.Bool.{cases_lt}
-use Rattle.std.proofs.lemmas.List.{length-append, length-replicate, get_or_append_left, get_or-append_right, replicate-append-replicate}
+use Rattle.std.proofs.lemmas.Bool.{cases_eq, cases_lt}
+use Rattle.std.proofs.lemmas.List.{length-append, length-replicate, get_or_append_left, get_or-append_right, get_or_default, replicate-append-replicate}
+use Rattle.std.proofs.lemmas.List.Elements.{All-push}
+use Rattle.std.proofs.lemmas.List.Folds.{list_any-append, list_any_at, list_any_none}
+use Rattle.std.proofs.lemmas.List.Sorted.{searched}
 use Rattle.cal_context.specs.declared.numbers.NodeNumber.{NodeNumber}
-use Rattle.cal_filter.specs.Memo.{with_falses, with_roots}
+use Rattle.cal_filter.specs.Memo.{ArePlaces, marked, with_roots}
 
 abbrev pub root : NodeNumber
 root = record { 0 = 0 }
@@ -99,17 +105,157 @@ with_roots-less nodes one other within less = padded-less root nodes one other w
 pub with_roots-all : (nodes : List NodeNumber) (count : ℕ) → length nodes ≡ count → with_roots nodes count ≡ nodes
 with_roots-all nodes count e = padded-all root nodes count e
 
--- ---- false answers
+-- ---- places
 
-pub length-with_falses : (answers : List Bool) (count : ℕ) → length answers ≤ count → length (with_falses answers count) ≡ count
-length-with_falses answers count within = length-padded false answers count within
+pub length-marked : (places : List ℕ) (n : ℕ) → length (marked places n) ≡ n
+length-marked places zero = refl
+length-marked places (suc n) =
+    let whole = length-append (marked places n) (list_any (λ place. place == n) places ∷ []) in
+    let before = length-marked places n in
+    omega (arith, whole, before)
 
-pub read-with_falses : (answers : List Bool) (count i : ℕ) → get_or (with_falses answers count) i false ≡ get_or answers i false
-read-with_falses answers count i = read-padded false answers count i
+-- none of the places is one that isn't below them all
+none_behind : (places : List ℕ) (count n : ℕ) → ArePlaces places count → count ≤ n
+    → list_any (λ place. place == n) places ≡ false
+none_behind places count n are behind =
+    list_any_none (λ place. place == n) places
+    (λ i d short. ne_eqb (get_or places i d) n
+    (λ e. omega (arith, e, behind, are.below i d short)))
 
-pub with_falses-false : (answers : List Bool) (count : ℕ) → length answers ≤ count
-    → with_falses answers (count + 1) ≡ with_falses answers count ++ false ∷ []
-with_falses-false answers count within = padded-blank false answers count within
+read_within : (places : List ℕ) (count n : ℕ) → n < count
+    → get_or (marked places count) n false ≡ list_any (λ place. place == n) places
+read_within places zero n short = absurd (omega (arith, short))
+read_within places (suc count) n short = by (λ less. read_within places count n less) (cases_eq n count)
+  where
+    before : List Bool
+    before = marked places count
 
-pub with_falses-all : (answers : List Bool) (count : ℕ) → length answers ≡ count → with_falses answers count ≡ answers
-with_falses-all answers count e = padded-all false answers count e
+    last : ℕ → Bool
+    last m = list_any (λ place. place == m) places
+
+    long : length (marked places count) ≡ count
+    long = length-marked places count
+
+    by : (n < count → get_or before n false ≡ last n) → (n ≡ count) ⊎ (n ≡ count → ⊥)
+        → get_or (before ++ last count ∷ []) n false ≡ last n
+    by earlier (inl e) =
+        let first : n - count ≡ 0 = omega (arith, e) in
+        get_or-append_right before (last count ∷ []) count n false long (omega (arith, e))
+        ∙ ap (λ k. get_or (last count ∷ []) k false) first ∙ ap last (sym e)
+    by earlier (inr other) =
+        let less : n < count = omega (arith, short, other) in
+        get_or_append_left before (last count ∷ []) false n (omega (arith, less, long)) ∙ earlier less
+
+-- what is read is whether the place is among them
+pub read-marked : (places : List ℕ) (count n : ℕ) → ArePlaces places count
+    → get_or (marked places count) n false ≡ list_any (λ place. place == n) places
+read-marked places count n are = by (cases_lt n count)
+  where
+    by : (n < count) ⊎ (count ≤ n)
+        → get_or (marked places count) n false ≡ list_any (λ place. place == n) places
+    by (inl short) = read_within places count n short
+    by (inr behind) =
+        let long = length-marked places count in
+        none_read false (marked places count) n (omega (arith, behind, long))
+        ∙ sym (none_behind places count n are behind)
+
+-- a false answer more
+pub marked-false : (places : List ℕ) (count : ℕ) → ArePlaces places count
+    → marked places (count + 1) ≡ marked places count ++ false ∷ []
+marked-false places count are =
+    ap (marked places) (add-one count)
+    ∙ ap (λ b. marked places count ++ b ∷ []) (none_behind places count count are (omega arith))
+
+-- a place that is higher than what is read changes nothing
+marked-higher : (places : List ℕ) (m count : ℕ) → count ≤ m
+    → marked (places ++ m ∷ []) count ≡ marked places count
+marked-higher places m zero within = refl
+marked-higher places m (suc count) within =
+    let other : (m == count) ≡ false = ne_eqb m count (λ e. omega (arith, e, within)) in
+    let same : list_any (λ place. place == count) (places ++ m ∷ []) ≡ list_any (λ place. place == count) places
+    = list_any-append (λ place. place == count) places (m ∷ [])
+    ∙ ap (λ b. list_any (λ place. place == count) places || (b || false)) other
+    ∙ or_false (list_any (λ place. place == count) places) in
+    λ i. marked-higher places m count (omega (arith, within)) i ++ same i ∷ []
+  where
+    or_false : (b : Bool) → (b || (false || false)) ≡ b
+    or_false true = refl
+    or_false false = refl
+
+-- a true answer more
+pub marked-true : (places : List ℕ) (count : ℕ)
+    → marked (places ++ count ∷ []) (count + 1) ≡ marked places count ++ true ∷ []
+marked-true places count =
+    let same : (count == count) ≡ true = eq-eqb count count refl in
+    let there : list_any (λ place. place == count) (places ++ count ∷ []) ≡ true
+    = list_any-append (λ place. place == count) places (count ∷ [])
+    ∙ ap (λ b. list_any (λ place. place == count) places || (b || false)) same
+    ∙ or_true (list_any (λ place. place == count) places) in
+    ap (marked (places ++ count ∷ [])) (add-one count)
+    ∙ (λ i. marked-higher places count count (omega arith) i ++ there i ∷ [])
+  where
+    or_true : (b : Bool) → (b || (true || false)) ≡ true
+    or_true true = refl
+    or_true false = refl
+
+pub ArePlaces-more : (places : List ℕ) (count : ℕ) → ArePlaces places count → ArePlaces places (count + 1)
+ArePlaces-more places count are = record {
+  rising = are.rising;
+  below = λ i d short. omega (arith, are.below i d short);
+}
+
+-- one more, behind them
+pub ArePlaces-push : (places : List ℕ) (count : ℕ) → ArePlaces places count
+    → ArePlaces (places ++ count ∷ []) (count + 1)
+ArePlaces-push places count are = record {
+  rising = λ i j d le short. by i j d le short (cases_lt j (length places));
+  below = All-push (λ place. place < count + 1) places count
+      (λ i d short. omega (arith, are.below i d short)) (omega arith);
+}
+  where
+    all : List ℕ
+    all = places ++ count ∷ []
+
+    last : (j : ℕ) (d : ℕ) → j < length all → length places ≤ j → get_or all j d ≡ count
+    last j d short behind =
+        let whole = length-append places (count ∷ []) in
+        let first : j - length places ≡ 0 = omega (arith, short, whole, behind) in
+        get_or-append_right places (count ∷ []) (length places) j d refl behind
+        ∙ ap (λ k. get_or (count ∷ []) k d) first
+
+    by : (i j d : ℕ) → i ≤ j → j < length all → (j < length places) ⊎ (length places ≤ j)
+        → get_or all i d ≤ get_or all j d
+    by i j d le short (inl before) =
+        let one = get_or_append_left places (count ∷ []) d i (omega (arith, le, before)) in
+        let other = get_or_append_left places (count ∷ []) d j before in
+        omega (arith, one, other, are.rising i j d le before)
+    by i j d le short (inr behind) = under (cases_lt i (length places))
+      where
+        under : (i < length places) ⊎ (length places ≤ i) → get_or all i d ≤ get_or all j d
+        under (inl before) =
+            let one = get_or_append_left places (count ∷ []) d i before in
+            omega (arith, one, last j d short behind, are.below i d before)
+        under (inr late) = omega (arith, last j d short behind, last i d (omega (arith, le, short)) late)
+
+-- a search among places in order finds one that is there
+pub found_among : (places : List ℕ) (n : ℕ) (r : Result ℕ ℕ) → IsNonDecreasing places
+    → IsBinarySearchResult (λ place. nat_cmp place n) places r
+    → is_ok r ≡ list_any (λ place. place == n) places
+found_among places n (Ok i) rising is =
+    let found = searched places n (Ok i) is (λ i j le short. rising i j 0 le short) in
+    sym (list_any_at (λ place. place == n) places i 0 found.0 (eq-eqb (get_or places i 0) n found.1))
+found_among places n (Err i) rising is =
+    let parted = searched places n (Err i) is (λ i j le short. rising i j 0 le short) in
+    sym (list_any_none (λ place. place == n) places
+    (λ k d short. ne_eqb (get_or places k d) n (apart parted k d short)))
+  where
+    apart : ((i ≤ length places) × ((k : ℕ) → k < i → get_or places k 0 < n) × ((k : ℕ) → i ≤ k → k < length places → n < get_or places k 0))
+        → (k d : ℕ) → k < length places → get_or places k d ≡ n → ⊥
+    apart parted k d short e = by (cases_lt k i)
+      where
+        same : get_or places k d ≡ get_or places k 0
+        same = get_or_default places k d 0 short
+
+        by : (k < i) ⊎ (i ≤ k) → ⊥
+        by (inl before) = absurd (omega (arith, e, same, parted.1 k before))
+        by (inr behind) = absurd (omega (arith, e, same, parted.2 k behind short))

@@ -1,30 +1,33 @@
-ghost use Rattle.std.specs.Prelude.{◌≡◌, ℕ, ◌+◌, ◌≤◌, Bool, false, [], ◌∷◌, ◌++◌, length};
+ghost use Rattle.std.specs.Prelude.{◌≡◌, ℕ, ◌==◌, ◌+◌, Bool, false, [], ◌∷◌, ◌++◌, length};
 ghost use Rattle.std.specs.Prelude.{slice_index_or, IsTrue, OnOk, OnErr};
-ghost use Rattle.cal_filter.specs.Memo.{with_falses};
+ghost use Rattle.std.specs.List.{list_any};
+ghost use Rattle.std.specs.List.Sorted.{IsNonDecreasing};
+ghost use Rattle.cal_filter.specs.Memo.{ArePlaces, marked};
 
 use cal_context::AttributeNumber;
 use cal_value::OutOfMemory;
 use std::alloc::Global;
 use std::marker::Model;
 
-/// What is true of which attributes of a context, by their numbers. Behind the last attribute of
-/// which it is true nothing takes memory, so that what is true of none costs none.
+/// What is true of which attributes of a context, by their numbers. Only an attribute of which it
+/// is true takes memory, so that what is true of few costs little, however many there are.
 #[derive(Drop)]
 pub struct AttributeMemo {
-    holds: Vec<bool>,
-    // of how many attributes something is kept; of those that aren't in the list it isn't true
+    // the places of the attributes of which it is true, in order
+    places: Vec<usize>,
+    // of how many attributes something is kept
     count: usize,
 }
 
 impl Model for AttributeMemo {
-    ghost use Rattle.std.specs.Prelude.{◌≤◌, Bool, List, length};
-    ghost use Rattle.cal_filter.specs.Memo.{with_falses};
+    ghost use Rattle.std.specs.Prelude.{Bool, List};
+    ghost use Rattle.cal_filter.specs.Memo.{ArePlaces, marked};
 
     ghost Value = { List Bool };
 
-    ghost view = { λ s. with_falses s.holds.items s.count };
+    ghost view = { λ s. marked s.places.items s.count };
 
-    ghost invariant = { λ s. length s.holds.items ≤ s.count };
+    ghost invariant = { λ s. ArePlaces s.places.items s.count };
 }
 
 impl AttributeMemo {
@@ -33,7 +36,7 @@ impl AttributeMemo {
         ensures { result ≡ [] }
     {
         AttributeMemo {
-            holds: Vec::new(alloc),
+            places: Vec::new(alloc),
             count: 0,
         }
     }
@@ -42,7 +45,7 @@ impl AttributeMemo {
     pub fn len(&self) -> usize
         ensures { result ≡ length self.now }
     {
-        let _ = &self.holds;
+        let _ = &self.places;
         self.count
     }
 
@@ -51,7 +54,7 @@ impl AttributeMemo {
         ensures { IsTrue result → (n : ℕ) → slice_index_or self.now n false ≡ false }
     {
         let _ = self.count;
-        self.holds.is_empty()
+        self.places.is_empty()
     }
 
     /// Whether it is true of an attribute.
@@ -59,7 +62,7 @@ impl AttributeMemo {
         ensures { result ≡ slice_index_or self.now attribute.0 false }
     {
         let _ = self.count;
-        holds_at(&self.holds, attribute)
+        is_among(&self.places, attribute.0 as usize)
     }
 
     /// Keeps whether it is true of one attribute more.
@@ -69,41 +72,31 @@ impl AttributeMemo {
         let Some(count) = self.count.checked_add(1) else {
             return Err(OutOfMemory);
         };
-        add_behind_falses(&mut self.holds, self.count, holds)?;
+        add_place(&mut self.places, self.count, holds)?;
         self.count = count;
         Ok(())
     }
 }
 
-/// Whether it is true of an attribute, or else not.
-fn holds_at(holds: &[bool], attribute: AttributeNumber) -> bool
-    ensures { result ≡ slice_index_or holds.now attribute.0 false }
+/// Whether a place is among these.
+fn is_among(places: &[usize], place: usize) -> bool
+    requires { IsNonDecreasing places.now }
+    ensures { result ≡ list_any (λ other. other == place) places.now }
 {
-    holds.get(attribute.0 as usize).copied().unwrap_or(false)
+    places.binary_search(&place).is_ok()
 }
 
-/// Adds an answer behind so many. A false one needn't be added.
-fn add_behind_falses(answers: &mut Vec<bool>, count: usize, holds: bool) -> Result<(), OutOfMemory>
-    requires { length answers.old.items ≤ count }
-    ensures added { OnOk result (with_falses answers.new.items (count + 1)
-        ≡ with_falses answers.old.items count ++ holds ∷ []) }
-    ensures short { OnOk result (length answers.new.items ≤ count + 1) }
-    ensures err { OnErr result (length answers.new.items ≤ count) }
+/// Adds the place of the answer that comes next, if it is true.
+fn add_place(places: &mut Vec<usize>, count: usize, holds: bool) -> Result<(), OutOfMemory>
+    requires { ArePlaces places.old.items count }
+    ensures added { OnOk result (marked places.new.items (count + 1)
+        ≡ marked places.old.items count ++ holds ∷ []) }
+    ensures ok { OnOk result (ArePlaces places.new.items (count + 1)) }
+    ensures err { OnErr result (ArePlaces places.new.items count) }
 {
     if !holds {
         return Ok(());
     }
-    pad(answers, count)?;
-    answers.push(holds)?;
-    Ok(())
-}
-
-/// Adds false answers up to so many.
-fn pad(answers: &mut Vec<bool>, count: usize) -> Result<(), OutOfMemory>
-    requires { length answers.old.items ≤ count }
-    ensures ok { OnOk result (answers.new.items ≡ with_falses answers.old.items count) }
-    ensures err { OnErr result (answers.new.items ≡ answers.old.items) }
-{
-    answers.resize(count, false)?;
+    places.push(count)?;
     Ok(())
 }
