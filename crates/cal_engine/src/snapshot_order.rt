@@ -1,4 +1,4 @@
-ghost use Rattle.std.specs.Prelude.{◌≡◌, map, IfOk};
+ghost use Rattle.std.specs.Prelude.{◌≡◌, ◌≤◌, map, IfOk};
 ghost use Rattle.std.specs.List.{All};
 ghost use Rattle.std.specs.Option.{option_copied};
 ghost use Rattle.cal_filter.specs.Known.{KnowsAll, sought};
@@ -27,13 +27,13 @@ pub(crate) struct RankedPlace<'a> {
     place: usize,
 }
 
-/// So many keys of an order have their values looked for at once, each of which takes a table of
-/// the nodes of the context.
-const KEYS_AT_ONCE: usize = 4;
+/// So many values are looked for at once, or those of four keys: for each key one by each node of
+/// the context, and one beside each row.
+const VALUES_AT_ONCE: usize = 1 << 22;
 
 /// The places of rows by number, sorted stably. However many keys there are, it takes memory for
-/// the places of the rows and the nodes of the context a few times over: the rows are sorted by the
-/// last few keys first, and then stably by those before. No value is copied.
+/// the places of the rows and the nodes of the context a few times over, or for `VALUES_AT_ONCE`:
+/// the rows are sorted by the last keys first, and then stably by those before. No value is copied.
 pub(crate) fn sorted_places(
     alloc: Global,
     order: &Seq<OrderKey>,
@@ -46,15 +46,23 @@ pub(crate) fn sorted_places(
 {
     let keys = order.as_slice();
     let mut places = all_places(alloc, rows)?;
+    let at_once = keys_at_once(context.node_count(), rows.len());
     let mut left = keys.len();
     while left > 0 {
-        let from = left.saturating_sub(KEYS_AT_ONCE);
+        let from = left.saturating_sub(at_once);
         let (before, _) = keys.split_at(left);
         let (_, last) = before.split_at(from);
         places = sorted_by(alloc, last, context, rows, places)?;
         left = from;
     }
     Ok(places)
+}
+
+/// How many keys have their values looked for at once, over so many nodes and rows.
+fn keys_at_once(nodes: usize, rows: usize) -> usize
+    ensures { 1 ≤ result }
+{
+    (VALUES_AT_ONCE / nodes.saturating_add(rows).max(1)).max(4)
 }
 
 /// Places of rows, sorted stably by some keys.
