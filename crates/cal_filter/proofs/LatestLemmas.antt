@@ -1,11 +1,12 @@
 -- The last immediates of names, one immediate more at a time.
-use Rattle.std.proofs.Common.{◌≡◌, ℕ, suc, zero, ◌+◌, ◌<◌, ◌≤◌, ◌⊎◌, inl, inr, Bool, true, false, List, [], ◌∷◌, ◌++◌}
+use Rattle.std.proofs.Common.{◌≡◌, ℕ, ◌+◌, ◌<◌, ◌≤◌, ◌⊎◌, inl, inr, Bool, true, false, List, [], ◌∷◌, ◌++◌}
 use Rattle.std.proofs.Common.{length, map, get_or, slice_get, slice_set, slice_index_or, position, is_some, arith}
-use Rattle.std.proofs.Common.{Option, None, Some, option_map, option_and_then, refl, sym, ◌∙◌, ap, subst, true≢false}
+use Rattle.std.proofs.Common.{Option, None, Some, option_map, refl, sym, ◌∙◌, ap, subst, true≢false}
 use Rattle.std.specs.List.{position_or_len}
 use Rattle.std.specs.Ordering.{eq_by_cmp}
 use Rattle.std.specs.Prelude.{◌&&◌}
-use Rattle.std.proofs.lemmas.Bool.{cases_lt}
+use Rattle.std.proofs.Common.{◌==◌, eq-eqb, ne_eqb}
+use Rattle.std.proofs.lemmas.Bool.{cases_eq, cases_lt}
 use Rattle.std.proofs.lemmas.Grind.{common_steps}
 use Rattle.std.proofs.lemmas.List.{get_or-set_other, get_or-set_same, get_or_append_left, get_or_push}
 use Rattle.std.proofs.lemmas.List.{length-append, length-set, map-append}
@@ -131,6 +132,47 @@ module _ (t : Tree) (l l' : Latest) (keys : l'.names.keys ≡ l.names.keys) wher
                 same
                 ∙ ap (position (same_name (attribute_at t a).name)) (sym keys);
           }
+
+module _ (t : Tree) (l : Latest) (h : KnowsAllNames t l) (a : AttributeNumber)
+    (inside : a.0 < length t.attributes) (n : ℕ) (key : List ℕ)
+    (at : slice_get l.names.keys n ≡ Some key) where
+  numbered : number_at l a ≡ position (same_name (attribute_at t a).name) l.names.keys
+  numbered = (h.knows.attributes a (omega (arith, inside, h.attributes))).number
+
+  -- an attribute whose name has no number has another name than one that has
+  pub unnumbered-other : number_at l a ≡ None → same_name (attribute_at t a).name key ≡ false
+  unnumbered-other none =
+      sym (ap (same_name (attribute_at t a).name) (get_or_from_slice_get l.names.keys n key key at))
+      ∙ position_none (same_name (attribute_at t a).name) l.names.keys n key (sym numbered ∙ none)
+      (slice_get_within l.names.keys n key at)
+
+  -- names are the same where their numbers are
+  pub numbered-same : (m : ℕ) → number_at l a ≡ Some m
+      → (m == n) ≡ same_name (attribute_at t a).name key
+  numbered-same m is = by (cases_eq m n)
+    where
+      own : List ℕ
+      own = (attribute_at t a).name
+
+      there_own : slice_get l.names.keys m ≡ Some own
+      there_own = number_of_position (exact_equiv text_exact) (exact_tells text_exact) l.names.keys
+          m own (sym is ∙ numbered)
+
+      apart : (m ≡ n → ⊥) → (b : Bool) → same_name own key ≡ b → same_name own key ≡ false
+      apart other false e = e
+      apart other true e =
+          absurd (other (h.knows.apart m n key (slice_get_within l.names.keys m own there_own)
+          (slice_get_within l.names.keys n key at)
+          (get_or_from_slice_get l.names.keys m own key there_own ∙ exact_tells text_exact own key e
+          ∙ sym (get_or_from_slice_get l.names.keys n key key at))))
+
+      by : (m ≡ n) ⊎ (m ≡ n → ⊥) → (m == n) ≡ same_name own key
+      by (inl e) =
+          let one : own ≡ key = sym (get_or_from_slice_get l.names.keys m own key there_own)
+          ∙ ap (λ k. get_or l.names.keys k key) e
+          ∙ get_or_from_slice_get l.names.keys n key key at in
+          eq-eqb m n e ∙ sym (sym (ap (same_name own) one) ∙ (exact_equiv text_exact).refl own)
+      by (inr other) = ne_eqb m n other ∙ sym (apart other (same_name own key) refl)
 
 module _ (t : Tree) (l : Latest) (imms : List Immediate) (x : Immediate) (h : IsLatest t l imms)
     (inside : x.attribute.0 < length t.attributes) where

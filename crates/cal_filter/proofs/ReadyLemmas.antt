@@ -12,10 +12,11 @@ use Rattle.cal_ql.specs.declared.query.Query.{Query}
 use Rattle.cal_value.specs.declared.attribute.Entry.{Entry}
 use Rattle.cal_filter.specs.Conditions.{test_holds}
 use Rattle.cal_filter.specs.Known.{Covers, Knows, KnowsAll, KnowsSoMany, sought}
-use Rattle.cal_filter.specs.Latest.{AreNamed, KnowsNames}
+use Rattle.cal_filter.specs.Latest.{AreNamed, KnowsAllNames, KnowsNames}
 use Rattle.cal_filter.specs.Ready.{IsCondition, IsDefinition, IsFilter, IsReadyCondition}
 use Rattle.cal_filter.specs.Ready.{IsReadyDefinition, IsReadyFilter}
-use Rattle.cal_filter.specs.Replaced.{CatchesUp, ConditionCatchesUp, DefinitionCatchesUp}
+use Rattle.cal_filter.specs.Replaced.{CatchesUp, CatchesUpByNumbers, ConditionCatchesUp}
+use Rattle.cal_filter.specs.Replaced.{DefinitionCatchesUp}
 use Rattle.cal_filter.specs.Sought.{Sought, passes, sought_by}
 use Rattle.cal_filter.specs.declared.condition.Condition.{Condition}
 use Rattle.cal_filter.specs.declared.counts.Counts.{Counts}
@@ -56,6 +57,16 @@ definition_catches_up t old new operator attributes names zip = record {
   named = λ keys h.
       rw names (named_up t keys old.seekers.items new.seekers.items old.names.items zip h);
 }
+
+-- definitions catch up where their names have these numbers
+pub all_catch_up : (t : Tree) (l : Latest) (old new : List Definition) → KnowsAllNames t l
+    → All (AreNamed l.names.keys) old → AllZip (CatchesUpByNumbers t l) old new
+    → AllZip (DefinitionCatchesUp t) old new
+all_catch_up t l old new knows named up =
+    let counted = zip_length (CatchesUpByNumbers t l) old new up in
+    zip_from (DefinitionCatchesUp t) old new counted
+    (λ i d e short. zip_at (CatchesUpByNumbers t l) old new i d e up short knows
+    (named i d (omega (arith, short, counted))))
 
 -- a condition with its seeker
 pub condition_catches_up : (t : Tree) (old new : Condition) → new.negated ≡ old.negated
@@ -123,19 +134,24 @@ pub filter_catches_up : (t : Tree) (q : Query) (old new : Filter)
     → AllZip (DefinitionCatchesUp t) old.definitions.items new.definitions.items
     → AllZip (ConditionCatchesUp t) old.conditions.items new.conditions.items
     → new.known.attributes ≡ length t.attributes → new.known.nodes ≡ length t.paths
-    → new.latest ≡ old.latest → IsFilter t q old → IsReadyFilter t q new
-filter_catches_up t q old new lets conds attributes nodes latest h = record {
+    → new.latest.names ≡ old.latest.names → KnowsNames t new.latest → IsFilter t q old
+    → IsReadyFilter t q new
+filter_catches_up t q old new lets conds attributes nodes same knows h = record {
   lets = lets_ready;
   named = λ i d short.
-      let counted = zip_length (DefinitionCatchesUp t) old.definitions.items new.definitions.items lets in
-      subst (λ (l : Latest). AreNamed l.names.keys (get_or new.definitions.items i d)) (sym latest)
-      ((zip_at (DefinitionCatchesUp t) old.definitions.items new.definitions.items i d d lets short).named
-      old.latest.names.keys (h.named i d (omega (arith, short, counted))));
-  latest = subst (KnowsNames t) (sym latest) h.latest;
+      (zip_at (DefinitionCatchesUp t) old.definitions.items new.definitions.items i d d lets
+      short).named new.latest.names.keys (old_named i d (omega (arith, short, counted)));
+  latest = knows;
   conds = conds_ready;
   known = record { lets = lets_known; conds = conds_known };
 }
   where
+    counted : length old.definitions.items ≡ length new.definitions.items
+    counted = zip_length (DefinitionCatchesUp t) old.definitions.items new.definitions.items lets
+
+    old_named : All (AreNamed new.latest.names.keys) old.definitions.items
+    old_named = rw same h.named
+
     lets_ready : AllZip (IsReadyDefinition t) q.lets new.definitions.items
     lets_ready = zip_then (IsDefinition t) (DefinitionCatchesUp t) (IsReadyDefinition t)
         (λ l d e is up. up.ready l is) q.lets old.definitions.items new.definitions.items h.lets lets

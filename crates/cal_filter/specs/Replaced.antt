@@ -4,10 +4,11 @@ use Rattle.cal_context.specs.Tree.{Tree}
 use Rattle.cal_ql.specs.declared.query.Cond.{Cond}
 use Rattle.cal_ql.specs.declared.query.Let.{Let}
 use Rattle.cal_filter.specs.Known.{Knows, KnowsAll, sought}
-use Rattle.cal_filter.specs.Latest.{AreNamed}
+use Rattle.cal_filter.specs.Latest.{AreNamed, KnowsAllNames}
 use Rattle.cal_filter.specs.Ready.{IsCondition, IsDefinition, IsReadyCondition, IsReadyDefinition}
 use Rattle.cal_filter.specs.declared.condition.Condition.{Condition}
 use Rattle.cal_filter.specs.declared.definition.Definition.{Definition}
+use Rattle.cal_filter.specs.declared.latest.Latest.{Latest}
 use Rattle.cal_filter.specs.declared.seeker.Seeker.{Seeker}
 
 -- a seeker seeks what it sought, and knows the whole context where what it knew was right
@@ -23,3 +24,9 @@ pub record DefinitionCatchesUp (t : Tree) (old new : Definition) : Type 0 where
 -- so is a condition
 pub record ConditionCatchesUp (t : Tree) (old new : Condition) : Type 0 where
   pub ready : (c : Cond) → IsCondition t c old → IsReadyCondition t c new
+
+-- a definition catches up where its names have their numbers in a table that knows the whole
+-- context
+abbrev pub CatchesUpByNumbers : Tree → Latest → Definition → Definition → Type 0
+CatchesUpByNumbers t l old new =
+    KnowsAllNames t l → AreNamed l.names.keys old → DefinitionCatchesUp t old new

@@ -13,7 +13,7 @@ ghost use Rattle.cal_value.specs.Flat.{flat};
 ghost use Rattle.cal_filter.specs.Lets.{let_value, limited, operation};
 ghost use Rattle.cal_filter.specs.Named.{HasSmallNumbers};
 ghost use Rattle.cal_filter.specs.Ready.{IsDefinition, IsReadyDefinition};
-ghost use Rattle.cal_filter.specs.Replaced.{DefinitionCatchesUp};
+ghost use Rattle.cal_filter.specs.Replaced.{CatchesUpByNumbers};
 ghost use Rattle.cal_filter.specs.Results.{number_for};
 ghost use Rattle.cal_ql.specs.declared.query.Let.{Let as LetOf};
 ghost use Rattle.cal_ql.specs.Valid.{IsLet};
@@ -21,7 +21,9 @@ ghost use Rattle.cal_context.specs.Tree.{Grows};
 
 use crate::kinds::{kind_of, kind_place};
 use crate::latest::{Latest, number_names};
-use crate::operands::{catch_up_all, fill_numbers, first_found, name_at, number_found, seekers_of};
+use crate::operands::{
+    catch_up_by_numbers, fill_numbers, first_found, name_at, number_found, seekers_of,
+};
 use crate::operation::{Operator, let_number};
 use crate::results::result_attributes;
 use crate::seeker::Seeker;
@@ -74,11 +76,11 @@ impl Definition {
         })
     }
 
-    /// Gets to know what is new in a context.
-    pub(crate) fn catch_up(&mut self, context: &Context) -> Result<(), OutOfMemory>
-        ensures { OnOk result (DefinitionCatchesUp context.now self.old self.new) }
+    /// Gets to know what is new in a context, whose attributes' names have numbers.
+    pub(crate) fn catch_up(&mut self, latest: &Latest, context: &Context) -> Result<(), OutOfMemory>
+        ensures { OnOk result (CatchesUpByNumbers context.now latest.now self.old self.new) }
     {
-        catch_up_all(&mut self.seekers, context)
+        catch_up_by_numbers(&mut self.seekers, &self.names, latest, context)
     }
 
     /// Appends the immediate of the definition, where it has a value, and notes it. `numbers` is

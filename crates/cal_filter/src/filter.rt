@@ -10,7 +10,8 @@ ghost use Rattle.cal_filter.specs.Latest.{AreNamed, KnowsNames};
 ghost use Rattle.cal_filter.specs.Named.{HasSmallNumbers};
 ghost use Rattle.cal_filter.specs.Ready.{IsCondition, IsDefinition, IsFilter, IsReadyCondition};
 ghost use Rattle.cal_filter.specs.Ready.{IsReadyDefinition, IsReadyFilter};
-ghost use Rattle.cal_filter.specs.Replaced.{ConditionCatchesUp, DefinitionCatchesUp};
+ghost use Rattle.cal_filter.specs.Replaced.{CatchesUpByNumbers, ConditionCatchesUp};
+ghost use Rattle.cal_filter.specs.Replaced.{DefinitionCatchesUp};
 ghost use Rattle.cal_ql.specs.Valid.{IsLet, IsValidQuery};
 ghost use Rattle.cal_ql.specs.declared.query.Cond.{Cond as CondOf};
 ghost use Rattle.cal_ql.specs.declared.query.Let.{Let as LetOf};
@@ -102,7 +103,7 @@ impl Filter {
         if self.known.covers(context) {
             return Ok(());
         }
-        know_definitions(&mut self.definitions, context)?;
+        know_definitions(&mut self.definitions, &mut self.latest, context)?;
         know_conditions(&mut self.conditions, context)?;
         self.known = Counts::of(context);
         Ok(())
@@ -164,12 +165,37 @@ fn conditions_of(alloc: Global, conds: &[Cond]) -> Result<Vec<Condition>, OutOfM
     Ok(conditions)
 }
 
-fn know_definitions(definitions: &mut [Definition], context: &Context) -> Result<(), OutOfMemory>
+/// Gets to know what is new, of each attribute which of the names it has, once for all definitions.
+fn know_definitions(
+    definitions: &mut [Definition],
+    latest: &mut Latest,
+    context: &Context,
+) -> Result<(), OutOfMemory>
+    ensures knows { OnOk result
+        (KnowsNames context.now latest.old → KnowsNames context.now latest.new) }
+    ensures names { OnOk result (latest.new.names ≡ latest.old.names) }
+    ensures ready { OnOk result (KnowsNames context.now latest.old
+        → All (AreNamed latest.old.names.keys) definitions.old
+        → AllZip (DefinitionCatchesUp context.now) definitions.old definitions.new) }
+{
+    if definitions.len() == 0 {
+        return Ok(());
+    }
+    latest.know_attributes(context)?;
+    catch_up_definitions(definitions, latest, context)?;
+    Ok(())
+}
+
+fn catch_up_definitions(
+    definitions: &mut [Definition],
+    latest: &Latest,
+    context: &Context,
+) -> Result<(), OutOfMemory>
     ensures { OnOk result
-        (AllZip (DefinitionCatchesUp context.now) definitions.old definitions.new) }
+        (AllZip (CatchesUpByNumbers context.now latest.now) definitions.old definitions.new) }
 {
     for definition in definitions.iter_mut() {
-        definition.catch_up(context)?;
+        definition.catch_up(latest, context)?;
     }
     Ok(())
 }

@@ -1,10 +1,12 @@
 //! Where the last immediates of names stand in one record.
-ghost use Rattle.std.specs.Prelude.{◌≡◌, ◌+◌, ◌<◌, [], ◌∷◌, ◌++◌, List, length, slice_get, Some, IfOk};
-ghost use Rattle.std.specs.Prelude.{slice_index_or, slice_set, replicate, None, OnOk};
+ghost use Rattle.std.specs.Prelude.{◌≡◌, ℕ, ◌+◌, ◌<◌, [], ◌∷◌, ◌++◌, List, length, Some, IfOk};
+ghost use Rattle.std.specs.Prelude.{slice_get, slice_index_or, slice_set, replicate, None, OnOk};
 ghost use Rattle.std.specs.List.{All, AllZip};
+ghost use Rattle.std.specs.Ordering.{eq_by_cmp};
 ghost use Rattle.cal_context.specs.Lists.{IsFront};
-ghost use Rattle.cal_context.specs.Tree.{Tree};
+ghost use Rattle.cal_context.specs.Tree.{Tree, attribute_at};
 ghost use Rattle.cal_context.specs.declared.snapshot.Immediate.{Immediate as ImmediateOf};
+ghost use Rattle.cal_value.specs.Texts.{text_cmp};
 ghost use Rattle.cal_filter.specs.Latest.{IsLatest, KnowsAllNames, KnowsNames, number_at, place_for};
 
 use crate::number_in;
@@ -57,7 +59,8 @@ impl Latest {
         Ok(())
     }
 
-    fn know_attributes(&mut self, context: &Context) -> Result<(), OutOfMemory>
+    /// Gets to know what attributes are new in a context: each one's name is looked for once.
+    pub(crate) fn know_attributes(&mut self, context: &Context) -> Result<(), OutOfMemory>
         ensures knows { OnOk result
             (KnowsNames context.now self.old → KnowsAllNames context.now self.new) }
         ensures names { OnOk result (self.new.names ≡ self.old.names) }
@@ -126,6 +129,19 @@ impl Latest {
             return;
         }
         put(&mut self.number_places, number, place);
+    }
+
+    /// Whether an attribute that is known has the name of this number.
+    pub(crate) fn has_name(&self, attribute: AttributeNumber, name: usize) -> bool
+        ensures { (t : Tree) (text : List ℕ) → KnowsAllNames t self.now
+            → attribute.0 < length t.attributes
+            → slice_get self.now.names.keys name ≡ Some text
+            → result ≡ eq_by_cmp text_cmp (attribute_at t attribute).name text }
+    {
+        match self.number_of(attribute) {
+            Some(number) => number == name,
+            None => false,
+        }
     }
 
     fn number_of(&self, attribute: AttributeNumber) -> Option<usize>

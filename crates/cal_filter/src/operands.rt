@@ -5,7 +5,7 @@ ghost use Rattle.cal_agg.specs.Numbers.{IsSmall};
 ghost use Rattle.cal_context.specs.Snapshots.{IsIn, meaning};
 ghost use Rattle.cal_context.specs.Tree.{Tree};
 ghost use Rattle.cal_filter.specs.Known.{Knows, sought};
-ghost use Rattle.cal_filter.specs.Latest.{AreReadyOperands, IsReadyOperand};
+ghost use Rattle.cal_filter.specs.Latest.{AreReadyOperands, IsNamed, IsReadyOperand, KnowsAllNames};
 ghost use Rattle.cal_filter.specs.Sought.{number_sought, sought_by, value_sought};
 ghost use Rattle.cal_filter.specs.Named.{HasSmallNumbers};
 ghost use Rattle.cal_filter.specs.Numbers.{number_in as number_in_value};
@@ -43,6 +43,24 @@ pub fn catch_up_all(seekers: &mut [Seeker], context: &Context) -> Result<(), Out
 {
     for seeker in seekers.iter_mut() {
         seeker.catch_up(context)?;
+    }
+    Ok(())
+}
+
+/// The same of seekers whose names have these numbers.
+pub(crate) fn catch_up_by_numbers(
+    seekers: &mut [Seeker],
+    names: &[usize],
+    latest: &Latest,
+    context: &Context,
+) -> Result<(), OutOfMemory>
+    ensures { OnOk result (KnowsAllNames context.now latest.now
+        → AllZip (IsNamed latest.now.names.keys) seekers.old names.now
+        → AllZip (CatchesUp context.now) seekers.old seekers.new) }
+{
+    for place in 0..seekers.len() {
+        let name = name_at(names, place);
+        seekers[place].catch_up_by_number(context, latest, name)?;
     }
     Ok(())
 }

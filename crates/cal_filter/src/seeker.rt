@@ -1,10 +1,11 @@
-ghost use Rattle.std.specs.Prelude.{◌≡◌, ◌<◌, ◌^◌, false, length, IsTrue, None, OnOk};
+ghost use Rattle.std.specs.Prelude.{◌≡◌, ◌<◌, ◌^◌, false, length, slice_get, IsTrue};
+ghost use Rattle.std.specs.Prelude.{None, Some, OnOk};
 ghost use Rattle.cal_context.specs.Tree.{Tree, attribute_at, path_at};
 ghost use Rattle.cal_context.specs.declared.numbers.AttributeNumber.{AttributeNumber as AttributeNumberOf};
 ghost use Rattle.cal_context.specs.declared.numbers.NodeNumber.{NodeNumber as NodeNumberOf};
 ghost use Rattle.cal_filter.specs.Known.{IsNearest, Knows, KnowsAll, KnowsAttributes, named_at};
 ghost use Rattle.cal_filter.specs.Known.{nearest_at, sought};
-ghost use Rattle.cal_filter.specs.Latest.{place_for};
+ghost use Rattle.cal_filter.specs.Latest.{KnowsAllNames, place_for};
 ghost use Rattle.cal_filter.specs.Sought.{any_of, last_sought, number_of};
 ghost use Rattle.cal_filter.specs.Sought.{seeks as is_sought, whole_of};
 
@@ -81,10 +82,57 @@ impl Seeker {
         ensures same { OnOk result (sought self.new ≡ sought self.old) }
     {
         self.know_new_attributes(context)?;
+        self.know_new_nodes(context)
+    }
+
+    /// The same where the attributes' names have numbers, and the name that is sought has this one:
+    /// no name is compared.
+    pub(crate) fn catch_up_by_number(
+        &mut self,
+        context: &Context,
+        latest: &Latest,
+        name: usize,
+    ) -> Result<(), OutOfMemory>
+        ensures knows { OnOk result (KnowsAllNames context.now latest.now
+            → slice_get latest.now.names.keys name ≡ Some self.old.name
+            → Knows context.now self.old → KnowsAll context.now self.new) }
+        ensures same { OnOk result (sought self.new ≡ sought self.old) }
+    {
+        self.know_numbered_attributes(context, latest, name)?;
+        self.know_new_nodes(context)
+    }
+
+    #[inline(always)]
+    fn know_new_nodes(&mut self, context: &Context) -> Result<(), OutOfMemory>
+        ensures knows { OnOk result
+            (KnowsAttributes context.now self.old → KnowsAll context.now self.new) }
+        ensures same { OnOk result (sought self.new ≡ sought self.old) }
+    {
         if self.sees_nothing() {
             return self.pass_nodes(context);
         }
         self.know_nodes(context)
+    }
+
+    fn know_numbered_attributes(
+        &mut self,
+        context: &Context,
+        latest: &Latest,
+        name: usize,
+    ) -> Result<(), OutOfMemory>
+        ensures knows { OnOk result (KnowsAllNames context.now latest.now
+            → slice_get latest.now.names.keys name ≡ Some self.old.name
+            → Knows context.now self.old → KnowsAttributes context.now self.new) }
+        ensures same { OnOk result (sought self.new ≡ sought self.old) }
+    {
+        for place in self.named.len()..context.attribute_count() {
+            let Ok(number) = u32::try_from(place) else {
+                return Err(OutOfMemory);
+            };
+            let named = latest.has_name(AttributeNumber(number), name);
+            self.named.push(named)?;
+        }
+        Ok(())
     }
 
     /// Gets to know the attributes, where there are new ones.
