@@ -35,27 +35,30 @@ below_or_at k i l = by (cases_lt k i)
     by (inr m) = inr (omega (arith, l, m))
 
 -- the header of the column at a place
-pub header-at : (columns : List Column) (i : ℕ) (column : Column) → i < length columns → column ≡ get_or columns i column → column.header ≡ (nth_column columns i).header
-header-at columns i column within is = ap (λ (c : Column). c.header) (get_or_read columns i column within is (record { header = []; name = [] }))
+pub header-at : (columns : List Column) (i : ℕ) (column : Column) → i < length columns
+    → column ≡ get_or columns i column → column.header ≡ (nth_column columns i).header
+header-at columns i column within is =
+    ap (λ (c : Column). c.header)
+    (get_or_read columns i column within is (record { header = []; name = [] }))
 
 module _ (columns : List Column) (names new : BTreeSet (List ℕ)) (i : ℕ) (column : Column)
     (copied : List ℕ) (within : i < length columns) (is : column ≡ get_or columns i column)
     (copy : copied ≡ column.header) (updates : Updates text_cmp names new copied true)
     (before : (k : ℕ) → k < i → contains text_cmp names (nth_column columns k).header ≡ true)
   where
-  pub headers-more : (k : ℕ) → k < i + 1
-      → contains text_cmp new (nth_column columns k).header ≡ true
-  headers-more k l = by (below_or_at k i l)
-    where
-      by : ((k < i) ⊎ (i ≡ k)) → contains text_cmp new (nth_column columns k).header ≡ true
-      by (inl m) =
-          let header = (nth_column columns k).header in
-          updates.0 header ∙ ap (λ (b : Bool). cond (is_at (text_cmp copied) header) true b)
-          (before k m) ∙ if_either (is_at (text_cmp copied) header)
-      by (inr e) =
-          subst (λ (j : ℕ). contains text_cmp new (nth_column columns j).header ≡ true) e
-          (subst (λ (name : List ℕ). contains text_cmp new name ≡ true)
-          (copy ∙ header-at columns i column within is) updates.1.0)
+    pub headers-more : (k : ℕ) → k < i + 1
+        → contains text_cmp new (nth_column columns k).header ≡ true
+    headers-more k l = by (below_or_at k i l)
+      where
+        by : ((k < i) ⊎ (i ≡ k)) → contains text_cmp new (nth_column columns k).header ≡ true
+        by (inl m) =
+            let header = (nth_column columns k).header in
+            updates.0 header ∙ ap (λ (b : Bool). cond (is_at (text_cmp copied) header) true b)
+            (before k m) ∙ if_either (is_at (text_cmp copied) header)
+        by (inr e) =
+            subst (λ (j : ℕ). contains text_cmp new (nth_column columns j).header ≡ true) e
+            (subst (λ (name : List ℕ). contains text_cmp new name ≡ true)
+            (copy ∙ header-at columns i column within is) updates.1)
 
 -- ---- one place more
 
@@ -79,8 +82,8 @@ rising names x up = searchable_from_sorted text_exact.total (λ y. y) names x (�
 -- a text that is there is found
 pub found : (names : List (List ℕ)) (x : List ℕ) (r : Result ℕ ℕ) → Ascend names
     → Contains names x → IsBinarySearchResult (λ y. text_cmp y x) names r → IsOk r
-found names x (Ok i) up there told = tt
-found names x (Err i) up there told = by (cases_lt there.0 i)
+found names x (Ok i) up there told = refl
+found names x (Err i) up there told = absurd (by (cases_lt there.0 i))
   where
     parted : IsPartitionPoint (λ y. text_cmp y x ≡ Less) (λ y. text_cmp y x ≡ Greater) names i
     parted = told (rising names x up)
@@ -88,11 +91,11 @@ found names x (Err i) up there told = by (cases_lt there.0 i)
     same : text_cmp (get_or names there.0 x) x ≡ Equal
     same = ap (λ (y : List ℕ). text_cmp y x) there.2 ∙ compared_itself x
 
-    by : ((there.0 < i) ⊎ (i ≤ there.0)) → IsOk {ℕ} {ℕ} (Err i)
+    by : ((there.0 < i) ⊎ (i ≤ there.0)) → ⊥
     by (inl l) =
-        absurd (let no : Less ≡ Equal = sym (parted.0 there.0 x (omega arith) l) ∙ same in cc)
+        let no : Less ≡ Equal = sym (parted.0 there.0 x (omega arith) l) ∙ same in cc
     by (inr l) =
-        absurd (let no : Greater ≡ Equal = sym (parted.1 there.0 x l there.1) ∙ same in cc)
+        let no : Greater ≡ Equal = sym (parted.1 there.0 x l there.1) ∙ same in cc
 
 module _ (columns : List Column) (names : List (List ℕ)) (places new : List ℕ) (i place : ℕ)
     (column : Column) (r : Result ℕ ℕ) (within : i < length columns)
@@ -103,23 +106,29 @@ module _ (columns : List Column) (names : List (List ℕ)) (places new : List �
     (before : (k : ℕ) → k < i
     → slice_get names (get_or places k 0) ≡ Some (nth_column columns k).header)
   where
-  header : slice_get names place ≡ Some column.header
-  header =
-      let place_within : place < length names = subst (λ s. IsSearchInRange s (length names)) at bound in
-      let equal = subst (λ s. IfOk s (HoldsAt (λ y. text_cmp y column.header ≡ Equal) names)) at searched in
-      slice_get-get_or names place column.header place_within
-      ∙ ap Some (text_exact.exact (get_or names place column.header) column.header (equal column.header))
+    header : slice_get names place ≡ Some column.header
+    header =
+        let place_within : place < length names =
+        subst (λ s. IsSearchInRange s (length names)) at bound in
+        let equal =
+        subst (λ s. IfOk s (HoldsAt (λ y. text_cmp y column.header ≡ Equal) names)) at searched in
+        slice_get-get_or names place column.header place_within
+        ∙ ap Some (text_exact.exact (get_or names place column.header) column.header
+        (equal column.header))
 
-  pub places-more : (k : ℕ) → k < i + 1
-      → slice_get names (get_or new k 0) ≡ Some (nth_column columns k).header
-  places-more k l = by (below_or_at k i l)
-    where
-      by : ((k < i) ⊎ (i ≡ k)) → slice_get names (get_or new k 0) ≡ Some (nth_column columns k).header
-      by (inl m) =
-          ap (λ ns. slice_get names (get_or ns k 0)) added
-          ∙ ap (slice_get names) (get_or_append_left places (place ∷ []) 0 k (omega (arith, m, counted)))
-          ∙ before k m
-      by (inr e) =
-          let last : get_or new k 0 ≡ place = ap (λ ns. get_or ns k 0) added ∙ get_or_push places place 0 k (counted ∙ e) in
-          ap (slice_get names) last ∙ header ∙ ap Some (header-at columns i column within is)
-          ∙ ap (λ (j : ℕ). Some (nth_column columns j).header) e
+    pub places-more : (k : ℕ) → k < i + 1
+        → slice_get names (get_or new k 0) ≡ Some (nth_column columns k).header
+    places-more k l = by (below_or_at k i l)
+      where
+        by : ((k < i) ⊎ (i ≡ k))
+            → slice_get names (get_or new k 0) ≡ Some (nth_column columns k).header
+        by (inl m) =
+            ap (λ ns. slice_get names (get_or ns k 0)) added
+            ∙ ap (slice_get names)
+            (get_or_append_left places (place ∷ []) 0 k (omega (arith, m, counted)))
+            ∙ before k m
+        by (inr e) =
+            let last : get_or new k 0 ≡ place =
+            ap (λ ns. get_or ns k 0) added ∙ get_or_push places place 0 k (counted ∙ e) in
+            ap (slice_get names) last ∙ header ∙ ap Some (header-at columns i column within is)
+            ∙ ap (λ (j : ℕ). Some (nth_column columns j).header) e

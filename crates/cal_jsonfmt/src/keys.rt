@@ -62,11 +62,7 @@ fn listed(alloc: Global, set: BTreeSet<Text>) -> Result<Vec<Text>, OutOfMemory>
 }
 
 /// Of each column the place of its header among these.
-fn places(
-    alloc: Global,
-    columns: &[Column],
-    names: &[Text],
-) -> Result<Vec<usize>, OutOfMemory>
+fn places(alloc: Global, columns: &[Column], names: &[Text]) -> Result<Vec<usize>, OutOfMemory>
     requires ascend { Ascend names.now }
     requires headers { (k : ℕ) → k < length columns.now
         → Contains names.now (nth_column columns.now k).header }

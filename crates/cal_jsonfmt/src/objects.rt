@@ -46,13 +46,7 @@ impl Objects {
     {
         choose_none(&mut self.chosen, self.keys.names.len())?;
         choose(&mut self.chosen, columns, &self.keys, shown);
-        write_object(
-            writer,
-            columns,
-            &self.keys.names,
-            &self.chosen,
-            shown,
-        )
+        write_object(writer, columns, &self.keys.names, &self.chosen, shown)
     }
 }
 

@@ -1,4 +1,4 @@
-use Rattle.std.proofs.Common.{◌++◌, ℕ, List, length, length-append, ap, arith, subst, sym, ◌∙◌}
+use Rattle.std.proofs.Common.{ℕ, length, length-append, ap, arith, subst, sym}
 use Rattle.std.specs.List.{Contains}
 use Rattle.cal_jsonfmt.proofs.KeyLemmas.{found, header-at, places-more}
 use Rattle.cal_jsonfmt.proofs.keys.places.Goals as goal
@@ -14,8 +14,12 @@ unwrap-requires c =
 
 pub loop-column-preserved : goal.loop-column-preserved
 loop-column-preserved c = record {
-  counted = omega (arith, length-append {A = ℕ}, ap length c.in_ok-push.ensures.items,
-      c.loop-column.invariant.counted);
+  counted = omega (
+    arith,
+    length-append {A = ℕ},
+    ap length c.in_ok-push.ensures.items,
+    c.loop-column.invariant.counted,
+  );
   header = places-more c.args.columns.now c.args.names.now c.loop-column.places.items
       c.push.new.self.items c.loop-column.column-index c.unwrap.result c.column-item.result
       c.binary_search.result c.loop-column-test.true c.column-item.is

@@ -1,4 +1,4 @@
-use Rattle.std.proofs.Common.{ℕ, List, Option, None, length, map, replicate, refl, sym, ap, ◌∙◌, subst, arith}
+use Rattle.std.proofs.Common.{ℕ, List, Option, None, length, map, refl, sym, ap, ◌∙◌, subst, arith}
 use Rattle.std.proofs.lemmas.List.{length-replicate}
 use Rattle.cal_jsonfmt.specs.Choosing.{AreWithin, members_of, value_at}
 use Rattle.cal_jsonfmt.proofs.ChoosingLemmas.{members-more_chosen, members-none, place-header, place-within, within-none}
