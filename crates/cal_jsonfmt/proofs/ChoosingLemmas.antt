@@ -1,19 +1,15 @@
 -- Members by the places of their keys.
-use Rattle.std.proofs.Common.{◌≡◌, ℕ, ℤ, zero, suc, ◌+◌, ◌<◌, ◌≤◌, Bool, true, false, ◌⊎◌, inl, inr, List, [], ◌∷◌, ◌++◌, length, get_or, set, replicate, take, fold, map, Option, None, Some, slice_get, Ordering, Less, Equal, Greater, nat_cmp, refl, sym, ap, ◌∙◌, arith, subst, All}
+use Rattle.std.proofs.Common.{◌≡◌, ℕ, ℤ, zero, suc, ◌+◌, ◌<◌, ◌≤◌, true, false, ◌⊎◌, inl, inr, List, [], ◌∷◌, ◌++◌, length, get_or, set, replicate, take, fold, map, Option, None, Some, slice_get, Less, Greater, nat_cmp, refl, sym, ap, ◌∙◌, arith, subst}
 use Rattle.std.specs.BTreeMap.{insert_entry}
 use Rattle.std.specs.Cmp.Lexicographic.{slice_cmp}
 use Rattle.std.specs.Fmt.{signed_decimal}
-use Rattle.std.specs.List.{IsDistinct}
-use Rattle.std.specs.List.Sorted.{IsSorted, IsStrictlySortedBy}
-use Rattle.std.specs.Ordering.{eq_by_cmp, is_eq, is_lt, match_ordering, ordering_reverse}
+use Rattle.std.specs.Ordering.{ordering_reverse}
 use Rattle.std.proofs.lemmas.Bool.{cases_lt}
 use Rattle.std.proofs.lemmas.List.{get_or-set_other, get_or-set_same, length-map, length-set, map-set, take_more}
-use Rattle.std.proofs.lemmas.List.Elements.{recursion_from_All}
-use Rattle.std.proofs.lemmas.List.Sorted.{ranks_by, sorted_far}
-use Rattle.std.proofs.lemmas.Map.Keys.{apart_from_distinct, sorted_tail}
+use Rattle.std.proofs.lemmas.Map.Keys.{sorted_tail}
 use Rattle.std.proofs.lemmas.Map.Views.{All-after_first}
 use Rattle.std.proofs.lemmas.Option.{get_or_from_slice_get, slice_get_within}
-use Rattle.cal_value.specs.ExactOrder.{exact_equiv, text_exact}
+use Rattle.cal_value.specs.ExactOrder.{text_exact}
 use Rattle.cal_value.specs.declared.record.Rec.{Rec}
 use Rattle.cal_value.specs.declared.variant.Variant as variants
 use Rattle.cal_value.specs.declared.variant.Variant.TheVariants as variant
@@ -24,42 +20,11 @@ use Rattle.cal_rowset.specs.declared.cell.Cell.{Cell}
 use Rattle.cal_rowset.specs.declared.cell.Content.TheVariants.{Whole}
 use Rattle.cal_rowset.specs.declared.rowset.Column.{Column}
 use Rattle.cal_rowset.proofs.Showing.{Shows-nothing}
+use Rattle.cal_jsonfmt.proofs.KeyLemmas.{compared_itself}
 use Rattle.cal_jsonfmt.specs.Choosing.{AreWithin, ArePlacesOf, Ascend, IsWithin, ShowsCell, members_of, value_at, with_choice}
 use Rattle.cal_jsonfmt.specs.Json.{Member, json_of, members, value_json, with_member}
 
--- ---- keys in order
-
-less_by : (o : Ordering) → is_lt (ordering_reverse o) ≡ false → is_eq o ≡ false → o ≡ Less
-less_by Less before other = refl
-less_by Equal before other = cc
-less_by Greater before other = cc
-
-Ascend-from_below : (keys : List (List ℕ)) → ((i k : ℕ) (d : List ℕ) → i < k → k < length keys → slice_cmp nat_cmp (get_or keys i d) (get_or keys k d) ≡ Less) → Ascend keys
-unfolding IsStrictlySortedBy
-Ascend-from_below [] below = tt
-Ascend-from_below (key ∷ keys) below = (
-  recursion_from_All (λ (y : List ℕ). slice_cmp nat_cmp key y ≡ Less) keys (λ k d l. below 0 (suc k) d (omega arith) (omega (arith, l))),
-  Ascend-from_below keys (λ i k d l m. below (suc i) (suc k) d (omega (arith, l)) (omega (arith, m))),
-)
-
--- sorted texts, none of which is there twice, ascend
-pub Ascend-sorted : (keys : List (List ℕ)) → IsSorted (slice_cmp nat_cmp) keys → IsDistinct (eq_by_cmp (slice_cmp nat_cmp)) keys → Ascend keys
-Ascend-sorted keys sorted distinct = Ascend-from_below keys (λ i k d l m.
-    less_by (slice_cmp nat_cmp (get_or keys i d) (get_or keys k d))
-    (ap is_lt (sym (text_exact.total.antisymm (get_or keys k d) (get_or keys i d)))
-    ∙ sorted_far (λ x y. is_lt (slice_cmp nat_cmp x y)) (ranks_by text_exact.total (λ x. x)) keys sorted i k d (omega (arith, l)) m)
-    (apart_from_distinct (eq_by_cmp (slice_cmp nat_cmp)) keys i k d distinct l m))
-
 -- ---- a value put under its key
-
--- of a text with itself
-compared_itself : (key : List ℕ) → slice_cmp nat_cmp key key ≡ Equal
-compared_itself key = by (slice_cmp nat_cmp key key) ((exact_equiv text_exact).refl key)
-  where
-    by : (o : Ordering) → is_eq o ≡ true → o ≡ Equal
-    by Less e = cc
-    by Equal e = refl
-    by Greater e = cc
 
 insert-front : (key value : List ℕ) (keys : List (List ℕ)) (values : List (Option (List ℕ))) → ((k : ℕ) → k < length keys → slice_cmp nat_cmp key (get_or keys k []) ≡ Less)
     → insert_entry (slice_cmp nat_cmp) (members_of keys values) key value ≡ (key, value) ∷ members_of keys values

@@ -30,8 +30,8 @@ pub record ArePlacesOf (keys : List (List ℕ)) (columns : List Column) (places 
 
 -- the keys of objects in these columns
 pub record AreKeysOf (k : Keys) (columns : List Column) : Type 0 where
-  pub ascend : Ascend k.names.keys
-  pub places : ArePlacesOf k.names.keys columns k.places.items
+  pub ascend : Ascend k.names.items
+  pub places : ArePlacesOf k.names.items columns k.places.items
 
 -- objects in these columns
 pub record AreFor (o : Objects) (columns : List Column) : Type 0 where

@@ -46,13 +46,7 @@ impl Objects {
     {
         choose_none(&mut self.chosen, self.keys.names.len())?;
         choose(&mut self.chosen, columns, &self.keys, shown);
-        write_object(
-            writer,
-            columns,
-            self.keys.names.as_slice(),
-            &self.chosen,
-            shown,
-        )
+        write_object(writer, columns, &self.keys.names, &self.chosen, shown)
     }
 }
 
@@ -70,11 +64,11 @@ fn choose_none(chosen: &mut Vec<Option<usize>>, count: usize) -> Result<(), OutO
 /// Chooses of the columns with one key the last one whose cell is there.
 fn choose(chosen: &mut Vec<Option<usize>>, columns: &[Column], keys: &Keys, shown: &ShownRow)
     requires keys { AreKeysOf keys.now columns.now }
-    requires none { chosen.old.items ≡ replicate (length keys.now.names.keys) None }
-    ensures counted { length chosen.new.items ≡ length keys.now.names.keys }
+    requires none { chosen.old.items ≡ replicate (length keys.now.names.items) None }
+    ensures counted { length chosen.new.items ≡ length keys.now.names.items }
     ensures within { AreWithin columns.now chosen.new.items }
     ensures members { (row : Rec) → ShowsRow shown.now columns.now row
-        → members_of keys.now.names.keys (map (value_at columns.now row) chosen.new.items)
+        → members_of keys.now.names.items (map (value_at columns.now row) chosen.new.items)
         ≡ members columns.now row }
 {
     for column in 0..columns.len() {

@@ -1,19 +1,17 @@
 -- The query of a channel is made, and is valid.
 use Rattle.std.proofs.Common.{◌≡◌, ℕ, ◌+◌, ◌<◌, Bool, true, false, not, List, [], ◌∷◌, ◌++◌}
-use Rattle.std.proofs.Common.{length, get_or, take, map, refl, sym, ap, ◌∙◌, append-nil}
-use Rattle.std.specs.Prelude.{nat_eq}
-use Rattle.std.specs.Cmp.Lexicographic.{pointwise}
+use Rattle.std.proofs.Common.{length, get_or, take, refl, sym, ap, ◌∙◌, append-nil}
+use Rattle.std.specs.BTreeSet.{BTreeSet, contains}
 use Rattle.cal_profile.specs.Groups.{agg_of, aggs_of, channel_query, value_aggs}
 use Rattle.cal_value.specs.Texts.{text_cmp}
-use Rattle.std.specs.List.{flat_map, list_any}
-use Rattle.std.specs.Ordering.{eq_by_cmp}
+use Rattle.std.specs.List.{flat_map}
 use Rattle.std.proofs.lemmas.Bool.{cond-false, cond-true}
 use Rattle.std.proofs.lemmas.Grind.{flat_map-append}
 use Rattle.std.proofs.lemmas.List.{take_more}
 use Rattle.cal_ql.proofs.Onces.{all_once, known_name}
 use Rattle.cal_ql.proofs.ValidAggs.{first_of_each_distinct}
 use Rattle.cal_ql.specs.Kernels.{first_of_each, result_name}
-use Rattle.cal_ql.specs.Once.{with_all_new, with_new}
+use Rattle.cal_ql.specs.Once.{has_name, with_all_new, with_new}
 use Rattle.cal_ql.specs.Valid.{IsValidQuery}
 use Rattle.cal_ql.specs.declared.names.KernelName as kernels
 use Rattle.cal_ql.specs.declared.query.Agg.{Agg}
@@ -51,16 +49,14 @@ valid-query channel = record { lets = tt; aggs = first_of_each_distinct (aggs_of
 
 -- ---- one kernel more
 
-module _ (keys : List (List ℕ)) (aggs : List Agg) (kernel : kernels.KernelName)
+module _ (names : BTreeSet (List ℕ)) (aggs : List Agg) (kernel : kernels.KernelName)
     (attr copied name : List ℕ) (new : Bool)
-    (named : keys ≡ map (λ (agg : Agg). agg.name) aggs) (same : copied ≡ attr)
+    (named : (q : List ℕ) → contains text_cmp names q ≡ has_name aggs q) (same : copied ≡ attr)
     (is : name ≡ result_name kernel attr)
-    (told : new ≡ not (list_any (eq_by_cmp text_cmp name) keys)) where
+    (told : new ≡ not (contains text_cmp names name)) where
   -- whether one of its name is there
-  known : list_any (λ (agg : Agg). pointwise nat_eq (result_name kernel attr) agg.name) aggs
-      ≡ not new
-  known = ap (λ (n : List ℕ). list_any (λ (agg : Agg). pointwise nat_eq n agg.name) aggs) (sym is)
-      ∙ known_name keys aggs name new named told
+  known : has_name aggs (result_name kernel attr) ≡ not new
+  known = ap (has_name aggs) (sym is) ∙ known_name names aggs name new named told
 
   pub kept_new : new ≡ true
       → aggs ++ record { kernel = kernel; attr = copied; name = name } ∷ []

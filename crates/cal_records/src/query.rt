@@ -9,13 +9,13 @@ ghost use Rattle.cal_records.specs.Kept.{AreNamed};
 use cal_ql::{Agg, Format, KernelName, Query};
 use cal_script::ChannelQuery;
 use cal_value::{OutOfMemory, Seq, Text, TryCopy};
-use indexmap::IndexSet;
 use std::alloc::Global;
+use std::collections::BTreeSet;
 
 /// Kernels, each result name once, and those names.
 #[derive(Drop)]
 pub(crate) struct Kept {
-    names: IndexSet<Text>,
+    names: BTreeSet<Text>,
     aggs: Seq<Agg>,
 }
 
@@ -52,7 +52,7 @@ fn kept_aggs(alloc: Global, values: &[Text]) -> Result<Seq<Agg>, OutOfMemory>
     ensures { IfOk result (λ aggs. aggs ≡ first_of_each (aggs_of values.now)) }
 {
     let mut kept = Kept {
-        names: IndexSet::new(alloc),
+        names: BTreeSet::new(alloc),
         aggs: Seq::new(alloc),
     };
     kept.add(alloc, KernelName::Count, "", "count")?;

@@ -8,7 +8,7 @@ use Rattle.cal_jsonfmt.proofs.objects.choose.Given as goal
 -- the columns so far are chosen from
 abbrev pub invariant-loop-column : goal.invariant-loop-column
 invariant-loop-column l = record {
-  counted : length l.chosen.items ≡ length l.keys.names.keys;
+  counted : length l.chosen.items ≡ length l.keys.names.items;
   within : AreWithin l.columns l.chosen.items;
-  members : (row : Rec) → ShowsRow l.shown l.columns row → members_of l.keys.names.keys (map (value_at l.columns row) l.chosen.items) ≡ members (take l.column l.columns) row;
+  members : (row : Rec) → ShowsRow l.shown l.columns row → members_of l.keys.names.items (map (value_at l.columns row) l.chosen.items) ≡ members (take l.column l.columns) row;
 }

@@ -1,9 +1,18 @@
-use Rattle.std.proofs.Common.{[], sym, ap, ◌∙◌}
+use Rattle.std.proofs.Common.{List, [], sym, ap, ◌∙◌}
+use Rattle.std.specs.BTreeMap.{is_at}
+use Rattle.std.specs.List.{list_any}
 use Rattle.std.proofs.lemmas.List.{take_all}
+use Rattle.cal_value.specs.Texts.{text_cmp}
 use Rattle.cal_profile.specs.Groups.{aggs_of, value_aggs}
-use Rattle.cal_ql.specs.Once.{with_all_new}
+use Rattle.cal_ql.specs.Once.{has_name, with_all_new}
+use Rattle.cal_ql.specs.declared.query.Agg.{Agg}
 use Rattle.cal_records.proofs.QueryLemmas.{results-all, results-more}
 use Rattle.cal_records.proofs.query.kept_aggs.Goals as goal
+
+pub add-requires-clause-named : goal.add-requires-clause-named
+add-requires-clause-named c = λ name.
+    ap (list_any (is_at (text_cmp name))) c.new.ensures.empty
+    ∙ sym (ap (λ (aggs : List Agg). has_name aggs name) c.new-2.ensures)
 
 pub loop-value-preserved : goal.loop-value-preserved
 loop-value-preserved c =

@@ -10,6 +10,6 @@ returns-clause-written c =
     on_ok_weaker c.write_object.result
     (λ writes row shows.
     subst (λ (ms : List Member). WritesValue c.args.writer.now c.write_object.new.writer (object_json ms))
-    ((λ j. members_of (c.as_slice.ensures.keys j) (map (value_at c.args.columns.now row) (c.deref.ensures.value j))) ∙ c.choose.ensures.members row shows)
+    ((λ j. members_of (c.deref.ensures.value j) (map (value_at c.args.columns.now row) (c.deref-2.ensures.value j))) ∙ c.choose.ensures.members row shows)
     (writes row shows))
     c.write_object.ensures
