@@ -80,13 +80,7 @@ fn run_all<
     H: PartHand + Send,
     K: Clock + Send,
     G: Gate + Sync,
->(
-    rt: &R,
-    alloc: Global,
-    shared: &Shared<'_>,
-    shifts: &mut [Shift<'a, P, H, K>],
-    gate: &G,
-)
+>(rt: &R, alloc: Global, shared: &Shared<'_>, shifts: &mut [Shift<'a, P, H, K>], gate: &G)
     requires shared { IsShared shared.now }
     requires hired { All (λ s. IsHiredRunner H.account H.takes shared.now s.runner) shifts.old }
     ensures many { length shifts.new ≡ length shifts.old }
