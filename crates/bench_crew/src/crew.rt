@@ -1,5 +1,6 @@
 //! The running threads of a script, timed from their hiring until each has done its lines.
 ghost use Rattle.std.specs.Prelude.{◌≡◌, ◌≤◌, All, length};
+ghost use Rattle.cal_keeping.specs.Hands.{IsAtBooks, account_in};
 ghost use Rattle.cal_keeping.specs.Runners.{IsHiredRunner};
 ghost use Rattle.cal_replay.specs.Workers.{IsShared, script_of};
 ghost use Rattle.cal_script.specs.Valid.{IsRunnable};
@@ -10,7 +11,7 @@ use crate::clocks::clocks;
 use anyhow::Result;
 use cal_base::{MemClock, OpenGate};
 use cal_crew::run_threads;
-use cal_keeping::Runner;
+use cal_keeping::{BookHand, Runner};
 use cal_replay::Shared;
 use cal_run::Formulas;
 use cal_script::Script;
@@ -64,11 +65,11 @@ fn hire<R: Clock + Print + AllocGlobal + Threads + Sync>(
 fn time_threads<R: Clock + AllocGlobal + Threads + Sync>(
     rt: &R,
     shared: &Shared<'_>,
-    runners: Vec<Runner<'_, Formulas>>,
+    runners: Vec<Runner<'_, Formulas, BookHand<'_>>>,
     clocks: &mut Vec<MemClock>,
 ) -> Result<Duration>
     requires shared { IsShared shared.now }
-    requires hired { All (IsHiredRunner shared.now) runners.items }
+    requires hired { All (IsHiredRunner account_in IsAtBooks shared.now) runners.items }
     requires clocks { length runners.items ≤ length clocks.old.items }
 {
     let begun = Instant::now(rt);

@@ -1,11 +1,30 @@
-use Rattle.std.proofs.Common.{◌+◌, List, Bor, sym, ap, ◌∙◌, subst}
+use Rattle.std.proofs.Common.{◌+◌, List, Bor, map, sym, ap, ◌∙◌, subst}
 use Rattle.std.proofs.lemmas.List.{with_items_is}
+use Rattle.cal_book.specs.Seats.{shape_of}
+use Rattle.cal_keeping.specs.declared.book_hand.BookHand.{BookHand}
 use Rattle.cal_replay.specs.Flushing.{BookOf, SeatOf}
 use Rattle.cal_run.specs.declared.numbers.Numbers.{Numbers}
+use Rattle.cal_start.proofs.NewHands.{nothing-done, takes-all}
 use Rattle.cal_start.proofs.OneHired.{hired-for}
 use Rattle.cal_start.specs.FirstSeats.{AreFirstSeats}
 use Rattle.cal_thread.specs.declared.thread.Thread.{Thread}
 use Rattle.cal_start.proofs.run.Run.hire_one.Goals as goal
+
+-- its hand takes tables of the books' shapes
+pub new-requires-clause-takes : goal.new-requires-clause-takes
+new-requires-clause-takes g c =
+    takes-all c.args.number
+    (record { books = c.as_slice-books.result; seats = c.in_ok-seats.seats })
+    c.in_ok-seats.ensures.new c.as_slice.result.now
+    (ap (λ (bs : List BookOf). map shape_of bs) c.as_slice-books.ensures.value
+    ∙ (c.requires.run.books.made ∙ sym c.as_slice.ensures.value))
+
+-- and has done nothing
+pub new-requires-clause-nothing : goal.new-requires-clause-nothing
+new-requires-clause-nothing g c =
+    nothing-done c.args.number
+    (record { books = c.as_slice-books.result; seats = c.in_ok-seats.seats })
+    c.in_ok-seats.ensures.new
 
 pub returns-clause-hired : goal.returns-clause-hired
 returns-clause-hired g c =
@@ -17,7 +36,7 @@ returns-clause-hired g c =
     (ap (λ (t : Thread). t.number) worker.thread ∙ thread.number)
     kept.fresh kept.ready kept.thread
     (ap (λ (b : Bor Numbers). b.now) kept.numbers)
-    (ap (λ (b : Bor (List BookOf)). b.now) kept.books ∙ c.as_slice-books.ensures.value)
+    (ap (λ (h : BookHand). h.books.now) kept.hand ∙ c.as_slice-books.ensures.value)
 
 pub returns-clause-first : goal.returns-clause-first
 returns-clause-first g c =
