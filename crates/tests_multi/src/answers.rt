@@ -89,22 +89,29 @@ fn files(alloc: Global, streams: &[&str]) -> Result<Vec<Vec<u8>>, OutOfMemory> {
     Ok(all)
 }
 
-/// The layout of a query's answer over files.
+/// The layout of a query's answer over files, by these seeds.
 fn answer_text<R: Threads + Sync>(
     rt: &R,
     alloc: Global,
+    seeds: Seeds,
     query: &Query,
     files: &[Vec<u8>],
 ) -> Result<Text, ManyEnd>
     requires query { IsValidQuery query.now }
     requires few { length files.now < 2 ^ 32 }
 {
-    let answer = answer_many(rt, alloc, Seeds::fixed(), query, files)?;
+    let answer = answer_many(rt, alloc, seeds, query, files)?;
     Ok(lay_out(alloc, query.format, &answer)?)
 }
 
-/// What a row comes to. A text that is no query, and too many files, are told as want of memory.
-fn text<R: Threads + Sync>(rt: &R, alloc: Global, row: &Row) -> Result<Text, ManyEnd> {
+/// What a row comes to by these seeds. A text that is no query, and too many files, are told as want
+/// of memory.
+fn text<R: Threads + Sync>(
+    rt: &R,
+    alloc: Global,
+    seeds: Seeds,
+    row: &Row,
+) -> Result<Text, ManyEnd> {
     let Ok(query) = parse_query(alloc, row.0) else {
         return Err(ManyEnd::OutOfMemory);
     };
@@ -112,22 +119,42 @@ fn text<R: Threads + Sync>(rt: &R, alloc: Global, row: &Row) -> Result<Text, Man
     if files.len() > 100 {
         return Err(ManyEnd::OutOfMemory);
     }
-    answer_text(rt, alloc, &query, files.as_slice())
+    answer_text(rt, alloc, seeds, &query, files.as_slice())
 }
 
-fn is_right<R: Threads + Sync>(rt: &R, alloc: Global, row: &Row) -> bool {
-    match (text(rt, alloc, row), row.2) {
+fn is_right<R: Threads + Sync>(rt: &R, alloc: Global, seeds: Seeds, row: &Row) -> bool {
+    match (text(rt, alloc, seeds, row), row.2) {
         (Ok(text), Ok(wanted)) => text.as_str() == wanted,
         (Err(end), Err(wanted)) => end == wanted,
         _ => false,
     }
 }
 
+/// Whether each row comes to what it should by these seeds.
+fn are_right<R: Threads + Sync>(rt: &R, alloc: Global, seeds: Seeds, rows: &[Row]) -> bool {
+    for row in rows {
+        if !is_right(rt, alloc, seeds, row) {
+            return false;
+        }
+    }
+    true
+}
+
 #[test]
 fn answers_are_over_all_files_in_their_order(rt: HostRuntime) {
     let rows = &ROWS;
     for (place, row) in rows.iter().enumerate() {
-        let right = is_right(&rt, rt.alloc(), row);
+        let right = is_right(&rt, rt.alloc(), Seeds::fixed(), row);
         assert_eq!(rt; right, true, "row {place}");
     }
+}
+
+#[test]
+fn other_seeds_give_the_same_answers(rt: HostRuntime) {
+    let others = Seeds {
+        start: 5,
+        factor: 7,
+    };
+    let right = are_right(&rt, rt.alloc(), others, &ROWS);
+    assert_eq!(rt; right, true);
 }

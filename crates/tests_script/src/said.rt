@@ -1,5 +1,8 @@
 use crate::drawn::fault_of;
-use cal_script::{Line, ProbeKind, Script, ScriptKind, Ticks, meaning_law, read_script};
+use cal_script::{
+    Line, ProbeKind, Script, ScriptKind, Ticks, meaning_law, read_script, read_script_seeded,
+};
+use cal_seeds::Seeds;
 use cal_value::{Kind, OutOfMemory, Props, Variant};
 use std::alloc::Global;
 
@@ -88,10 +91,27 @@ fn is_whole(script: &Script) -> bool {
         && has_profile(script)
 }
 
+/// The same by other seeds.
+fn says_whole_by(alloc: Global, seeds: Seeds) -> bool {
+    match read_script_seeded(alloc, seeds, WHOLE.as_bytes()) {
+        Ok(script) => is_whole(&script),
+        Err(_) => false,
+    }
+}
+
 #[test]
 fn a_script_is_plain_data(rt: HostRuntime) {
     meaning_law();
     assert!(rt; says_whole(rt.alloc()));
+}
+
+#[test]
+fn other_seeds_give_the_same_script(rt: HostRuntime) {
+    let others = Seeds {
+        start: 5,
+        factor: 7,
+    };
+    assert!(rt; says_whole_by(rt.alloc(), others));
 }
 
 /// Kinds, values, and whether each is one of its kind.
