@@ -49,7 +49,7 @@ fn run_text_in(
     ensures { IfOk result (λ text. text ≡ canonical_text (records_of script.now journal.now)) }
 {
     let numbers = Numbers::of(alloc, script, context)?;
-    let mut writer = Writer::new(alloc)?;
+    let mut writer = Writer::seeded(alloc, context.seeds())?;
     let Ok(globals) = write_run(alloc, script, journal, &numbers, context, &mut writer) else {
         drop(writer);
         return Err(OutOfMemory);
@@ -108,7 +108,7 @@ fn plain_text_in(
     ensures refused { IfOk result (λ made. CountsRefused script.now made.1) }
 {
     let numbers = Numbers::of(alloc, script, context)?;
-    let mut writer = Writer::new(alloc)?;
+    let mut writer = Writer::seeded(alloc, context.seeds())?;
     let Ok((globals, refused)) = write_plain(alloc, script, &numbers, context, &mut writer) else {
         drop(writer);
         return Err(OutOfMemory);

@@ -10,6 +10,7 @@ ghost use Rattle.cal_engine.specs.Learning.{learned, learned_one, names_beside};
 
 use cal_ql::{Agg, Item, Query};
 use cal_rowset::{Column, is_of_hierarchy};
+use cal_seeds::Seeds;
 use cal_value::{Entry, OutOfMemory, Rec, Seq, Text, TryCopy};
 use indexmap::IndexSet;
 use std::alloc::Global;
@@ -94,21 +95,27 @@ fn shown_columns(alloc: Global, rows: &[Rec]) -> Result<Seq<Column>, OutOfMemory
     Ok(Seq::from_vec(columns))
 }
 
+/// The names that rows show. They hash by numbers that everybody knows, since records alone have no
+/// run.
 #[tactic(auto, using(crate::proofs::Learned::learned_shown))]
-fn shown(alloc: Global, rows: &[Rec]) -> Result<IndexSet<Text>, OutOfMemory>
+fn shown(alloc: Global, rows: &[Rec]) -> Result<IndexSet<Text, Seeds>, OutOfMemory>
     ensures { IfOk result (λ names. names.keys ≡ shown_names rows.now) }
 {
-    let mut names = first_names(alloc, some_hierarchy(rows))?;
+    let mut names = first_names(alloc, Seeds::fixed(), some_hierarchy(rows))?;
     learn_rows(alloc, &mut names, rows)?;
     Ok(names)
 }
 
-/// `path`, where some row has a hierarchy.
-pub(crate) fn first_names(alloc: Global, nested: bool) -> Result<IndexSet<Text>, OutOfMemory>
+/// `path`, where some row has a hierarchy. Names hash by these seeds.
+pub(crate) fn first_names(
+    alloc: Global,
+    seeds: Seeds,
+    nested: bool,
+) -> Result<IndexSet<Text, Seeds>, OutOfMemory>
     ensures { IfOk result (λ names. names.keys
         ≡ (if nested then codes "path" ∷ [] else [])) }
 {
-    let mut names = IndexSet::new(alloc);
+    let mut names = IndexSet::with_hasher(alloc, seeds);
     if !nested {
         return Ok(names);
     }
@@ -123,7 +130,11 @@ fn some_hierarchy(rows: &[Rec]) -> bool
 }
 
 /// Learns the names of the entries of rows, those of hierarchies aside.
-fn learn_rows(alloc: Global, names: &mut IndexSet<Text>, rows: &[Rec]) -> Result<(), OutOfMemory>
+fn learn_rows(
+    alloc: Global,
+    names: &mut IndexSet<Text, Seeds>,
+    rows: &[Rec],
+) -> Result<(), OutOfMemory>
     ensures { OnOk result (names.new.keys ≡ learned names.old.keys
         (flat_map (λ row. map (λ e. e.attr.name) (other_entries row)) rows.now)) }
 {
@@ -133,7 +144,7 @@ fn learn_rows(alloc: Global, names: &mut IndexSet<Text>, rows: &[Rec]) -> Result
     Ok(())
 }
 
-fn learn_row(alloc: Global, names: &mut IndexSet<Text>, row: &Rec) -> Result<(), OutOfMemory>
+fn learn_row(alloc: Global, names: &mut IndexSet<Text, Seeds>, row: &Rec) -> Result<(), OutOfMemory>
     ensures { OnOk result (names.new.keys
         ≡ learned names.old.keys (map (λ e. e.attr.name) (other_entries row.now))) }
 {
@@ -147,7 +158,7 @@ fn learn_row(alloc: Global, names: &mut IndexSet<Text>, row: &Rec) -> Result<(),
 /// Learns the names of entries, in paths of those that aren't of the hierarchy.
 fn learn_entries(
     alloc: Global,
-    names: &mut IndexSet<Text>,
+    names: &mut IndexSet<Text, Seeds>,
     in_path: bool,
     entries: &[Entry],
 ) -> Result<(), OutOfMemory>
@@ -165,7 +176,7 @@ fn learn_entries(
 /// Learns a name, which is copied where it is new.
 pub(crate) fn learn(
     alloc: Global,
-    names: &mut IndexSet<Text>,
+    names: &mut IndexSet<Text, Seeds>,
     name: &Text,
 ) -> Result<(), OutOfMemory>
     ensures { OnOk result (names.new.keys ≡ learned_one names.old.keys name.now) }

@@ -7,6 +7,7 @@ ghost use Rattle.cal_engine.specs.Visiting.{KnowsNames};
 use crate::columns::learn;
 use cal_context::{AttributeNumber, Context, Immediate};
 use cal_rowset::is_of_hierarchy;
+use cal_seeds::Seeds;
 use cal_value::{OutOfMemory, Text};
 use indexmap::IndexSet;
 use std::alloc::Global;
@@ -14,7 +15,7 @@ use std::alloc::Global;
 /// Names that are learned from the attributes of a context, each once.
 #[derive(Drop)]
 pub(crate) struct ShownNames {
-    pub(crate) names: IndexSet<Text>,
+    pub(crate) names: IndexSet<Text, Seeds>,
     // by an attribute's number, whether its name is known to be among them
     known: Vec<bool>,
 }
@@ -24,7 +25,7 @@ impl ShownNames {
     pub(crate) fn new(
         alloc: Global,
         context: &Context,
-        names: IndexSet<Text>,
+        names: IndexSet<Text, Seeds>,
     ) -> Result<ShownNames, OutOfMemory>
         ensures names { IfOk result (λ shown. shown.names.keys ≡ names.keys) }
         ensures knows { IfOk result (KnowsNames context.now) }

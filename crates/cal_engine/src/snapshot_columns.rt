@@ -18,6 +18,7 @@ use crate::visits::Visits;
 use cal_context::{AttributeNumber, Context, NodeNumber};
 use cal_ql::Query;
 use cal_rowset::{Column, SnapshotList, is_of_hierarchy};
+use cal_seeds::Seeds;
 use cal_value::{OutOfMemory, Seq, Text};
 use indexmap::IndexSet;
 use std::alloc::Global;
@@ -67,13 +68,14 @@ fn shown(
     context: &Context,
     rows: &SnapshotList,
     order: &[usize],
-) -> Result<IndexSet<Text>, OutOfMemory>
+) -> Result<IndexSet<Text, Seeds>, OutOfMemory>
     requires { All (IsWithin context.now) rows.now }
     ensures { IfOk result (λ names.
         names.keys ≡ shown_names (map (meant context.now) (in_order rows.now order.now))) }
 {
     let nested = some_hierarchy(alloc, context, rows, order)?;
-    let mut shown = ShownNames::new(alloc, context, first_names(alloc, nested)?)?;
+    let first = first_names(alloc, context.seeds(), nested)?;
+    let mut shown = ShownNames::new(alloc, context, first)?;
     learn_rows(alloc, &mut shown, context, rows, order)?;
     Ok(shown.names)
 }

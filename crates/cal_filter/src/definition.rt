@@ -29,6 +29,7 @@ use crate::value_of_number;
 use cal_agg::Num;
 use cal_context::{AttributeNumber, Context, Immediate, Snapshot};
 use cal_ql::{Let, Op};
+use cal_seeds::Seeds;
 use cal_value::{Kind, OutOfMemory, Text, Variant};
 use indexmap::IndexSet;
 use std::alloc::Global;
@@ -50,7 +51,7 @@ impl Definition {
     pub(crate) fn new(
         alloc: Global,
         definition: &Let,
-        names: &mut IndexSet<Text>,
+        names: &mut IndexSet<Text, Seeds>,
         context: &mut Context,
     ) -> Result<Definition, OutOfMemory>
         requires { IsLet definition.now }

@@ -23,6 +23,7 @@ use crate::latest::Latest;
 use cal_agg::Num;
 use cal_context::{Context, Snapshot};
 use cal_ql::{Cond, Let, Query};
+use cal_seeds::Seeds;
 use cal_value::{OutOfMemory, Text};
 use indexmap::IndexSet;
 use std::alloc::Global;
@@ -50,7 +51,7 @@ impl Filter {
         ensures ready { IfOk result (IsFilter context.new query.now) }
         ensures grows { Grows context.old context.new }
     {
-        let mut names = IndexSet::new(alloc);
+        let mut names = IndexSet::with_hasher(alloc, context.seeds());
         let definitions = definitions_of(alloc, query.lets.as_slice(), &mut names, context)?;
         let conditions = conditions_of(alloc, query.conds.as_slice())?;
         Ok(Filter {
@@ -133,7 +134,7 @@ impl Filter {
 fn definitions_of(
     alloc: Global,
     lets: &[Let],
-    names: &mut IndexSet<Text>,
+    names: &mut IndexSet<Text, Seeds>,
     context: &mut Context,
 ) -> Result<Vec<Definition>, OutOfMemory>
     requires { AllByRecursion IsLet lets.now }

@@ -10,6 +10,7 @@ ghost use Rattle.cal_filter.specs.Latest.{IsLatest, KnowsAllNames, KnowsNames, n
 use crate::number_in;
 use crate::wanted::Wanted;
 use cal_context::{AttributeNumber, Context, Immediate};
+use cal_seeds::Seeds;
 use cal_value::{OutOfMemory, Text, TryCopy};
 use indexmap::IndexSet;
 use std::alloc::Global;
@@ -18,7 +19,7 @@ use std::alloc::Global;
 /// and the last of these that is a number.
 #[derive(Drop)]
 pub(crate) struct Latest {
-    names: IndexSet<Text>,
+    names: IndexSet<Text, Seeds>,
     // of each attribute: the number of its name, if it is one of these
     named: Vec<Option<usize>>,
     // of each name: where its last immediate stands, if it has one
@@ -29,7 +30,7 @@ pub(crate) struct Latest {
 
 impl Latest {
     /// Of these names, in no record yet. It takes no memory.
-    pub(crate) fn new(alloc: Global, names: IndexSet<Text>) -> Latest
+    pub(crate) fn new(alloc: Global, names: IndexSet<Text, Seeds>) -> Latest
         ensures names { result.names ≡ names }
         ensures knows { (t : Tree) → KnowsNames t result }
     {
@@ -174,7 +175,7 @@ fn put(places: &mut Vec<Option<usize>>, name: usize, place: usize)
 pub(crate) fn number_names(
     alloc: Global,
     args: &[Text],
-    names: &mut IndexSet<Text>,
+    names: &mut IndexSet<Text, Seeds>,
 ) -> Result<Vec<usize>, OutOfMemory>
     ensures numbers { IfOk result (λ numbers.
         AllZip (λ name n. slice_get names.new.keys n ≡ Some name) args.now numbers.items) }
@@ -188,7 +189,11 @@ pub(crate) fn number_names(
     Ok(numbers)
 }
 
-fn number_name(alloc: Global, name: &Text, names: &mut IndexSet<Text>) -> Result<usize, OutOfMemory>
+fn number_name(
+    alloc: Global,
+    name: &Text,
+    names: &mut IndexSet<Text, Seeds>,
+) -> Result<usize, OutOfMemory>
     ensures number { IfOk result (λ n. slice_get names.new.keys n ≡ Some name.now) }
     ensures front { OnOk result (IsFront names.old.keys names.new.keys) }
 {

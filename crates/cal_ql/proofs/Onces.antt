@@ -1,6 +1,8 @@
 -- Keeping each result name once, the first kept.
 use Rattle.std.proofs.Common.{◌≡◌, ℕ, Bool, true, false, cond, not, ◌&&◌, ◌||◌, List, [], ◌∷◌, ◌++◌, refl, sym, ap, ◌∙◌, append_assoc, inl, inr}
-use Rattle.std.specs.Prelude.{map, filter, nat_eq}
+use Rattle.std.specs.Prelude.{filter, nat_eq}
+use Rattle.std.specs.BTreeMap.{is_at}
+use Rattle.std.specs.BTreeSet.{BTreeSet, contains}
 use Rattle.std.specs.List.{list_any}
 use Rattle.std.specs.Bool.{one_answer}
 use Rattle.std.specs.Ordering.{eq_by_cmp}
@@ -12,7 +14,7 @@ use Rattle.cal_value.specs.Texts.{text_cmp}
 use Rattle.cal_value.specs.ExactOrder.{exact_decides, text_exact}
 use Rattle.cal_ql.specs.declared.query.Agg.{Agg}
 use Rattle.cal_ql.specs.Kernels.{first_of_each}
-use Rattle.cal_ql.specs.Once.{with_new, with_all_new}
+use Rattle.cal_ql.specs.Once.{has_name, with_new, with_all_new}
 use Rattle.cal_ql.proofs.Choices.{either_way}
 
 -- whether one of the kernels has the name of this one
@@ -94,20 +96,41 @@ one_more kept aggs agg = with_all_new-append kept aggs (agg ∷ [])
 
 -- ---- the set of names
 
-text_eq : (x y : List ℕ) → eq_by_cmp text_cmp x y ≡ pointwise nat_eq x y
-text_eq x y = one_answer (eq_by_cmp text_cmp x y) (pointwise nat_eq x y) (exact_decides text_exact x y) (bytes_decides x y)
+-- whether two texts are one, asked of either
+same_text : (x y : List ℕ) → is_at (text_cmp x) y ≡ pointwise nat_eq y x
+same_text x y =
+    let d = bytes_decides y x in
+    one_answer (eq_by_cmp text_cmp x y) (pointwise nat_eq y x) (exact_decides text_exact x y)
+    (λ t. sym (d.0 t), λ e. d.1 (sym e))
 
-pub named_among : (name : List ℕ) (aggs : List Agg) → list_any (eq_by_cmp text_cmp name) (map (λ agg. agg.name) aggs) ≡ list_any (λ other. pointwise nat_eq name other.name) aggs
-named_among name [] = refl
-named_among name (agg ∷ aggs) = rw (text_eq name agg.name, named_among name aggs) refl
+either_or : (a b : Bool) → cond a true b ≡ (b || (a || false))
+either_or true true = refl
+either_or true false = refl
+either_or false true = refl
+either_or false false = refl
+
+-- a set of the names of kernels, with the name of one kernel more
+pub names_more : (names new : BTreeSet (List ℕ)) (aggs : List Agg) (agg : Agg) (key : List ℕ)
+    → key ≡ agg.name
+    → ((q : List ℕ) → contains text_cmp new q
+    ≡ cond (is_at (text_cmp key) q) true (contains text_cmp names q))
+    → ((q : List ℕ) → contains text_cmp names q ≡ has_name aggs q)
+    → (q : List ℕ) → contains text_cmp new q ≡ has_name (aggs ++ agg ∷ []) q
+names_more names new aggs agg key same added kept q =
+    added q
+    ∙ ap (λ (k : List ℕ). cond (is_at (text_cmp k) q) true (contains text_cmp names q)) same
+    ∙ ap (λ (b : Bool). cond b true (contains text_cmp names q)) (same_text agg.name q)
+    ∙ ap (λ (b : Bool). cond (pointwise nat_eq q agg.name) true b) (kept q)
+    ∙ either_or (pointwise nat_eq q agg.name) (has_name aggs q)
+    ∙ sym (list_any-append (λ other. pointwise nat_eq q other.name) aggs (agg ∷ []))
 
 turned : (b new : Bool) → new ≡ not b → b ≡ not new
 turned true new e = rw e refl
 turned false new e = rw e refl
 
 -- whether a name is new to the set tells whether it is new to the kernels
-pub known_name : (keys : List (List ℕ)) (aggs : List Agg) (name : List ℕ) (new : Bool) → keys ≡ map (λ agg. agg.name) aggs → new ≡ not (list_any (eq_by_cmp text_cmp name) keys)
-    → list_any (λ other. pointwise nat_eq name other.name) aggs ≡ not new
-known_name keys aggs name new kept told =
-    let same : list_any (eq_by_cmp text_cmp name) keys ≡ list_any (λ other. pointwise nat_eq name other.name) aggs = ap (list_any (eq_by_cmp text_cmp name)) kept ∙ named_among name aggs in
-    turned _ new (told ∙ ap not same)
+pub known_name : (names : BTreeSet (List ℕ)) (aggs : List Agg) (name : List ℕ) (new : Bool)
+    → ((q : List ℕ) → contains text_cmp names q ≡ has_name aggs q)
+    → new ≡ not (contains text_cmp names name) → has_name aggs name ≡ not new
+known_name names aggs name new kept told =
+    turned (has_name aggs name) new (told ∙ ap not (kept name))

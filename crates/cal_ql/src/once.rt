@@ -4,13 +4,13 @@ ghost use Rattle.cal_ql.specs.Once.{IsKept, with_all_new, with_new};
 
 use crate::query::Agg;
 use cal_value::{OutOfMemory, Seq, Text, TryCopy};
-use indexmap::IndexSet;
 use std::alloc::Global;
+use std::collections::BTreeSet;
 
 /// Kernels, each result name once, and those names.
 #[derive(Drop)]
 struct Kept {
-    names: IndexSet<Text>,
+    names: BTreeSet<Text>,
     aggs: Seq<Agg>,
 }
 
@@ -48,7 +48,7 @@ pub(crate) fn first_of_each(
     ensures { IfOk result (λ aggs. aggs ≡ first_of_each (selected ++ others)) }
 {
     let mut kept = Kept {
-        names: IndexSet::new(alloc),
+        names: BTreeSet::new(alloc),
         aggs: Seq::new(alloc),
     };
     kept.add_all(alloc, selected)?;

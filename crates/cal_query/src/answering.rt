@@ -93,7 +93,7 @@ fn rows_text<S: Source>(
     ensures refused { IfErr result (λ end.
         StopsRows end limit (change_of S.left S.faults input.old input.new)) }
 {
-    let writer = ExpandWriter::new(alloc);
+    let writer = ExpandWriter::seeded(alloc, seeds);
     let seen = see_rows(
         alloc,
         input,

@@ -73,7 +73,7 @@ fn rows_where<S: Source, K: Guard + Drop>(
 {
     let taker = Guarded {
         guard,
-        taker: ExpandWriter::new(alloc),
+        taker: ExpandWriter::seeded(alloc, seeds),
     };
     let seen = see_rows(
         alloc,

@@ -83,7 +83,7 @@ fn ended_text(alloc: Global, script: &Script, ended: &mut EndedRun<'_>) -> Resul
         (λ text. text ≡ canonical_text (records_of script.now ended.old.journal)) }
     ensures journal { ended.new.journal ≡ ended.old.journal }
 {
-    let mut writer = Writer::new(alloc)?;
+    let mut writer = Writer::seeded(alloc, ended.context.seeds())?;
     let Ok(globals) = write_rows(alloc, script, ended, &mut writer) else {
         drop(writer);
         return Err(OutOfMemory);

@@ -9,6 +9,7 @@ ghost use Rattle.cal_rowset.specs.Trails.{IsTrail, steps};
 
 use crate::step::{Step, step_at, undo_at, undo_use};
 use crate::{Cell, Names};
+use cal_seeds::Seeds;
 use cal_value::{OutOfMemory, Text, Variant};
 use std::alloc::Global;
 
@@ -27,15 +28,24 @@ pub struct Cells {
 }
 
 impl Cells {
-    /// No name, and no entry. It takes no memory.
+    /// No name, and no entry. It takes no memory. Names are hashed by numbers that everybody knows.
     pub fn new(alloc: Global) -> Self
+        ensures no_name { names result ≡ [] }
+        ensures no_entry { Holds result [] }
+        ensures trail { IsTrail result [] }
+    {
+        Cells::seeded(alloc, Seeds::fixed())
+    }
+
+    /// No name, and no entry, where names are hashed by the seeds of a run. It takes no memory.
+    pub fn seeded(alloc: Global, seeds: Seeds) -> Self
         ensures no_name { names result ≡ [] }
         ensures no_entry { Holds result [] }
         ensures trail { IsTrail result [] }
     {
         Cells {
             alloc,
-            names: Names::new(alloc),
+            names: Names::seeded(alloc, seeds),
             cells: Vec::new(alloc),
             used: Vec::new(alloc),
             steps: Vec::new(alloc),

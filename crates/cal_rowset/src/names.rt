@@ -4,6 +4,7 @@ ghost use Rattle.std.specs.List.{Contains};
 ghost use Rattle.cal_context.specs.Lists.{AreApart, Interns};
 ghost use Rattle.cal_rowset.specs.Cells.{is_path};
 
+use cal_seeds::Seeds;
 use cal_value::{OutOfMemory, Text, TryCopy};
 use indexmap::IndexSet;
 use std::alloc::Global;
@@ -12,7 +13,7 @@ use std::marker::Model;
 /// Names, each once, by places.
 #[derive(Drop)]
 pub struct Names {
-    set: IndexSet<Text>,
+    set: IndexSet<Text, Seeds>,
 }
 
 impl Model for Names {
@@ -24,12 +25,19 @@ impl Model for Names {
 }
 
 impl Names {
-    /// No name. It takes no memory.
+    /// No name. It takes no memory. Names are hashed by numbers that everybody knows.
     pub fn new(alloc: Global) -> Self
         ensures { result ≡ [] }
     {
+        Names::seeded(alloc, Seeds::fixed())
+    }
+
+    /// No name, where names are hashed by the seeds of a run. It takes no memory.
+    pub fn seeded(alloc: Global, seeds: Seeds) -> Self
+        ensures { result ≡ [] }
+    {
         Names {
-            set: IndexSet::new(alloc),
+            set: IndexSet::with_hasher(alloc, seeds),
         }
     }
 

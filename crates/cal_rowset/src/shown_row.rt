@@ -15,6 +15,7 @@ ghost use Rattle.cal_rowset.specs.declared.rowset.Column.{Column};
 
 use crate::{Cell, Cells, Column, is_path};
 use cal_context::{Link, NodeNumber};
+use cal_seeds::Seeds;
 use cal_value::{OutOfMemory, Rec, Text};
 use std::alloc::Global;
 
@@ -38,12 +39,20 @@ pub struct ShownRow {
 }
 
 impl ShownRow {
-    /// The cells of these columns, without a row.
+    /// The cells of these columns, without a row. Names are hashed by numbers that everybody knows.
     pub fn new(alloc: Global, columns: &[Column]) -> Result<Self, OutOfMemory>
         ensures for_columns { IfOk result (λ shown. IsFor shown columns.now) }
         ensures empty { IfOk result HoldsNothing }
     {
-        let mut cells = Cells::new(alloc);
+        ShownRow::seeded(alloc, columns, Seeds::fixed())
+    }
+
+    /// The cells of these columns, without a row, where names are hashed by the seeds of a run.
+    pub fn seeded(alloc: Global, columns: &[Column], seeds: Seeds) -> Result<Self, OutOfMemory>
+        ensures for_columns { IfOk result (λ shown. IsFor shown columns.now) }
+        ensures empty { IfOk result HoldsNothing }
+    {
+        let mut cells = Cells::seeded(alloc, seeds);
         let mut places = Vec::new(alloc);
         place_columns(&mut cells, &mut places, columns)?;
         let shows_path = has_none(&places);

@@ -34,7 +34,7 @@ impl ShownRow {
         ensures stands { IfOk result (λ shown. StandsIn context.now shown) }
     {
         context.has_each_once();
-        let mut shown = ShownRow::new(alloc, columns)?;
+        let mut shown = ShownRow::seeded(alloc, columns, context.seeds())?;
         shown.attributes = attribute_places(alloc, context, &shown.cells)?;
         Ok(shown)
     }

@@ -40,7 +40,7 @@ pub use journal::{
 pub use kind::ScriptKind;
 pub use laws::meaning_law;
 pub use reader::Reader;
-pub use reading::read_script;
+pub use reading::{read_script, read_script_seeded};
 pub use rest::Rest;
 pub use script::{Channel, ChannelQuery, Line, ProbeKind, Script};
 pub use shapes::{history_shape, tree_shape};

@@ -111,7 +111,7 @@ fn read_names(
     ensures { Gives (λ names. names) result
         (after_lines (with_name is_key (attribute_names declared.now.items)) [] (pieces 32 text.now)) }
 {
-    let mut names = Register::new(alloc);
+    let mut names = Register::new(alloc, declared.seeds());
     let mut rest = Some(text);
     while let Some(text) = rest {
         let (name, more) = cut(text, ' ');

@@ -14,6 +14,7 @@ use crate::register::Register;
 use crate::tally::{Tally, tree_words};
 use crate::words::{behind, first_word, is_skipped};
 use crate::{Channel, Line, Rest, Script, ScriptKind, ValueList};
+use cal_seeds::Seeds;
 use cal_value::{Attribute, Entry, OutOfMemory, Seq};
 use std::alloc::Global;
 
@@ -51,17 +52,28 @@ pub struct Reader {
 }
 
 impl Reader {
-    /// The reader before the first line. It takes no memory.
+    /// The reader before the first line. It takes no memory. Names are hashed by numbers that
+    /// everybody knows.
     pub fn new(alloc: Global) -> Self
         ensures start { state_of result ≡ no_lines }
         ensures kept { IsReading result }
         ensures fits { fits (state_of result) ≡ true }
     {
+        Reader::seeded(alloc, Seeds::fixed())
+    }
+
+    /// The reader before the first line, where names are hashed by the seeds of a run. It takes no
+    /// memory.
+    pub fn seeded(alloc: Global, seeds: Seeds) -> Self
+        ensures start { state_of result ≡ no_lines }
+        ensures kept { IsReading result }
+        ensures fits { fits (state_of result) ≡ true }
+    {
         Reader {
-            attributes: Register::new(alloc),
-            channels: Register::new(alloc),
+            attributes: Register::new(alloc, seeds),
+            channels: Register::new(alloc, seeds),
             valued: false,
-            globals: Register::new(alloc),
+            globals: Register::new(alloc, seeds),
             values: ValueList::new(alloc),
             earlier: Seq::new(alloc),
             in_thread: false,

@@ -8,14 +8,24 @@ ghost use Rattle.cal_script.specs.State.{no_lines, script_of};
 use crate::end::LineEnd;
 use crate::reader::Reader;
 use crate::{Rest, Script, ScriptEnd};
+use cal_seeds::Seeds;
 use std::alloc::Global;
 
-/// The script that the bytes mean. It takes time in their number.
+/// The script that the bytes mean. It takes time in their number. Names are hashed by numbers that
+/// everybody knows.
 pub fn read_script(alloc: Global, bytes: &[u8]) -> Result<Script, ScriptEnd>
     ensures read { IfOk result (λ script. Means bytes.now script) }
     ensures fault { IfErr result (λ end. IsRefusalOf bytes.now end) }
 {
-    let mut reader = Reader::new(alloc);
+    read_script_seeded(alloc, Seeds::fixed(), bytes)
+}
+
+/// The same, where names are hashed by the seeds of a run.
+pub fn read_script_seeded(alloc: Global, seeds: Seeds, bytes: &[u8]) -> Result<Script, ScriptEnd>
+    ensures read { IfOk result (λ script. Means bytes.now script) }
+    ensures fault { IfErr result (λ end. IsRefusalOf bytes.now end) }
+{
+    let mut reader = Reader::seeded(alloc, seeds);
     read_lines(alloc, &mut reader, bytes)?;
     Ok(reader.into_script()?)
 }

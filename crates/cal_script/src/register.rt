@@ -4,6 +4,7 @@ ghost use Rattle.cal_script.specs.Parts.{is_among, place_of};
 ghost use Rattle.cal_script.specs.Registers.{IsRegister};
 
 use crate::Channel;
+use cal_seeds::Seeds;
 use cal_value::{Attribute, Entry, OutOfMemory, Seq, Text};
 use indexmap::IndexSet;
 use std::alloc::Global;
@@ -52,19 +53,26 @@ impl Named for Text {
 #[derive(Drop)]
 pub(crate) struct Register<T> {
     pub(crate) items: Seq<T>,
-    names: IndexSet<String>,
+    names: IndexSet<String, Seeds>,
+    seeds: Seeds,
 }
 
 impl<T: Named + Drop> Register<T> {
-    /// Nothing. It takes no memory.
-    pub(crate) fn new(alloc: Global) -> Self
+    /// Nothing, where names are hashed by the seeds of a run. It takes no memory.
+    pub(crate) fn new(alloc: Global, seeds: Seeds) -> Self
         ensures items { result.items ≡ [] }
         ensures kept { IsRegister T.name_of result }
     {
         Register {
             items: Seq::new(alloc),
-            names: IndexSet::new(alloc),
+            names: IndexSet::with_hasher(alloc, seeds),
+            seeds,
         }
+    }
+
+    /// By what names are hashed here, and in registers that stand beside this one.
+    pub(crate) fn seeds(&self) -> Seeds {
+        self.seeds
     }
 
     /// Whether an item has this name.
@@ -148,7 +156,11 @@ impl<T: Named + Drop> Register<T> {
     pub(crate) fn into_items(self) -> Seq<T>
         ensures { result ≡ self.items }
     {
-        let Register { items, names: _ } = self;
+        let Register {
+            items,
+            names: _,
+            seeds: _,
+        } = self;
         items
     }
 }

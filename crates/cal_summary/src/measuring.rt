@@ -38,7 +38,7 @@ fn measure_in(
     requires numbered { AreNumbered context.old script.now numbers.now }
     ensures { IfOk result (IsMeasured script.now) }
 {
-    let mut measurer = Measurer::new(alloc)?;
+    let mut measurer = Measurer::seeded(alloc, context.seeds())?;
     take_plain_run(alloc, script, numbers, context, &mut measurer)?;
     let globals = put_globals(alloc, script.globals.as_slice(), context)?;
     measurer.finish(context, &globals)

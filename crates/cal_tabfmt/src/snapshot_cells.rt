@@ -13,6 +13,7 @@ ghost use Rattle.cal_tabfmt.specs.Snapshots.{StandAt, StandKnowing};
 use crate::walk::walk;
 use cal_context::{AttributeNumber, Context, Immediate, Link, NodeNumber, Snapshot};
 use cal_rowset::{Cells, find_links};
+use cal_seeds::Seeds;
 use cal_value::{OutOfMemory, Variant};
 use std::alloc::Global;
 
@@ -31,11 +32,12 @@ pub(crate) struct SnapshotCells {
 }
 
 impl SnapshotCells {
-    pub(crate) fn new(alloc: Global) -> Self
+    // Names are hashed by these seeds.
+    pub(crate) fn new(alloc: Global, seeds: Seeds) -> Self
         ensures { (t : Tree) → AreReady t result }
     {
         SnapshotCells {
-            trail: Cells::new(alloc),
+            trail: Cells::seeded(alloc, seeds),
             places: Vec::new(alloc),
             node: NodeNumber::ROOT,
             depth: 0,

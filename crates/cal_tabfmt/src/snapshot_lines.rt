@@ -20,7 +20,7 @@ pub(crate) fn snapshot_lines(
     ensures { IfOk result (λ text. text
         ≡ expand_lines None (map (meant context.now) (in_order rows.now order.now))) }
 {
-    let mut writer = ExpandWriter::new(alloc);
+    let mut writer = ExpandWriter::seeded(alloc, context.seeds());
     let mut row = Snapshot::new(alloc);
     for place in order {
         rows.copy_to(alloc, *place, &mut row)?;

@@ -14,6 +14,7 @@ use crate::part::append_part;
 use crate::snapshot_cells::SnapshotCells;
 use cal_context::{Context, Snapshot, Taker};
 use cal_rowset::{Cells, is_path};
+use cal_seeds::Seeds;
 use cal_value::{OutOfMemory, Text};
 use std::alloc::Global;
 
@@ -29,13 +30,21 @@ pub struct ExpandWriter {
 impl ExpandWriter {
     ghost use Rattle.cal_tabfmt.specs.Writer.{HasTaken};
 
-    /// A writer of no line yet. It takes no memory.
+    /// A writer of no line yet. It takes no memory. Names are hashed by numbers that everybody
+    /// knows.
     pub fn new(alloc: Global) -> Self
+        ensures { (t : Tree) → HasTaken result t [] }
+    {
+        ExpandWriter::seeded(alloc, Seeds::fixed())
+    }
+
+    /// A writer of no line yet, where names are hashed by the seeds of a run. It takes no memory.
+    pub fn seeded(alloc: Global, seeds: Seeds) -> Self
         ensures { (t : Tree) → HasTaken result t [] }
     {
         ExpandWriter {
             text: Text::new(alloc),
-            cells: SnapshotCells::new(alloc),
+            cells: SnapshotCells::new(alloc, seeds),
             hierarchy: HierarchyCell::new(alloc),
         }
     }

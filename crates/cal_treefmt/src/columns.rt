@@ -56,7 +56,7 @@ fn nested_names(alloc: Global, context: &Context) -> Result<Names, OutOfMemory>
     ensures { IfOk result (λ names. (test : List ℕ → Bool)
         → list_any test names ≡ list_any (λ a. test a.name) context.now.attributes) }
 {
-    let mut names = Names::new(alloc);
+    let mut names = Names::seeded(alloc, context.seeds());
     for number in 0..context.attribute_count() {
         learn(&mut names, context, number)?;
     }

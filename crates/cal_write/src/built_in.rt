@@ -6,6 +6,7 @@ ghost use Rattle.cal_write.specs.declared.built_in.BuiltIn.TheVariants.{OfNames,
 
 use crate::described::DescribedNode;
 use cal_context::Interner;
+use cal_seeds::Seeds;
 use cal_value::{Attribute, Entry, Kind, OutOfMemory, Props, Text, Variant};
 use std::alloc::Global;
 
@@ -73,11 +74,14 @@ impl BuiltIn {
     }
 }
 
-/// The nodes that every stream has, in the order of their ids.
-pub(crate) fn built_in_nodes(alloc: Global) -> Result<Interner<DescribedNode>, OutOfMemory>
+/// The nodes that every stream has, in the order of their ids, hashed by these seeds.
+pub(crate) fn built_in_nodes(
+    alloc: Global,
+    seeds: Seeds,
+) -> Result<Interner<DescribedNode>, OutOfMemory>
     ensures { IfOk result (λ nodes. nodes ≡ built_in_keys) }
 {
-    let mut nodes = Interner::new(alloc);
+    let mut nodes = Interner::seeded(alloc, seeds);
     put_nodes(alloc, &mut nodes)?;
     Ok(nodes)
 }

@@ -6,6 +6,7 @@ ghost use Rattle.cal_context.specs.Tree.{Tree};
 use crate::Writer;
 use crate::snapshot_needs::has_no_entry;
 use cal_context::{Context, Snapshot, Taker};
+use cal_seeds::Seeds;
 use cal_value::OutOfMemory;
 use std::alloc::Global;
 
@@ -26,12 +27,19 @@ pub struct Measurer {
 impl Measurer {
     ghost use Rattle.cal_write.specs.Measuring.{CountsBytes, HasMeasured, MeasuresWith};
 
-    /// Nothing is counted yet.
+    /// Nothing is counted yet. Its map hashes by numbers that everybody knows.
     pub fn new(alloc: Global) -> Result<Measurer, OutOfMemory>
         ensures { IfOk result (λ measurer. (t : Tree) → HasMeasured measurer t []) }
     {
+        Measurer::seeded(alloc, Seeds::fixed())
+    }
+
+    /// Nothing is counted yet, and its map hashes by the seeds of a run.
+    pub fn seeded(alloc: Global, seeds: Seeds) -> Result<Measurer, OutOfMemory>
+        ensures { IfOk result (λ measurer. (t : Tree) → HasMeasured measurer t []) }
+    {
         Ok(Measurer {
-            writer: Writer::new(alloc)?,
+            writer: Writer::seeded(alloc, seeds)?,
             so_far: Measure { rows: 0, bytes: 0 },
         })
     }

@@ -8,6 +8,7 @@ ghost use Rattle.cal_write.specs.Written.{written};
 use crate::memo::Memo;
 use crate::stream::Stream;
 use cal_context::{AttributeNumber, Context, Link, NodeNumber};
+use cal_seeds::Seeds;
 use cal_value::OutOfMemory;
 use std::alloc::Global;
 
@@ -22,13 +23,13 @@ pub(crate) struct NodeWriter {
 }
 
 impl NodeWriter {
-    /// Nothing is written yet.
-    pub(crate) fn new(alloc: Global) -> Result<NodeWriter, OutOfMemory>
+    /// Nothing is written yet. What is looked up by its entry is hashed by these seeds.
+    pub(crate) fn new(alloc: Global, seeds: Seeds) -> Result<NodeWriter, OutOfMemory>
         ensures { IfOk result (λ writer. (t : Tree) → IsKept t writer (written [])) }
     {
         Ok(NodeWriter {
             alloc,
-            stream: Stream::new(alloc)?,
+            stream: Stream::new(alloc, seeds)?,
             nodes: Memo::new(alloc),
             attributes: Memo::new(alloc),
         })

@@ -8,6 +8,7 @@ use crate::described::DescribedNode;
 use crate::lines::write_node;
 use crate::page::Page;
 use cal_context::Interner;
+use cal_seeds::Seeds;
 use cal_value::{Attribute, Entry, OutOfMemory, TryCopy, Variant};
 use std::alloc::Global;
 
@@ -53,12 +54,12 @@ impl Lines {
 }
 
 impl Stream {
-    /// The built-in nodes, and no text.
-    pub(crate) fn new(alloc: Global) -> Result<Stream, OutOfMemory>
+    /// The built-in nodes, and no text. Nodes are hashed by these seeds.
+    pub(crate) fn new(alloc: Global, seeds: Seeds) -> Result<Stream, OutOfMemory>
         ensures { IfOk result IsBegun }
     {
         Ok(Stream {
-            described: built_in_nodes(alloc)?,
+            described: built_in_nodes(alloc, seeds)?,
             ids: BUILT_IN_IDS.to_vec(alloc)?,
             lines: Lines {
                 next: 12,

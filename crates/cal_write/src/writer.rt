@@ -8,6 +8,7 @@ use crate::lines::write_record;
 use crate::node_writer::NodeWriter;
 use crate::snapshot_needs::{has_no_entry, need_immediates, need_nodes};
 use cal_context::{Context, Snapshot, Taker};
+use cal_seeds::Seeds;
 use cal_value::{OutOfMemory, Text};
 use std::alloc::Global;
 
@@ -27,12 +28,19 @@ pub struct Writer {
 impl Writer {
     ghost use Rattle.cal_write.specs.Writer.{EndsWith, HasTaken, IsRefused, WritesRecord};
 
-    /// A writer of no record yet.
+    /// A writer of no record yet. Its map hashes by numbers that everybody knows.
     pub fn new(alloc: Global) -> Result<Writer, OutOfMemory>
         ensures { IfOk result (λ writer. (t : Tree) → HasTaken writer t []) }
     {
+        Writer::seeded(alloc, Seeds::fixed())
+    }
+
+    /// A writer of no record yet, whose map hashes by the seeds of a run.
+    pub fn seeded(alloc: Global, seeds: Seeds) -> Result<Writer, OutOfMemory>
+        ensures { IfOk result (λ writer. (t : Tree) → HasTaken writer t []) }
+    {
         Ok(Writer {
-            nodes: NodeWriter::new(alloc)?,
+            nodes: NodeWriter::new(alloc, seeds)?,
             refs: Vec::new(alloc),
             columns: Vec::new(alloc),
             fields: IdFields::new(alloc)?,

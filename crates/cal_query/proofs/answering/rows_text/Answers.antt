@@ -2,7 +2,7 @@ use Rattle.cal_query.proofs.Layouts.{sees_what}
 use Rattle.cal_query.proofs.answering.rows_text.Goals as goal
 
 pub see_rows-requires : goal.see_rows-requires
-see_rows-requires g c = c.new-writer.ensures _
+see_rows-requires g c = c.seeded-writer.ensures _
 
 pub returns-clause-text : goal.returns-clause-text
 returns-clause-text g c =

@@ -2,7 +2,7 @@ use Rattle.cal_query.proofs.Layouts.{sees_what}
 use Rattle.cal_query.proofs.answering_where.rows_where.Goals as goal
 
 pub see_rows-requires : goal.see_rows-requires
-see_rows-requires g c = record { answers = c.requires _; taken = c.new.ensures _ }
+see_rows-requires g c = record { answers = c.requires _; taken = c.seeded.ensures _ }
 
 pub returns-clause-text : goal.returns-clause-text
 returns-clause-text g c =

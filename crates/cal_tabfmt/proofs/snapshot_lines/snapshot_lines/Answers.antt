@@ -8,7 +8,7 @@ use Rattle.cal_tabfmt.specs.Writer.{HasTaken}
 use Rattle.cal_tabfmt.proofs.snapshot_lines.snapshot_lines.Goals as goal
 
 pub loop-place-init : goal.loop-place-init
-loop-place-init c = c.new-writer.ensures c.args.context.now
+loop-place-init c = c.seeded-writer.ensures c.args.context.now
 
 pub take-requires : goal.take-requires
 take-requires c =

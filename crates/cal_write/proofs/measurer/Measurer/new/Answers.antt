@@ -1,6 +1,0 @@
-use Rattle.std.proofs.Common.{refl}
-use Rattle.cal_write.proofs.MeasureLemmas.{nothing-measured}
-use Rattle.cal_write.proofs.measurer.Measurer.new.Goals as goal
-
-pub returns : goal.returns
-returns c = λ t. nothing-measured t _ (c.in_ok-new.ensures t) refl refl
