@@ -37,8 +37,8 @@ pub fn run_threads<
     requires shared { IsShared shared.now }
     requires hired { All (IsHiredRunner H.account H.takes shared.now) runners.items }
     requires clocks { length runners.items ≤ length clocks.old.items }
-    ensures ran { IfOk result (λ done. HaveRun H.account H.takes H.stays shared.now K.given runners.entry.items done.items
-        clocks.old.items clocks.new.items) }
+    ensures ran { IfOk result (λ done. HaveRun H.account H.takes H.stays shared.now K.given
+        runners.entry.items done.items clocks.old.items clocks.new.items) }
 {
     let mut shifts = pair(alloc, runners, clocks)?;
     run_all(rt, alloc, shared, shifts.as_mut_slice(), gate);
@@ -77,7 +77,7 @@ fn run_all<
     'a,
     R: Threads + Sync,
     P: Prober + Sync,
-    H: PartHand + Send,
+    H: PartHand + Send + Drop,
     K: Clock + Send,
     G: Gate + Sync,
 >(rt: &R, alloc: Global, shared: &Shared<'_>, shifts: &mut [Shift<'a, P, H, K>], gate: &G)

@@ -18,7 +18,7 @@ pub(crate) struct Shift<'a, P, H, K> {
 }
 
 /// Starts the runner and runs all its lines. Where it ran out of memory they haven't run.
-pub(crate) fn run_one<'a, P: Prober, H: PartHand, K: Clock, G: Gate>(
+pub(crate) fn run_one<'a, P: Prober, H: PartHand + Drop, K: Clock, G: Gate>(
     alloc: Global,
     shared: &Shared<'_>,
     gate: &G,

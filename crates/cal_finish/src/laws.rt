@@ -24,11 +24,14 @@ pub fn lawful_run_law<P, H: PartHand>()
 
 /// The law of runners that have run: their threads are what `end_threads` asks for.
 pub fn ended_threads_law<P, H: PartHand>()
-    ensures many { (shared : Shared) (runners : List (Runner P H)) → HaveAllRun H.account H.takes shared runners
+    ensures many { (shared : Shared) (runners : List (Runner P H))
+        → HaveAllRun H.account H.takes shared runners
         → length (threads_of runners) ≡ length (script_of shared).threads }
-    ensures states { (shared : Shared) (runners : List (Runner P H)) → HaveAllRun H.account H.takes shared runners
+    ensures states { (shared : Shared) (runners : List (Runner P H))
+        → HaveAllRun H.account H.takes shared runners
         → All (HasSomeState shared.common) (threads_of runners) }
-    ensures order { (shared : Shared) (runners : List (Runner P H)) → HaveAllRun H.account H.takes shared runners
+    ensures order { (shared : Shared) (runners : List (Runner P H))
+        → HaveAllRun H.account H.takes shared runners
         → AreInOrder (threads_of runners) }
 {}
 

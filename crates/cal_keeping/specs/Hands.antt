@@ -1,7 +1,7 @@
 -- What contracts see of a thread's hand: what it has done for each channel, and what a flush makes
 -- of that.
 use Rattle.std.proofs.Common.{refl, ◌∙◌}
-use Rattle.std.specs.Prelude.{◌≡◌, ◌≢◌, ℕ, ◌+◌, ◌≤◌, ◌^◌, List, Some, ⊥}
+use Rattle.std.specs.Prelude.{◌≡◌, ◌≢◌, ℕ, ◌+◌, ◌≤◌, ◌^◌, List, Some}
 use Rattle.std.specs.Prelude.{length, map, slice_get, slice_index_or, sum_by}
 use Rattle.cal_book.specs.Accounts.{blank, more_given, more_met}
 use Rattle.cal_book.specs.Seats.{shape_of, IsSeatOf, view}

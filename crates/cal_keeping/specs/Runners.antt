@@ -62,7 +62,7 @@ module _ {P H : Type 0} (account : H → ℕ → AccountOf) where
       pub worker : IsWorker shared r.worker h
       pub kept : (attributes : List Attribute)
           → AreNamed attributes (script_of shared) r.channels.numbers.now
-          → HaveKept account shared attributes r.worker h r.channels
+          → HaveKept shared attributes r.worker h r.channels
       pub thread : r.channels.thread ≡ r.worker.thread.number
       pub ready : AreReady account takes (script_of shared) r.channels shared.timers.some
           (lines_left shared r.worker)

@@ -20,8 +20,8 @@ use std::alloc::Global;
 impl<'a> Run<'a> {
     /// A running thread for each thread of the script, in the order of their numbers, with seats of
     /// its own; none is started. It is called once, behind `new`. It takes memory for a copy of
-    /// each shape for each thread, and for a note of each line. Behind an `Err`, which is want of memory, `first` may have split
-    /// some seats off, and nobody is hired from it again.
+    /// each shape for each thread, and for a note of each line. Behind an `Err`, which is want of
+    /// memory, `first` may have split some seats off, and nobody is hired from it again.
     pub fn hire<'r, P: Prober>(
         &'r self,
         alloc: Global,
