@@ -1,25 +1,27 @@
 -- The books of a run whose threads have run may be closed, and tell of their turns.
-use Rattle.std.proofs.Common.{◌≡◌, ℕ, zero, suc, ◌≤◌, List, [], ◌∷◌, length, map}
-use Rattle.std.proofs.Common.{refl, sym, ap, ◌∙◌, subst, arith}
-use Rattle.std.specs.Prelude.{Some, slice_get}
-use Rattle.std.specs.List.{All}
-use Rattle.std.specs.declared.vec.Vec.{Vec}
+use Rattle.std.proofs.Common.{◌≡◌, ◌∙◌, ℕ, ◌≤◌, List, length, map, sym, ap, subst, arith}
+use Rattle.std.specs.Prelude.{Some, option_map, slice_get}
 use Rattle.std.proofs.lemmas.List.{length-map}
-use Rattle.std.proofs.lemmas.List.Elements.{All-cons, All-nil}
 use Rattle.std.proofs.lemmas.List.Sums.{sum_by-append}
-use Rattle.std.proofs.lemmas.Option.{slice_get_within}
+use Rattle.std.proofs.lemmas.Option.{same_Some, slice_get-map, slice_get_within}
+use Rattle.cal_book.specs.Closing.{AllMetHadTurns}
 use Rattle.cal_book.specs.Seats.{shape_of}
 use Rattle.cal_channel.specs.Values.{ChannelValue}
 use Rattle.cal_closing.specs.Seats.{accounts_of, given_by}
 use Rattle.cal_finish.proofs.LawfulRuns.{at-below}
-use Rattle.cal_finish.specs.Ended.{HaveAllRun}
+use Rattle.cal_finish.specs.Ended.{HaveAllRun, accounts_at}
 use Rattle.cal_handover.specs.Closing.{AreClosed, MayClose, MayCloseAll}
-use Rattle.cal_channel.specs.Places.{at_place, lists_of}
+use Rattle.cal_channel.specs.Places.{at_place}
 use Rattle.cal_handover.specs.Places.{tables_at}
+use Rattle.cal_keeping.specs.Hands.{AccountOf, IsAtBooks, account_in}
+use Rattle.cal_keeping.specs.Hands.{given_by as given_by_thread}
+use Rattle.cal_keeping.specs.declared.book_hand.BookHand.{BookHand}
 use Rattle.cal_keeping.specs.declared.runner.Runner.{Runner}
-use Rattle.cal_ran.proofs.Places.{channels_of, seats_of}
-use Rattle.cal_ran.proofs.Standing.{AllStand, Stands, accounts-at, all-stand, few-at}
-use Rattle.cal_ran.proofs.Standing.{length-at, made-at, own-at}
+use Rattle.cal_ran.proofs.Places.{all-lists, channels_of, seats_of}
+use Rattle.cal_ran.proofs.Standing.{AllStand, Stands, account-at, accounts-are, all-stand}
+use Rattle.cal_ran.proofs.Standing.{few-at, length-at, made-at, own-at}
+use Rattle.cal_ran.proofs.TakenLines.{GoByRun}
+use Rattle.cal_ran.proofs.TakenShares.{AreCounted, IsCounted}
 use Rattle.cal_ran.specs.Runs.{AreDone, IsDone}
 use Rattle.cal_replay.specs.Flushing.{BookOf, SeatOf}
 use Rattle.cal_replay.specs.Workers.{script_of}
@@ -27,16 +29,11 @@ use Rattle.cal_start.specs.FirstSeats.{AreFirstSeats, IsFirstSeat}
 use Rattle.cal_start.specs.Runs.{IsRun, shape_for}
 use Rattle.cal_start.specs.declared.run.Run.{Run}
 use Rattle.cal_table.specs.Tables.{TableValue}
-
--- a fact of the list that each of some has
-pub all-lists : {X A Z : Type 0} (f : X → Vec A Z) (Q : List A → Type 0) (xs : List X)
-    → ((k : ℕ) (x : X) → slice_get xs k ≡ Some x → Q (f x).items) → All Q (lists_of (map f xs))
-all-lists f Q [] each = All-nil Q
-all-lists f Q (x ∷ xs) each = All-cons Q (f x).items (lists_of (map f xs)) (each zero x refl)
-    (all-lists f Q xs (λ k y at. each (suc k) y at))
+use Rattle.cal_table.specs.declared.shape.TableShape.{TableShape}
 
 -- the book at a place may be closed
-may-close : {P : Type 0} (place : ℕ) (book : BookOf) (first : SeatOf) (runners : List (Runner P))
+may-close : {P : Type 0} (place : ℕ) (book : BookOf) (first : SeatOf)
+    (runners : List (Runner P BookHand))
     → IsFirstSeat (length runners) book first → length runners ≤ 64
     → AllStand place book 0 runners
     → MayClose book first (at_place place (seats_of runners))
@@ -55,42 +52,53 @@ may-close place book first runners is few_runners all = record {
       omega (arith, sum, few, few_runners);
 }
 
-module _ {P : Type 0} (run : Run) (is : IsRun run) (runners : List (Runner P))
+module _ {P : Type 0} (run : Run) (is : IsRun run) (runners : List (Runner P BookHand))
     (done : AreDone run runners) where
   -- there is a book for each channel of the script
-  pub books-long : length run.books.items ≡ length (script_of run.shared).channels
+  books-long : length run.books.items ≡ length (script_of run.shared).channels
   books-long = sym (length-map run.books.items shape_of)
       ∙ ap length (is.books.made ∙ is.shapes)
       ∙ length-map (script_of run.shared).channels
       (shape_for is.hashers run.context.attributes)
 
   -- a thread that has run has a channel and a seat at each book
-  stands : (number : ℕ) (r : Runner P) → IsDone run number r → (place : ℕ) (book : BookOf)
-      → slice_get run.books.items place ≡ Some book → Stands place book number r
+  stands : (number : ℕ) (r : Runner P BookHand) → IsDone run number r → (place : ℕ)
+      (book : BookOf) → slice_get run.books.items place ≡ Some book → Stands place book number r
   stands number r one place book at =
       let ready = one.ran.is.ready in
+      let hand = ready.takes_them in
       let within = slice_get_within run.books.items place book at in
       let long = books-long in
       let many = ready.many in
-      let many_seats = ready.seats in
+      let many_seats = hand.many ∙ ap length one.books in
       let channel = at-below (script_of run.shared).channels place (omega (arith, within, long)) in
       let c = at-below r.channels.channels.items place (omega (arith, within, long, many)) in
-      let seat = at-below r.channels.seats.items place
-      (omega (arith, within, long, many_seats)) in
-      let own_book = ap (λ (books : List BookOf). slice_get books place) one.books ∙ at in
-      let each = ready.each place channel.item book c.item seat.item channel.there own_book
-      c.there seat.there in
+      let seat = at-below r.channels.hand.seats.items place
+      (omega (arith, within, many_seats)) in
+      let own_book : slice_get r.channels.hand.books.now place ≡ Some book =
+      ap (λ (books : List BookOf). slice_get books place) one.books ∙ at in
+      let shape_at : slice_get ready.shapes place ≡ Some (shape_of book) =
+      ap (λ (shapes : List TableShape). slice_get shapes place) (sym hand.shapes_are)
+      ∙ slice_get-map shape_of r.channels.hand.books.now place
+      ∙ ap (option_map shape_of) own_book in
+      let own = hand.each place book seat.item own_book seat.there in
+      let each = ready.each place channel.item (shape_of book) c.item channel.there shape_at
+      c.there in
       record {
         c = c.item;
         seat = seat.item;
         channel_at = c.there;
         seat_at = seat.there;
         is = record {
-          seat_is = each.seat_is;
-          own = each.own ∙ ap Some (one.ran.is.thread ∙ one.ran.number);
+          seat_is = own.seat_is;
+          own = own.own ∙ ap Some (one.ran.is.thread ∙ one.ran.number);
         };
         made = each.made;
-        few = let few = each.few in omega (arith, few);
+        few =
+            let few = each.few in
+            let same = ap given_by_thread
+            (account-at r.channels.hand place seat.item seat.there) in
+            omega (arith, few, same);
       }
 
   stand : (place : ℕ) (book : BookOf) → slice_get run.books.items place ≡ Some book
@@ -106,10 +114,11 @@ module _ {P : Type 0} (run : Run) (is : IsRun run) (runners : List (Runner P))
       → MayCloseAll run.books.items firsts (seats_of runners) (channels_of runners)
   may-close-all firsts are = record {
     firsts_are = are.many;
-    seats_are = all-lists (λ (r : Runner P). r.channels.seats)
+    seats_are = all-lists (λ (r : Runner P BookHand). r.channels.hand.seats)
         (λ (own : List SeatOf). length own ≡ length run.books.items) runners
-        (λ k r at. (done.each k r at).ran.is.ready.seats ∙ sym books-long);
-    channels_are = all-lists (λ (r : Runner P). r.channels.channels)
+        (λ k r at. (done.each k r at).ran.is.ready.takes_them.many
+        ∙ ap length (done.each k r at).books);
+    channels_are = all-lists (λ (r : Runner P BookHand). r.channels.channels)
         (λ (own : List ChannelValue). length own ≡ length run.books.items) runners
         (λ k r at. (done.each k r at).ran.is.ready.many ∙ sym books-long);
     each = λ place book first at_book at_first. may-close place book first runners
@@ -121,21 +130,57 @@ module _ {P : Type 0} (run : Run) (is : IsRun run) (runners : List (Runner P))
         (stand place book at_book);
   }
 
-  -- behind the closing of all books the threads have run as it is asked of a run
-  pub all-run : (tables : List TableValue)
-      → AreClosed run.books.items (seats_of runners) (channels_of runners) tables
-      → HaveAllRun run.shared runners
-  all-run tables closed = record {
-    many = done.many;
-    ran = λ thread r at. (done.each thread r at).ran;
-    met = λ place below.
-        let long = books-long in
-        let many = closed.many in
-        let book = at-below run.books.items place (omega (arith, below, long)) in
-        let table = at-below tables place (omega (arith, below, long, many)) in
-        record {
-          accounts = accounts_of (at_place place (seats_of runners));
-          each = accounts-at place book.item 0 runners (stand place book.item book.there);
-          met = (closed.each place book.item table.item book.there table.there).met;
-        };
+  -- the runners go by the run
+  pub by-run : GoByRun IsAtBooks run runners
+  by-run = record {
+    numbers = λ number r at. (done.each number r at).numbers;
+    shapes = λ number r at shapes takes. sym takes.shapes_are
+        ∙ ap (map shape_of) (done.each number r at).books ∙ is.books.made;
   }
+
+  -- behind the closing of all books
+  module _ (tables : List TableValue)
+      (closed : AreClosed run.books.items (seats_of runners) (channels_of runners) tables) where
+    -- the threads have run as it is asked of a run
+    pub all-run : HaveAllRun account_in IsAtBooks run.shared runners
+    all-run = record {
+      many = done.many;
+      ran = λ thread r at. (done.each thread r at).ran;
+      met = λ place below.
+          let long = books-long in
+          let many = closed.many in
+          let book = at-below run.books.items place (omega (arith, below, long)) in
+          let table = at-below tables place (omega (arith, below, long, many)) in
+          subst (λ (accounts : List AccountOf). AllMetHadTurns accounts)
+          (accounts-are place book.item 0 runners (stand place book.item book.there))
+          (closed.each place book.item table.item book.there table.there).met;
+    }
+
+    counted-at : (place : ℕ) (shape : TableShape) (table : TableValue)
+        → slice_get run.shapes.items place ≡ Some shape → slice_get tables place ≡ Some table
+        → IsCounted shape (accounts_at account_in place runners)
+        (tables_at place (channels_of runners)) table
+    counted-at place shape table at_shape at_table =
+        let below = slice_get_within tables place table at_table in
+        let many = closed.many in
+        let book = at-below run.books.items place (omega (arith, below, many)) in
+        let here = closed.each place book.item table book.there at_table in
+        let shape_is : shape_of book.item ≡ shape =
+        same_Some (shape_of book.item) shape
+        (sym (slice_get-map shape_of run.books.items place
+        ∙ ap (option_map shape_of) book.there)
+        ∙ ap (λ (shapes : List TableShape). slice_get shapes place) is.books.made
+        ∙ at_shape) in
+        subst (λ (s : TableShape). IsCounted s (accounts_at account_in place runners)
+        (tables_at place (channels_of runners)) table) shape_is
+        (subst (λ (accounts : List AccountOf). IsCounted (shape_of book.item) accounts
+        (tables_at place (channels_of runners)) table)
+        (accounts-are place book.item 0 runners (stand place book.item book.there))
+        record { merged = here.merged; made = here.given })
+
+    -- and each table counts what they gave and have left
+    pub all-counted : AreCounted account_in run.shapes.items runners tables
+    all-counted = record {
+      many = closed.many ∙ sym (length-map run.books.items shape_of) ∙ ap length is.books.made;
+      each = counted-at;
+    }

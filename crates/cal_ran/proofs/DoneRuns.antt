@@ -8,7 +8,9 @@ use Rattle.std.proofs.lemmas.Option.{get_or_from_slice_get, same_Some, slice_get
 use Rattle.cal_crew.specs.Ran.{HaveRun, HasToldAll}
 use Rattle.cal_finish.proofs.LawfulRuns.{at-below}
 use Rattle.cal_finish.specs.Ended.{notes_of}
+use Rattle.cal_keeping.specs.Hands.{HasSameBooks, IsAtBooks, account_in}
 use Rattle.cal_keeping.specs.Runners.{IsHiredRunner}
+use Rattle.cal_keeping.specs.declared.book_hand.BookHand.{BookHand}
 use Rattle.cal_keeping.specs.declared.runner.Runner.{Runner}
 use Rattle.cal_ran.specs.Runs.{AreDone, IsDone}
 use Rattle.cal_ran.specs.Told.{AreToldAll}
@@ -27,18 +29,22 @@ mapped-at f [] k y is = absurd cc
 mapped-at f (x ∷ xs) zero y is = (x, refl, same_Some (f x) y is)
 mapped-at f (x ∷ xs) (suc k) y is = mapped-at f xs k y is
 
-module _ {P : Type 0} (run : Run) (old : List (Runner P)) (hired : AreHired run old) where
+module _ {P : Type 0} (run : Run) (old : List (Runner P BookHand)) (hired : AreHired run old)
+  where
   -- each of those that are hired may be started
-  pub all-hired : All (IsHiredRunner run.shared) old
+  pub all-hired : All (IsHiredRunner account_in IsAtBooks run.shared) old
   all-hired k d below =
       let found = at-below old k below in
-      subst (IsHiredRunner run.shared) (sym (get_or_from_slice_get old k found.item d found.there))
+      subst (IsHiredRunner account_in IsAtBooks run.shared)
+      (sym (get_or_from_slice_get old k found.item d found.there))
       (hired.each k found.item found.there).hired
 
-  module _ {K : Type 0} (given : K → Option (List ℕ)) (new : List (Runner P)) (was is : List K)
-      (ran : HaveRun run.shared given old new was is)
+  module _ {K : Type 0} (given : K → Option (List ℕ)) (new : List (Runner P BookHand))
+      (was is : List K)
+      (ran : HaveRun account_in IsAtBooks HasSameBooks run.shared given old new was is)
       (enough : length (script_of run.shared).threads ≤ length was) where
-    done-at : (thread : ℕ) (r : Runner P) → slice_get new thread ≡ Some r → IsDone run thread r
+    done-at : (thread : ℕ) (r : Runner P BookHand) → slice_get new thread ≡ Some r
+        → IsDone run thread r
     done-at thread r at =
         let less = slice_get_within new thread r at in
         let many = ran.many in
@@ -60,7 +66,7 @@ module _ {P : Type 0} (run : Run) (old : List (Runner P)) (hired : AreHired run 
             all = one.ran.all ∙ ap (λ (n : ℕ). lines_of (script_of run.shared) n) number;
           };
           numbers = ap (λ (n : Bor Numbers). n.now) one.services.numbers ∙ was_hired.numbers;
-          books = ap (λ (b : Bor (List BookOf)). b.now) one.services.books ∙ was_hired.books;
+          books = ap (λ (b : Bor (List BookOf)). b.now) one.services.hand ∙ was_hired.books;
         }
 
     -- all threads have run all their lines, with the run's books
@@ -76,7 +82,7 @@ module _ {P : Type 0} (run : Run) (old : List (Runner P)) (hired : AreHired run 
         → slice_get is thread ≡ Some behind
         → HasToldAll given run.shared.real before behind note
     told-at thread note before behind at at_was at_is =
-        let r = mapped-at (λ (x : Runner P). x.worker.note) new thread note at in
+        let r = mapped-at (λ (x : Runner P BookHand). x.worker.note) new thread note at in
         let less = slice_get_within new thread r.0 r.1 in
         let many = ran.many in
         let had = at-below old thread (omega (arith, less, many)) in
@@ -85,7 +91,7 @@ module _ {P : Type 0} (run : Run) (old : List (Runner P)) (hired : AreHired run 
 
     pub told-all : AreToldAll given run.shared.real (notes_of new) was is
     told-all =
-        let long = length-map new (λ (r : Runner P). r.worker.note) ∙ ran.many in
+        let long = length-map new (λ (r : Runner P BookHand). r.worker.note) ∙ ran.many in
         record {
           many = ran.clocks;
           each = told-at;

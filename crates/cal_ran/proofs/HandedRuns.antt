@@ -9,8 +9,9 @@ use Rattle.cal_finish.specs.Threads.{IsWholeFor, KnowsNodesOf}
 use Rattle.cal_handover.specs.Closing.{AreClosed, MayCloseAll}
 use Rattle.cal_handover.specs.Places.{emptied}
 use Rattle.cal_handover.specs.declared.handed.Handed.{Handed}
+use Rattle.cal_keeping.specs.Hands.{IsAtBooks, account_in}
 use Rattle.cal_once.specs.declared.seat.RowSeat.{RowSeat}
-use Rattle.cal_ran.proofs.ClosedRuns.{all-run, may-close-all}
+use Rattle.cal_ran.proofs.ClosedRuns.{all-counted, all-run, by-run, may-close-all}
 use Rattle.cal_ran.proofs.Places.{channels_of, seats_of}
 use Rattle.cal_ran.proofs.TakenChannels.{KeepsLimits}
 use Rattle.cal_ran.proofs.TakenRuns.{run-taken}
@@ -62,17 +63,17 @@ module _ {P : Type 0} (run : Run) (is : IsRun run) (h : Handed) (handed : AreHan
           (lent_are ∙ channels-are) closed)
 
       -- and the threads have run as it is asked of a run
-      pub handed-ran : HaveAllRun run.shared handed.from
+      pub handed-ran : HaveAllRun account_in IsAtBooks run.shared handed.from
       handed-ran = all-run run is handed.from handed.done tables from-closed
 
       module _ (journal : Journal) (known : All (IsKnown (script_of run.shared)) journal.ops)
           (whole : IsWholeFor run.shared.common h.threads.items journal.ops) where
         -- they have ended where the history is whole for them
-        pub handed-ended : HaveAllEnded run.shared handed.from journal.ops
+        pub handed-ended : HaveAllEnded account_in IsAtBooks run.shared handed.from journal.ops
         handed-ended = record {
           run = handed-ran;
           known = known;
-          ended = has-ended run.shared handed.from handed-ran journal.ops
+          ended = has-ended account_in IsAtBooks run.shared handed.from handed-ran journal.ops
               (subst (λ (ts : List Thread). IsWholeFor run.shared.common ts journal.ops)
               handed.parts.threads whole);
         }
@@ -92,7 +93,8 @@ module _ {P : Type 0} (run : Run) (is : IsRun run) (h : Handed) (handed : AreHan
             IsTaken (script_of run.shared) run.shared.common.tree seat run.context
             (snapshots (script_of run.shared) journal) channels tables)
             (sym (left_are ∙ ap (map (map emptied)) (lent_are ∙ channels-are)))
-            (run-taken run is handed.from handed.done journal handed-ended
+            (run-taken account_in IsAtBooks run is handed.from
+            (by-run run is handed.from handed.done) journal handed-ended
             (noted ∙ handed.parts.notes) seat
             (subst (λ (ts : List Thread). All (KnowsNodesOf seat) ts) handed.parts.threads knows)
-            tables from-closed apart limits)
+            tables (all-counted run is handed.from handed.done tables from-closed) apart limits)

@@ -1,10 +1,10 @@
 pub mod Places
 pub mod Standing
 pub mod DoneRuns
-pub mod ClosedRuns
-pub mod HandedRuns
 pub mod TakenLines
 pub mod TakenShares
 pub mod TakenChannels
 pub mod TakenRuns
+pub mod ClosedRuns
+pub mod HandedRuns
 pub mod EndedRuns

@@ -1,19 +1,22 @@
 -- What the threads of a run have at the place of a channel, list by list.
 use Rattle.std.proofs.Common.{◌≡◌, ℕ, zero, suc, ◌+◌, ◌*◌, ◌≤◌, ◌^◌, List, [], ◌∷◌, length}
-use Rattle.std.proofs.Common.{refl, sym, ap, ◌∙◌, subst, arith}
-use Rattle.std.specs.Prelude.{Option, Some, None, IfSome, slice_get, sum_by}
-use Rattle.std.specs.List.{AllZip, cons_option}
+use Rattle.std.proofs.Common.{map, refl, sym, ap, ◌∙◌, subst, arith}
+use Rattle.std.specs.Prelude.{Option, Some, None, IfSome, option_map, slice_get, sum_by}
+use Rattle.std.specs.List.{cons_option}
 use Rattle.std.proofs.lemmas.List.Elements.{All-cons, All-nil}
 use Rattle.std.proofs.lemmas.List.Sums.{sum_by-append, sum_by-cons}
-use Rattle.std.proofs.lemmas.Option.{same_Some}
+use Rattle.std.proofs.lemmas.Option.{get_or_from_slice_get, same_Some, slice_get-map}
+use Rattle.cal_book.specs.Accounts.{blank}
 use Rattle.cal_book.specs.Seats.{shape_of, view}
 use Rattle.cal_channel.specs.Values.{ChannelValue, unflushed_of}
 use Rattle.cal_closing.specs.Parts.{AreOfShape}
 use Rattle.cal_closing.specs.Seats.{IsThreadSeat, accounts_of, given_by}
-use Rattle.cal_finish.specs.Ended.{HasAccount}
+use Rattle.cal_finish.specs.Ended.{accounts_at}
 use Rattle.cal_channel.specs.Places.{at_place}
 use Rattle.cal_handover.specs.Places.{tables_at}
-use Rattle.cal_keeping.specs.Kept as kept
+use Rattle.cal_keeping.specs.Hands as hands
+use Rattle.cal_keeping.specs.Hands.{AccountOf, account_in}
+use Rattle.cal_keeping.specs.declared.book_hand.BookHand.{BookHand}
 use Rattle.cal_keeping.specs.declared.runner.Runner.{Runner}
 use Rattle.cal_ran.proofs.Places.{channels_of, seats_of, seats-cons, tables-cons}
 use Rattle.cal_replay.specs.Flushing.{BookOf, SeatOf}
@@ -36,25 +39,34 @@ made-cons_option book None tables one all = all
 made-cons_option book (Some table) tables one all =
     All-cons (λ (t : TableValue). t.shape ≡ shape_of book) table tables one all
 
+-- what is done at a place is the account of the seat there
+pub account-at : (hand : BookHand) (place : ℕ) (seat : SeatOf)
+    → slice_get hand.seats.items place ≡ Some seat
+    → account_in hand place ≡ (view seat).account
+account-at hand place seat at =
+    let account : SeatOf → AccountOf = λ s. (view s).account in
+    get_or_from_slice_get (map account hand.seats.items) place (account seat) blank
+    (slice_get-map account hand.seats.items place ∙ ap (option_map account) at)
+
 module _ {P : Type 0} (place : ℕ) (book : BookOf) where
   -- The runner of a number has a channel at the place and a seat at the book, by which it has
   -- taken 2^20 snapshots at most.
-  pub record Stands (number : ℕ) (r : Runner P) : Type 0 where
+  pub record Stands (number : ℕ) (r : Runner P BookHand) : Type 0 where
     pub c : ChannelValue
     pub seat : SeatOf
     pub channel_at : slice_get r.channels.channels.items place ≡ Some c
-    pub seat_at : slice_get r.channels.seats.items place ≡ Some seat
+    pub seat_at : slice_get r.channels.hand.seats.items place ≡ Some seat
     pub is : IsThreadSeat book number seat
     pub made : IfSome c.table (λ (t : TableValue). t.shape ≡ shape_of book)
-    pub few : kept.given_by (view seat) + unflushed_of c.table ≤ 2 ^ 20
+    pub few : hands.given_by (view seat).account + unflushed_of c.table ≤ 2 ^ 20
 
   -- and so have all, whose numbers are those from one on
-  abbrev pub AllStand : ℕ → List (Runner P) → Type 0
+  abbrev pub AllStand : ℕ → List (Runner P BookHand) → Type 0
   AllStand n [] = Unit {0}
   AllStand n (r ∷ runners) = Stands n r × AllStand (suc n) runners
 
-  pub all-stand : (n : ℕ) (runners : List (Runner P))
-      → ((number k : ℕ) (r : Runner P) → number ≡ n + k → slice_get runners k ≡ Some r
+  pub all-stand : (n : ℕ) (runners : List (Runner P BookHand))
+      → ((number k : ℕ) (r : Runner P BookHand) → number ≡ n + k → slice_get runners k ≡ Some r
       → Stands number r)
       → AllStand n runners
   all-stand n [] each = tt
@@ -64,7 +76,7 @@ module _ {P : Type 0} (place : ℕ) (book : BookOf) where
         (λ number k s e at. each number (suc k) s (omega (arith, e)) at),
   )
 
-  pub length-at : (n : ℕ) (runners : List (Runner P)) → AllStand n runners
+  pub length-at : (n : ℕ) (runners : List (Runner P BookHand)) → AllStand n runners
       → length (at_place place (seats_of runners)) ≡ length runners
   length-at n [] all = refl
   length-at n (r ∷ runners) all =
@@ -73,7 +85,7 @@ module _ {P : Type 0} (place : ℕ) (book : BookOf) where
       ∙ ap suc (length-at (suc n) runners all.1)
 
   -- each seat there is that of its thread
-  pub own-at : (n : ℕ) (runners : List (Runner P)) → AllStand n runners
+  pub own-at : (n : ℕ) (runners : List (Runner P BookHand)) → AllStand n runners
       → (number k : ℕ) (seat : SeatOf) → number ≡ n + k
       → slice_get (at_place place (seats_of runners)) k ≡ Some seat
       → IsThreadSeat book number seat
@@ -90,22 +102,16 @@ module _ {P : Type 0} (place : ℕ) (book : BookOf) where
       (seats-cons place r runners all.0.seat all.0.seat_at) at)
 
   -- what each has done at the book is that of the seat there
-  pub accounts-at : (n : ℕ) (runners : List (Runner P)) → AllStand n runners
-      → AllZip (HasAccount place) runners (accounts_of (at_place place (seats_of runners)))
-  accounts-at n [] all = tt
-  accounts-at n (r ∷ runners) all =
-      subst (λ (seats : List SeatOf).
-      AllZip (HasAccount place) (r ∷ runners) (accounts_of seats))
-      (sym (seats-cons place r runners all.0.seat all.0.seat_at)) (
-        record {
-          seat = all.0.seat;
-          seat_at = all.0.seat_at;
-          account_is = refl;
-        },
-        accounts-at (suc n) runners all.1,
-      )
+  pub accounts-are : (n : ℕ) (runners : List (Runner P BookHand)) → AllStand n runners
+      → accounts_of (at_place place (seats_of runners)) ≡ accounts_at account_in place runners
+  accounts-are n [] all = refl
+  accounts-are n (r ∷ runners) all =
+      ap (λ (seats : List SeatOf). accounts_of seats)
+      (seats-cons place r runners all.0.seat all.0.seat_at)
+      ∙ (λ i. sym (account-at r.channels.hand place all.0.seat all.0.seat_at) i
+      ∷ accounts-are (suc n) runners all.1 i)
 
-  pub made-at : (n : ℕ) (runners : List (Runner P)) → AllStand n runners
+  pub made-at : (n : ℕ) (runners : List (Runner P BookHand)) → AllStand n runners
       → AreOfShape (shape_of book) (tables_at place (channels_of runners))
   made-at n [] all = All-nil (λ (t : TableValue). t.shape ≡ shape_of book)
   made-at n (r ∷ runners) all =
@@ -115,7 +121,7 @@ module _ {P : Type 0} (place : ℕ) (book : BookOf) where
       (made-at (suc n) runners all.1))
 
   -- what all have taken in the channel is 2^20 snapshots each at most
-  pub few-at : (n : ℕ) (runners : List (Runner P)) → AllStand n runners
+  pub few-at : (n : ℕ) (runners : List (Runner P BookHand)) → AllStand n runners
       → sum_by count (given_by (accounts_of (at_place place (seats_of runners))))
       + sum_by count (tables_at place (channels_of runners)) ≤ length runners * 1048576
   few-at n [] all = omega arith

@@ -5,27 +5,23 @@ use Rattle.std.specs.Prelude.{Some, option_map, slice_get, zip}
 use Rattle.std.specs.List.{All, AllZip, flat_map}
 use Rattle.std.proofs.lemmas.List.Folds.{flat_map-map}
 use Rattle.std.proofs.lemmas.Option.{same_Some, slice_get-map}
-use Rattle.cal_book.specs.Seats as books
 use Rattle.cal_channel.specs.Channels.{Counts}
 use Rattle.cal_channel.specs.Places.{at_place}
 use Rattle.cal_closing.proofs.Counting.{closed-counts}
-use Rattle.cal_closing.specs.Seats.{accounts_of}
 use Rattle.cal_delivery.specs.Taken.{HasTable, HaveTaken}
 use Rattle.cal_filter.specs.Named.{HasSmallNumbers}
-use Rattle.cal_finish.specs.Ended.{HaveAllEnded, notes_of, threads_of}
+use Rattle.cal_finish.specs.Ended.{HaveAllEnded, accounts_at, notes_of, threads_of}
 use Rattle.cal_finish.specs.Threads.{KnowsNodesOf}
-use Rattle.cal_handover.specs.Closing.{AreClosed}
 use Rattle.cal_handover.specs.Places.{tables_at}
+use Rattle.cal_keeping.specs.Hands.{AccountOf}
 use Rattle.cal_keeping.specs.declared.runner.Runner.{Runner}
 use Rattle.cal_notes.proofs.NotedLines.{all_zip-from}
 use Rattle.cal_once.specs.declared.seat.RowSeat.{RowSeat}
 use Rattle.cal_profile.specs.Declared.{IsTrace}
-use Rattle.cal_ran.proofs.Places.{channels_of, left_of, seats_of}
-use Rattle.cal_ran.proofs.TakenLines.{HasTakenLines, taken-lines}
-use Rattle.cal_ran.proofs.TakenShares.{shares-at, takens, traces-at}
-use Rattle.cal_ran.specs.Runs.{AreDone}
+use Rattle.cal_ran.proofs.Places.{channels_of, left_of}
+use Rattle.cal_ran.proofs.TakenLines.{GoByRun, HasTakenLines, taken-lines}
+use Rattle.cal_ran.proofs.TakenShares.{AreCounted, shares-at, takens, traces-at}
 use Rattle.cal_replay.specs.Channels.{joined}
-use Rattle.cal_replay.specs.Flushing.{BookOf}
 use Rattle.cal_replay.specs.Workers.{script_of}
 use Rattle.cal_run.specs.RunAttributes.{run_attributes}
 use Rattle.cal_run.specs.Runs.{snapshots, taken_by_thread}
@@ -35,7 +31,6 @@ use Rattle.cal_script.specs.declared.script.Channel.{Channel}
 use Rattle.cal_script.specs.declared.script.Script.{Script}
 use Rattle.cal_start.specs.Runs.{IsRun, shape_for}
 use Rattle.cal_start.specs.declared.run.Run.{Run}
-use Rattle.cal_table.specs.Shapes.{shape_of}
 use Rattle.cal_table.specs.Tables.{TableValue}
 use Rattle.cal_table.specs.declared.shape.TableShape.{TableShape}
 use Rattle.cal_value.specs.declared.record.Rec.{Rec}
@@ -52,30 +47,31 @@ pub record KeepsLimits (script : Script) (journal : Journal) (channel : Channel)
   pub few : length (snapshots script journal channel) ≤ 2 ^ 20
   pub small : All HasSmallNumbers (snapshots script journal channel)
 
-module _ {P : Type 0} (run : Run) (is : IsRun run) (runners : List (Runner P))
-    (done : AreDone run runners) (journal : Journal)
-    (ended : HaveAllEnded run.shared runners journal.ops)
+module _ {P H : Type 0} (account : H → ℕ → AccountOf)
+    (takes : H → ℕ → List TableShape → Type 0) (run : Run) (is : IsRun run)
+    (runners : List (Runner P H)) (by_run : GoByRun takes run runners) (journal : Journal)
+    (ended : HaveAllEnded account takes run.shared runners journal.ops)
     (noted : journal.threads ≡ notes_of runners) (seat : RowSeat NodeSort)
     (knows : All (KnowsNodesOf seat) (threads_of runners)) (tables : List TableValue)
-    (closed : AreClosed run.books.items (seats_of runners) (channels_of runners) tables) where
+    (counted : AreCounted account run.shapes.items runners tables) where
   abbrev script : Script
   script = script_of run.shared
 
-  module _ (place : ℕ) (channel : Channel) (book : BookOf) (table : TableValue)
+  module _ (place : ℕ) (channel : Channel) (shape : TableShape) (table : TableValue)
       (at_channel : slice_get script.channels place ≡ Some channel)
-      (at_book : slice_get run.books.items place ≡ Some book)
+      (at_shape : slice_get run.shapes.items place ≡ Some shape)
       (at_table : slice_get tables place ≡ Some table) where
     abbrev all_takens : List (List Rec)
     all_takens = takens run.context.attributes run.shared.common seat journal.ops place channel
-        book script.threads runners
+        shape script.threads runners
 
     -- each thread has taken its lines
-    lines-taken : AllZip (HasTakenLines run.context.attributes run.shared.common seat journal.ops
-        place channel book) script.threads runners
-    lines-taken = all_zip-from (HasTakenLines run.context.attributes run.shared.common seat
-        journal.ops place channel book) script.threads runners done.many
-        (taken-lines run is runners done journal.ops ended seat knows place channel book at_channel
-        at_book)
+    lines-taken : AllZip (HasTakenLines account run.context.attributes run.shared.common seat
+        journal.ops place channel shape) script.threads runners
+    lines-taken = all_zip-from (HasTakenLines account run.context.attributes run.shared.common seat
+        journal.ops place channel shape) script.threads runners ended.run.many
+        (taken-lines account takes run is runners by_run journal.ops ended seat knows place channel
+        shape at_channel at_shape)
 
     -- which are all snapshots of the channel
     all-taken : flat_map (taken_by_thread script journal.ops channel)
@@ -84,27 +80,22 @@ module _ {P : Type 0} (run : Run) (is : IsRun run) (runners : List (Runner P))
         flat_map (taken_by_thread script journal.ops channel) (zip script.threads notes))
         (sym noted)
 
-    -- the book was made for the channel's query
-    shape-is : books.shape_of book ≡ shape_for is.hashers run.context.attributes channel
+    -- the shape was made for the channel's query
+    shape-is : shape ≡ shape_for is.hashers run.context.attributes channel
     shape-is =
-        let shape : Channel → TableShape = shape_for is.hashers run.context.attributes in
-        let made : slice_get (map books.shape_of run.books.items) place
-        ≡ Some (books.shape_of book) =
-        slice_get-map books.shape_of run.books.items place
-        ∙ ap (option_map books.shape_of) at_book in
-        let asked : slice_get (map shape script.channels) place ≡ Some (shape channel) =
-        slice_get-map shape script.channels place ∙ ap (option_map shape) at_channel in
-        same_Some (books.shape_of book) (shape channel)
-        (sym made ∙ ap (λ (shapes : List TableShape). slice_get shapes place)
-        (is.books.made ∙ is.shapes) ∙ asked)
+        let asked : Channel → TableShape = shape_for is.hashers run.context.attributes in
+        let made : slice_get (map asked script.channels) place ≡ Some (asked channel) =
+        slice_get-map asked script.channels place ∙ ap (option_map asked) at_channel in
+        same_Some shape (asked channel)
+        (sym at_shape ∙ ap (λ (shapes : List TableShape). slice_get shapes place) is.shapes ∙ made)
 
     -- where the channel aggregates, its table counts them
     table-counts : channel.aggregate ≡ true
         → HasTable run.context.attributes script run.shared.common.tree seat channel table
         (snapshots script journal channel)
     table-counts does =
-        let here = closed.each place book table at_book at_table in
-        let accounts = accounts_of (at_place place (seats_of runners)) in
+        let here = counted.each place shape table at_shape at_table in
+        let accounts = accounts_at account place runners in
         let lefts = tables_at place (channels_of runners) in
         record {
           hashers = is.hashers;
@@ -114,9 +105,9 @@ module _ {P : Type 0} (run : Run) (is : IsRun run) (runners : List (Runner P))
               (joined-map (taken_by_thread script journal.ops channel)
               (zip script.threads (notes_of runners)) ∙ all-taken)
               (closed-counts run.context.attributes script run.shared.common.tree seat
-              (books.shape_of book) accounts lefts all_takens table
+              shape accounts lefts all_takens table
               (shares-at run.context.attributes run.shared.common seat journal.ops place channel
-              book does script.threads runners lines-taken here.given) here.merged);
+              shape account does script.threads runners lines-taken here.made) here.merged);
         }
 
     -- all threads have taken them, one behind another
@@ -129,7 +120,7 @@ module _ {P : Type 0} (run : Run) (is : IsRun run) (runners : List (Runner P))
           (taken_by_thread script journal.ops channel) (zip script.threads (notes_of runners))
           ∙ all-taken;
       traces = traces-at run.context.attributes run.shared.common seat journal.ops place channel
-          book script.threads runners lines-taken;
+          shape account script.threads runners lines-taken;
       counted = table-counts;
       known = run_attributes script;
       trace = limits.trace;

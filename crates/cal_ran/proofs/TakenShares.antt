@@ -1,35 +1,33 @@
 -- The traces of all threads in a channel, and their shares of its book, thread by thread.
-use Rattle.std.proofs.Common.{◌≡◌, ℕ, zero, suc, true, List, [], ◌∷◌, map}
+use Rattle.std.proofs.Common.{◌≡◌, ℕ, zero, suc, true, List, [], ◌∷◌, ◌++◌, length, map}
 use Rattle.std.proofs.Common.{refl, sym, ap, ◌∙◌, subst}
 use Rattle.std.specs.Prelude.{Option, Some, None, IfSome, is_some, slice_get, zip}
 use Rattle.std.specs.List.{AllZip, cons_option}
 use Rattle.std.proofs.lemmas.List.Elements.{All-head, All-tail}
 use Rattle.std.proofs.lemmas.Option.{same_Some}
-use Rattle.cal_book.specs.Seats as books
 use Rattle.cal_book.specs.declared.view.Account.{Account}
 use Rattle.cal_channel.proofs.LawLemmas.{taken-later}
 use Rattle.cal_channel.specs.Places.{at_place}
 use Rattle.cal_channel.specs.Values.{ChannelValue}
 use Rattle.cal_closing.proofs.Counting.{share-of}
-use Rattle.cal_closing.specs.Parts.{AreMadeFor, AreOfShape}
-use Rattle.cal_closing.specs.Seats.{accounts_of}
+use Rattle.cal_closing.specs.Parts.{AreMadeFor, AreOfShape, all_of}
+use Rattle.cal_closing.specs.Seats.{given_by}
 use Rattle.cal_closing.specs.Shares.{AreShares, IsShare}
 use Rattle.cal_delivery.specs.Taken.{HasTrace}
-use Rattle.cal_finish.specs.Ended.{notes_of}
+use Rattle.cal_finish.specs.Ended.{accounts_at, notes_of}
 use Rattle.cal_handover.specs.Places.{emptied, tables_at}
+use Rattle.cal_keeping.specs.Hands.{AccountOf}
 use Rattle.cal_keeping.specs.declared.runner.Runner.{Runner}
 use Rattle.cal_once.specs.declared.seat.RowSeat.{RowSeat}
 use Rattle.cal_process.specs.declared.common.Common.{Common}
-use Rattle.cal_ran.proofs.Places.{channels_of, left-cons, left_of, seats-cons, seats_of}
-use Rattle.cal_ran.proofs.Places.{tables-cons}
+use Rattle.cal_ran.proofs.Places.{channels_of, left-cons, left_of, tables-cons}
 use Rattle.cal_ran.proofs.TakenLines.{HasTakenLines}
-use Rattle.cal_replay.specs.Flushing.{BookOf, SeatOf}
 use Rattle.cal_run.specs.Runs.{taken_by_thread}
 use Rattle.cal_script.specs.declared.journal.Placed.{Placed}
 use Rattle.cal_script.specs.declared.script.Channel.{Channel}
 use Rattle.cal_script.specs.declared.script.Line.{Line}
 use Rattle.cal_script.specs.declared.script.Script.{Script}
-use Rattle.cal_table.specs.Tables.{TableValue}
+use Rattle.cal_table.specs.Tables.{Same, TableValue}
 use Rattle.cal_table.specs.declared.shape.TableShape.{TableShape}
 use Rattle.cal_tree.specs.declared.tree.Tree.{Tree}
 use Rattle.cal_value.specs.declared.attribute.Attribute.{Attribute}
@@ -40,6 +38,24 @@ use Rattle.cal_words.specs.declared.sort.NodeSort.{NodeSort}
 there : {A : Type 0} (o : Option A) → is_some o ≡ true → (x : A) × (o ≡ Some x)
 there None is = absurd cc
 there (Some x) is = (x, refl)
+
+-- ---- what tables count
+
+-- A table stands for all parts that threads gave, which were made for it, and for what they have
+-- left.
+pub record IsCounted (shape : TableShape) (accounts : List AccountOf) (left : List TableValue)
+    (table : TableValue) : Type 0 where
+  pub merged : Same table (all_of shape (given_by accounts ++ left))
+  pub made : AreMadeFor shape accounts
+
+-- and so does each of these, place by place
+pub record AreCounted {P H : Type 0} (account : H → ℕ → AccountOf) (shapes : List TableShape)
+    (runners : List (Runner P H)) (tables : List TableValue) : Type 0 where
+  pub many : length tables ≡ length shapes
+  pub each : (place : ℕ) (shape : TableShape) (table : TableValue)
+      → slice_get shapes place ≡ Some shape → slice_get tables place ≡ Some table
+      → IsCounted shape (accounts_at account place runners) (tables_at place (channels_of runners))
+      table
 
 -- ---- shares, one more
 
@@ -82,88 +98,80 @@ module _ (attributes : List Attribute) (script : Script) (tree : Tree)
 
 module _ (attributes : List Attribute) (common : Common)
     (seat : RowSeat NodeSort) (history : List Placed) (place : ℕ) (channel : Channel)
-    (book : BookOf) where
+    (shape : TableShape) where
   abbrev script : Script
   script = common.script.now
 
-  abbrev shape : TableShape
-  shape = books.shape_of book
-
-  module _ {P : Type 0} where
-    abbrev Takes : List Line → Runner P → Type 0
-    Takes ls r = HasTakenLines attributes common seat history place channel book ls r
-
+  module _ {P H : Type 0} where
     -- what a thread has taken, and what all threads have
-    abbrev pub taken : List Line → Runner P → List Rec
+    abbrev pub taken : List Line → Runner P H → List Rec
     taken ls r = taken_by_thread script history channel (ls, r.worker.note)
 
-    abbrev pub takens : List (List Line) → List (Runner P) → List (List Rec)
+    abbrev pub takens : List (List Line) → List (Runner P H) → List (List Rec)
     takens threads runners =
         map (taken_by_thread script history channel) (zip threads (notes_of runners))
 
-    trace-of : (ls : List Line) (r : Runner P) (h : Takes ls r)
-        → HasTrace attributes script common.tree seat channel (emptied h.c) (taken ls r)
-    trace-of ls r h = record {
-      has = h.traces;
-      means = (taken-later attributes script common.tree r.worker.thread.tree seat h.knows h.c
-          (taken ls r) h.shown.unflushed h.shown.taken).trace;
-    }
+    module _ (account : H → ℕ → AccountOf) where
+      abbrev Takes : List Line → Runner P H → Type 0
+      Takes ls r = HasTakenLines account attributes common seat history place channel shape ls r
 
-    -- each thread's trace means what it has taken
-    pub traces-at : (threads : List (List Line)) (runners : List (Runner P))
-        → AllZip Takes threads runners
-        → AllZip (HasTrace attributes script common.tree seat channel)
-        (at_place place (left_of runners)) (takens threads runners)
-    traces-at [] [] all = tt
-    traces-at [] (r ∷ runners) all = absurd all
-    traces-at (ls ∷ threads) [] all = absurd all
-    traces-at (ls ∷ threads) (r ∷ runners) all =
-        subst (λ (cs : List ChannelValue).
-        AllZip (HasTrace attributes script common.tree seat channel) cs
-        (takens (ls ∷ threads) (r ∷ runners)))
-        (sym (left-cons place r runners all.0.c all.0.channel_at))
-        (trace-of ls r all.0, traces-at threads runners all.1)
+      trace-of : (ls : List Line) (r : Runner P H) (h : Takes ls r)
+          → HasTrace attributes script common.tree seat channel (emptied h.c) (taken ls r)
+      trace-of ls r h = record {
+        has = h.traces;
+        means = (taken-later attributes script common.tree r.worker.thread.tree seat h.knows h.c
+            (taken ls r) h.shown.unflushed h.shown.taken).trace;
+      }
 
-    -- a thread's share, where the channel aggregates
-    share-at : (ls : List Line) (r : Runner P) (h : Takes ls r) (left : TableValue)
-        → h.c.table ≡ Some left → AreOfShape shape (books.view h.own).account.given
-        → IsShare attributes script common.tree seat shape (books.view h.own).account.given left
-        (taken ls r)
-    share-at ls r h left is made =
-        share-of common attributes r.worker.thread.tree seat shape h.c
-        (books.view h.own).account.given left (taken ls r) h.last h.knows h.shown is made
-        (subst (λ (o : Option TableValue). IfSome o (λ (t : TableValue). t.shape ≡ shape)) is
-        h.made)
+      -- each thread's trace means what it has taken
+      pub traces-at : (threads : List (List Line)) (runners : List (Runner P H))
+          → AllZip Takes threads runners
+          → AllZip (HasTrace attributes script common.tree seat channel)
+          (at_place place (left_of runners)) (takens threads runners)
+      traces-at [] [] all = tt
+      traces-at [] (r ∷ runners) all = absurd all
+      traces-at (ls ∷ threads) [] all = absurd all
+      traces-at (ls ∷ threads) (r ∷ runners) all =
+          subst (λ (cs : List ChannelValue).
+          AllZip (HasTrace attributes script common.tree seat channel) cs
+          (takens (ls ∷ threads) (r ∷ runners)))
+          (sym (left-cons place r runners all.0.c all.0.channel_at))
+          (trace-of ls r all.0, traces-at threads runners all.1)
 
-    -- what each thread has done at the book, and what it has left, is its share
-    pub shares-at : channel.aggregate ≡ true → (threads : List (List Line))
-        (runners : List (Runner P)) → AllZip Takes threads runners
-        → AreMadeFor shape (accounts_of (at_place place (seats_of runners)))
-        → AreShares attributes script common.tree seat shape
-        (accounts_of (at_place place (seats_of runners))) (tables_at place (channels_of runners))
-        (takens threads runners)
-    shares-at does [] [] all made = shares-none attributes script common.tree seat shape
-    shares-at does [] (r ∷ runners) all made = absurd all
-    shares-at does (ls ∷ threads) [] all made = absurd all
-    shares-at does (ls ∷ threads) (r ∷ runners) all made =
-        let h : Takes ls r = all.0 in
-        let seats : List SeatOf = at_place place (seats_of runners) in
-        let tables : List TableValue = tables_at place (channels_of runners) in
-        let recs : List (List Rec) = takens (ls ∷ threads) (r ∷ runners) in
-        let account : Account TableValue = (books.view h.own).account in
-        let left = there h.c.table (h.aggregates ∙ does) in
-        let seats-are = seats-cons place r runners h.own h.seat_at in
-        let tables-are : tables_at place (channels_of (r ∷ runners)) ≡ left.0 ∷ tables =
-        tables-cons place r runners h.c h.channel_at
-        ∙ ap (λ (o : Option TableValue). cons_option o tables) left.1 in
-        let parts : Account TableValue → Type 0 = λ a. AreOfShape shape a.given in
-        let own : AreMadeFor shape (account ∷ accounts_of seats) =
-        subst (λ (ss : List SeatOf). AreMadeFor shape (accounts_of ss)) seats-are made in
-        subst (λ (ss : List SeatOf). AreShares attributes script common.tree seat shape
-        (accounts_of ss) (tables_at place (channels_of (r ∷ runners))) recs) (sym seats-are)
-        (subst (λ (ts : List TableValue). AreShares attributes script common.tree seat shape
-        (account ∷ accounts_of seats) ts recs) (sym tables-are)
-        (shares-cons attributes script common.tree seat shape account left.0 (taken ls r)
-        (accounts_of seats) tables (takens threads runners)
-        (share-at ls r h left.0 left.1 (All-head parts account (accounts_of seats) own))
-        (shares-at does threads runners all.1 (All-tail parts account (accounts_of seats) own))))
+      -- a thread's share, where the channel aggregates
+      share-at : (ls : List Line) (r : Runner P H) (h : Takes ls r) (left : TableValue)
+          → h.c.table ≡ Some left → AreOfShape shape (account r.channels.hand place).given
+          → IsShare attributes script common.tree seat shape (account r.channels.hand place).given
+          left (taken ls r)
+      share-at ls r h left is made =
+          share-of common attributes r.worker.thread.tree seat shape h.c
+          (account r.channels.hand place).given left (taken ls r) h.last h.knows h.shown is made
+          (subst (λ (o : Option TableValue). IfSome o (λ (t : TableValue). t.shape ≡ shape)) is
+          h.made)
+
+      -- what each thread has given, and what it has left, is its share
+      pub shares-at : channel.aggregate ≡ true → (threads : List (List Line))
+          (runners : List (Runner P H)) → AllZip Takes threads runners
+          → AreMadeFor shape (accounts_at account place runners)
+          → AreShares attributes script common.tree seat shape (accounts_at account place runners)
+          (tables_at place (channels_of runners)) (takens threads runners)
+      shares-at does [] [] all made = shares-none attributes script common.tree seat shape
+      shares-at does [] (r ∷ runners) all made = absurd all
+      shares-at does (ls ∷ threads) [] all made = absurd all
+      shares-at does (ls ∷ threads) (r ∷ runners) all made =
+          let h : Takes ls r = all.0 in
+          let accounts : List AccountOf = accounts_at account place runners in
+          let tables : List TableValue = tables_at place (channels_of runners) in
+          let recs : List (List Rec) = takens (ls ∷ threads) (r ∷ runners) in
+          let own : AccountOf = account r.channels.hand place in
+          let left = there h.c.table (h.aggregates ∙ does) in
+          let tables-are : tables_at place (channels_of (r ∷ runners)) ≡ left.0 ∷ tables =
+          tables-cons place r runners h.c h.channel_at
+          ∙ ap (λ (o : Option TableValue). cons_option o tables) left.1 in
+          let parts : AccountOf → Type 0 = λ a. AreOfShape shape a.given in
+          subst (λ (ts : List TableValue). AreShares attributes script common.tree seat shape
+          (own ∷ accounts) ts recs) (sym tables-are)
+          (shares-cons attributes script common.tree seat shape own left.0 (taken ls r) accounts
+          tables (takens threads runners)
+          (share-at ls r h left.0 left.1 (All-head parts own accounts made))
+          (shares-at does threads runners all.1 (All-tail parts own accounts made)))
