@@ -1,5 +1,6 @@
 //! The running threads of a script, timed from their hiring until each has done its lines.
 ghost use Rattle.std.specs.Prelude.{◌≡◌, ◌≤◌, All, length};
+ghost use Rattle.cal_keeping.specs.Hands.{IsAtBooks, account_in};
 ghost use Rattle.cal_keeping.specs.Runners.{IsHiredRunner};
 ghost use Rattle.cal_replay.specs.Workers.{IsShared, script_of};
 ghost use Rattle.cal_script.specs.Valid.{IsRunnable};
@@ -68,7 +69,7 @@ fn time_threads<R: Clock + AllocGlobal + Threads + Sync>(
     clocks: &mut Vec<MemClock>,
 ) -> Result<Duration>
     requires shared { IsShared shared.now }
-    requires hired { All (IsHiredRunner shared.now) runners.items }
+    requires hired { All (IsHiredRunner account_in IsAtBooks shared.now) runners.items }
     requires clocks { length runners.items ≤ length clocks.old.items }
 {
     let begun = Instant::now(rt);

@@ -44,7 +44,8 @@ returns g c =
           HaveShifted account takes stays shared given ss new) value c.run_all.ensures.ran)
           (subst (λ (ss : List (Shift g.row.P.Denot g.row.H.Denot g.row.K.Denot)).
           All (λ (s : Shift g.row.P.Denot g.row.H.Denot g.row.K.Denot). s.ran ≡ true) ss)
-          (c.as_slice.ensures.value ∙ back) (c.have_all_run.ensures yes))
+          (◌∙◌ {A = List (Shift g.row.P.Denot g.row.H.Denot g.row.K.Denot)}
+          c.as_slice.ensures.value back) (c.have_all_run.ensures yes))
           c.in_ok-shifts.ensures.clocks
           (c.in_ok-done.ensures.clocks
           ∙ ap (λ (ss : List (Shift g.row.P.Denot g.row.H.Denot g.row.K.Denot)).

@@ -10,6 +10,22 @@ use Rattle.cal_start.specs.FirstSeats.{AreFirstSeats}
 use Rattle.cal_thread.specs.declared.thread.Thread.{Thread}
 use Rattle.cal_start.proofs.run.Run.hire_one.Goals as goal
 
+-- its hand takes tables of the books' shapes
+pub new-requires-clause-takes : goal.new-requires-clause-takes
+new-requires-clause-takes g c =
+    takes-all c.args.number
+    (record { books = c.as_slice-books.result; seats = c.in_ok-seats.seats })
+    c.in_ok-seats.ensures.new c.as_slice.result.now
+    (ap (λ (bs : List BookOf). map shape_of bs) c.as_slice-books.ensures.value
+    ∙ (c.requires.run.books.made ∙ sym c.as_slice.ensures.value))
+
+-- and has done nothing
+pub new-requires-clause-nothing : goal.new-requires-clause-nothing
+new-requires-clause-nothing g c =
+    nothing-done c.args.number
+    (record { books = c.as_slice-books.result; seats = c.in_ok-seats.seats })
+    c.in_ok-seats.ensures.new
+
 pub returns-clause-hired : goal.returns-clause-hired
 returns-clause-hired g c =
     let kept = c.in_ok-channels.ensures in
