@@ -29,8 +29,8 @@ mapped-at f [] k y is = absurd cc
 mapped-at f (x ∷ xs) zero y is = (x, refl, same_Some (f x) y is)
 mapped-at f (x ∷ xs) (suc k) y is = mapped-at f xs k y is
 
-module _ {P : Type 0} (run : Run) (old : List (Runner P BookHand)) (hired : AreHired run old)
-  where
+module _ {P : Type 0} (run : Run) (old : List (Runner P BookHand))
+    (hired : AreHired run old) where
   -- each of those that are hired may be started
   pub all-hired : All (IsHiredRunner account_in IsAtBooks run.shared) old
   all-hired k d below =
