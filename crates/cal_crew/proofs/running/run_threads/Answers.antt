@@ -44,12 +44,11 @@ returns g c =
           HaveShifted account takes stays shared given ss new) value c.run_all.ensures.ran)
           (subst (λ (ss : List (Shift g.row.P.Denot g.row.H.Denot g.row.K.Denot)).
           All (λ (s : Shift g.row.P.Denot g.row.H.Denot g.row.K.Denot). s.ran ≡ true) ss)
-          (◌∙◌ {A = List (Shift g.row.P.Denot g.row.H.Denot g.row.K.Denot)}
-          c.as_slice.ensures.value back) (c.have_all_run.ensures yes))
+          (c.as_slice.ensures.value ∙ back) (c.have_all_run.ensures yes))
           c.in_ok-shifts.ensures.clocks
-          (c.in_ok-done.ensures.clocks
-          ∙ ap (λ (ss : List (Shift g.row.P.Denot g.row.H.Denot g.row.K.Denot)).
-          clocks_of ss ++ left) back)
+          (◌∙◌ {A = List g.row.K.Denot} c.in_ok-done.ensures.clocks
+          (ap (λ (ss : List (Shift g.row.P.Denot g.row.H.Denot g.row.K.Denot)).
+          clocks_of ss ++ left) back))
           c.args.runners.items c.in_ok-done.done.items c.in_ok-shifts.ensures.runners
           (c.in_ok-done.ensures.runners
           ∙ ap (λ (ss : List (Shift g.row.P.Denot g.row.H.Denot g.row.K.Denot)).

@@ -24,7 +24,7 @@ loop-place-preserved c =
     let split = c.split.ensures in
     record {
       new = subst (λ (xs : List SeatOf). AreMade (IsNewSeat n) books xs (p + 1))
-          (sym c.in_ok-push.ensures.items)
+          (sym {A = List SeatOf} c.in_ok-push.ensures.items)
           (made-more (IsNewSeat n) books c.loop-place.seats.items p book c.split.result
           c.loop-place.invariant.new at (record {
             seat_is = split.seats.1;
