@@ -10,7 +10,7 @@ use crate::clocks::clocks;
 use anyhow::Result;
 use cal_base::{MemClock, OpenGate};
 use cal_crew::run_threads;
-use cal_keeping::Runner;
+use cal_keeping::{BookHand, Runner};
 use cal_replay::Shared;
 use cal_run::Formulas;
 use cal_script::Script;
@@ -64,7 +64,7 @@ fn hire<R: Clock + Print + AllocGlobal + Threads + Sync>(
 fn time_threads<R: Clock + AllocGlobal + Threads + Sync>(
     rt: &R,
     shared: &Shared<'_>,
-    runners: Vec<Runner<'_, Formulas>>,
+    runners: Vec<Runner<'_, Formulas, BookHand<'_>>>,
     clocks: &mut Vec<MemClock>,
 ) -> Result<Duration>
     requires shared { IsShared shared.now }

@@ -9,8 +9,10 @@ use Rattle.cal_book.proofs.Lists.{All-at, at_longer, at_map, at_mapped}
 use Rattle.cal_crew.specs.Ran.{HasRun, HaveRun}
 use Rattle.cal_crew.specs.Shifts.{HaveShifted, clocks_of, runners_of}
 use Rattle.cal_crew.specs.declared.shift.Shift.{Shift}
+use Rattle.cal_keeping.specs.Hands.{AccountOf}
 use Rattle.cal_keeping.specs.declared.runner.Runner.{Runner}
 use Rattle.cal_replay.specs.declared.shared.Shared.{Shared}
+use Rattle.cal_table.specs.declared.shape.TableShape.{TableShape}
 
 -- what was lent whole is what was given back
 pub lent-back : {X : Type 0} → (old lent new : List X) (long : ℕ) → lent ≡ old
@@ -31,49 +33,55 @@ of-all F f xs ys is all k d less =
     All-at F ys k (f (get_or xs k d)) all
     (subst (λ l. slice_get l k ≡ Some (f (get_or xs k d))) is here)
 
-module _ {P K : Type 0} (shared : Shared) (given : K → Option (List ℕ)) where
-  moved : (a b : Runner P) (c d : K) (had has : Runner P) (before behind : K)
-      → a ≡ had → b ≡ has → c ≡ before → d ≡ behind → HasRun shared given a b c d
-      → HasRun shared given had has before behind
-  moved a b c d had has before behind ea eb ec ed ran =
-      subst (λ (k : K). HasRun shared given had has before k) ed
-      (subst (λ (k : K). HasRun shared given had has k d) ec
-      (subst (λ (r : Runner P). HasRun shared given had r c d) eb
-      (subst (λ (r : Runner P). HasRun shared given r b c d) ea ran)))
+module _ {P H K : Type 0} (account : H → ℕ → AccountOf)
+    (takes : H → ℕ → List TableShape → Type 0) (stays : H → H → Type 0) (shared : Shared)
+    (given : K → Option (List ℕ)) where
+  -- a runner has run, with its clock, by the names that a caller has for them
+  abbrev Ran : (old new : Runner P H) → (was is : K) → Type 0
+  Ran old new was is = HasRun account takes stays shared given old new was is
 
-  module _ (old new : List (Shift P K)) (left was is : List K) (many : length new ≡ length old)
-      (ran : HaveShifted shared given old new)
-      (all : All (λ (s : Shift P K). s.ran ≡ true) new) (before_is : clocks_of old ++ left ≡ was)
+  moved : (a b : Runner P H) (c d : K) (had has : Runner P H) (before behind : K)
+      → a ≡ had → b ≡ has → c ≡ before → d ≡ behind → Ran a b c d
+      → Ran had has before behind
+  moved a b c d had has before behind ea eb ec ed ran =
+      subst (λ (k : K). Ran had has before k) ed
+      (subst (λ (k : K). Ran had has k d) ec
+      (subst (λ (r : Runner P H). Ran had r c d) eb
+      (subst (λ (r : Runner P H). Ran r b c d) ea ran)))
+
+  module _ (old new : List (Shift P H K)) (left was is : List K) (many : length new ≡ length old)
+      (ran : HaveShifted account takes stays shared given old new)
+      (all : All (λ (s : Shift P H K). s.ran ≡ true) new) (before_is : clocks_of old ++ left ≡ was)
       (behind_is : is ≡ clocks_of new ++ left) where
     -- the shift at a place has run
-    at-place : (place : ℕ) (o n : Shift P K) → slice_get old place ≡ Some o
+    at-place : (place : ℕ) (o n : Shift P H K) → slice_get old place ≡ Some o
         → slice_get new place ≡ Some n
-        → HasRun shared given o.runner n.runner o.clock n.clock
+        → Ran o.runner n.runner o.clock n.clock
     at-place place o n old_at new_at =
         let within = slice_get_within old place o old_at in
         let too = slice_get_within new place n new_at in
         let is_old : slice_index_or old place o ≡ o = get_or_from_slice_get old place o o old_at in
         let is_new : slice_index_or new place o ≡ n = get_or_from_slice_get new place n o new_at in
-        subst (λ (s : Shift P K). HasRun shared given s.runner n.runner s.clock n.clock) is_old
-        (subst (λ (s : Shift P K). HasRun shared given (slice_index_or old place o).runner s.runner
+        subst (λ (s : Shift P H K). Ran s.runner n.runner s.clock n.clock) is_old
+        (subst (λ (s : Shift P H K). Ran (slice_index_or old place o).runner s.runner
         (slice_index_or old place o).clock s.clock) is_new
         ((ran place o within).whole (all place o too)))
 
     -- a clock of the shifts stands at its place among all
-    clock-at : (shifts : List (Shift P K)) (place : ℕ) (s : Shift P K)
+    clock-at : (shifts : List (Shift P H K)) (place : ℕ) (s : Shift P H K)
         → slice_get shifts place ≡ Some s
         → slice_get (clocks_of shifts ++ left) place ≡ Some s.clock
     clock-at shifts place s at = at_longer (clocks_of shifts) left place s.clock
-        (at_mapped (λ (x : Shift P K). x.clock) shifts place s at)
+        (at_mapped (λ (x : Shift P H K). x.clock) shifts place s at)
 
-    each-run : (place : ℕ) (had has : Runner P) (before behind : K)
+    each-run : (place : ℕ) (had has : Runner P H) (before behind : K)
         → slice_get (runners_of old) place ≡ Some had
         → slice_get (runners_of new) place ≡ Some has
         → slice_get was place ≡ Some before → slice_get is place ≡ Some behind
-        → HasRun shared given had has before behind
+        → Ran had has before behind
     each-run place had has before behind had_at has_at before_at behind_at =
-        let o = at_map (λ (s : Shift P K). s.runner) old place had had_at in
-        let n = at_map (λ (s : Shift P K). s.runner) new place has has_at in
+        let o = at_map (λ (s : Shift P H K). s.runner) old place had had_at in
+        let n = at_map (λ (s : Shift P H K). s.runner) new place has has_at in
         let first : o.0.clock ≡ before =
         let e = subst (λ (cs : List K). slice_get cs place ≡ Some o.0.clock) before_is
         (clock-at old place o.0 o.1) in cc in
@@ -83,26 +91,26 @@ module _ {P K : Type 0} (shared : Shared) (given : K → Option (List ℕ)) wher
         moved o.0.runner n.0.runner o.0.clock n.0.clock had has before behind o.2 n.2 first second
         (at-place place o.0 n.0 o.1 n.1)
 
-    long : (shifts : List (Shift P K)) → length (clocks_of shifts) ≡ length shifts
-    long shifts = length-map shifts (λ (s : Shift P K). s.clock)
+    long : (shifts : List (Shift P H K)) → length (clocks_of shifts) ≡ length shifts
+    long shifts = length-map shifts (λ (s : Shift P H K). s.clock)
 
     -- and so have all, by the names that a caller has for them
-    pub have-run : (runners done : List (Runner P)) → runners_of old ≡ runners
-        → done ≡ runners_of new → HaveRun shared given runners done was is
+    pub have-run : (runners done : List (Runner P H)) → runners_of old ≡ runners
+        → done ≡ runners_of new → HaveRun account takes stays shared given runners done was is
     have-run runners done runners_is done_is =
         let count : length runners ≡ length old =
-        sym (ap length runners_is) ∙ length-map old (λ (s : Shift P K). s.runner) in
+        sym (ap length runners_is) ∙ length-map old (λ (s : Shift P H K). s.runner) in
         record {
-          many = ap length done_is ∙ length-map new (λ (s : Shift P K). s.runner) ∙ many
+          many = ap length done_is ∙ length-map new (λ (s : Shift P H K). s.runner) ∙ many
               ∙ sym count;
           clocks = ap length behind_is ∙ length-append (clocks_of new) left
               ∙ ap (λ (n : ℕ). n + length left) (long new ∙ many ∙ sym (long old))
               ∙ sym (length-append (clocks_of old) left) ∙ ap length before_is;
           each = λ place had has before behind had_at has_at before_at behind_at.
               each-run place had has before behind
-              (subst (λ (rs : List (Runner P)). slice_get rs place ≡ Some had) (sym runners_is)
+              (subst (λ (rs : List (Runner P H)). slice_get rs place ≡ Some had) (sym runners_is)
               had_at)
-              (subst (λ (rs : List (Runner P)). slice_get rs place ≡ Some has) done_is has_at)
+              (subst (λ (rs : List (Runner P H)). slice_get rs place ≡ Some has) done_is has_at)
               before_at behind_at;
           others = ap (drop (length runners)) behind_is
               ∙ drop_at (clocks_of new) left (length runners) (long new ∙ many ∙ sym count)

@@ -7,7 +7,7 @@ ghost use Rattle.cal_replay.specs.Workers.{IsShared};
 
 use crate::shift::{Shift, run_one};
 use cal_base::{Clock, Gate};
-use cal_keeping::Runner;
+use cal_keeping::{PartHand, Runner};
 use cal_replay::Shared;
 use cal_run::Prober;
 use cal_value::OutOfMemory;
@@ -19,19 +19,26 @@ use std::thread::Threads;
 /// place, and joins the threads. It gives the runners back in their order, and leaves the clocks in
 /// theirs. Where a thread can't be made, its runner runs in another's. An `Err` is want of memory:
 /// some runner may have run, all are dropped, and clocks with them.
-pub fn run_threads<'a, R: Threads + Sync, P: Prober + Sync, K: Clock + Send + Drop, G: Gate + Sync>(
+pub fn run_threads<
+    'a,
+    R: Threads + Sync,
+    P: Prober + Sync,
+    H: PartHand + Send + Drop,
+    K: Clock + Send + Drop,
+    G: Gate + Sync,
+>(
     rt: &R,
     alloc: Global,
     shared: &Shared<'_>,
-    runners: Vec<Runner<'a, P>>,
+    runners: Vec<Runner<'a, P, H>>,
     clocks: &mut Vec<K>,
     gate: &G,
-) -> Result<Vec<Runner<'a, P>>, OutOfMemory>
+) -> Result<Vec<Runner<'a, P, H>>, OutOfMemory>
     requires shared { IsShared shared.now }
-    requires hired { All (IsHiredRunner shared.now) runners.items }
+    requires hired { All (IsHiredRunner H.account H.takes shared.now) runners.items }
     requires clocks { length runners.items ≤ length clocks.old.items }
-    ensures ran { IfOk result (λ done. HaveRun shared.now K.given runners.entry.items done.items
-        clocks.old.items clocks.new.items) }
+    ensures ran { IfOk result (λ done. HaveRun H.account H.takes H.stays shared.now K.given
+        runners.entry.items done.items clocks.old.items clocks.new.items) }
 {
     let mut shifts = pair(alloc, runners, clocks)?;
     run_all(rt, alloc, shared, shifts.as_mut_slice(), gate);
@@ -44,11 +51,11 @@ pub fn run_threads<'a, R: Threads + Sync, P: Prober + Sync, K: Clock + Send + Dr
 
 /// Each runner with the clock at its place. What is left of the clocks stands in turned order, so
 /// that a clock is taken and given back at the end. Behind an `Err` the clocks taken are dropped.
-fn pair<'a, P: Prober, K: Drop>(
+fn pair<'a, P: Prober, H: Drop, K: Drop>(
     alloc: Global,
-    mut runners: Vec<Runner<'a, P>>,
+    mut runners: Vec<Runner<'a, P, H>>,
     clocks: &mut Vec<K>,
-) -> Result<Vec<Shift<'a, P, K>>, OutOfMemory>
+) -> Result<Vec<Shift<'a, P, H, K>>, OutOfMemory>
     requires enough { length runners.items ≤ length clocks.old.items }
     ensures runners { IfOk result (λ made. runners_of made.items ≡ runners.entry.items) }
     ensures clocks { IfOk result
@@ -66,17 +73,18 @@ fn pair<'a, P: Prober, K: Drop>(
 }
 
 /// Runs each shift in a thread of its own.
-fn run_all<'a, R: Threads + Sync, P: Prober + Sync, K: Clock + Send, G: Gate + Sync>(
-    rt: &R,
-    alloc: Global,
-    shared: &Shared<'_>,
-    shifts: &mut [Shift<'a, P, K>],
-    gate: &G,
-)
+fn run_all<
+    'a,
+    R: Threads + Sync,
+    P: Prober + Sync,
+    H: PartHand + Send + Drop,
+    K: Clock + Send,
+    G: Gate + Sync,
+>(rt: &R, alloc: Global, shared: &Shared<'_>, shifts: &mut [Shift<'a, P, H, K>], gate: &G)
     requires shared { IsShared shared.now }
-    requires hired { All (λ s. IsHiredRunner shared.now s.runner) shifts.old }
+    requires hired { All (λ s. IsHiredRunner H.account H.takes shared.now s.runner) shifts.old }
     ensures many { length shifts.new ≡ length shifts.old }
-    ensures ran { HaveShifted shared.now K.given shifts.old shifts.new }
+    ensures ran { HaveShifted H.account H.takes H.stays shared.now K.given shifts.old shifts.new }
 {
     let threads = shifts.len().max(1);
     thread::for_each_mut(
@@ -88,7 +96,7 @@ fn run_all<'a, R: Threads + Sync, P: Prober + Sync, K: Clock + Send, G: Gate + S
 }
 
 /// Whether each shift has run all its lines.
-fn have_all_run<'a, P: Prober, K>(shifts: &[Shift<'a, P, K>]) -> bool
+fn have_all_run<'a, P: Prober, H, K>(shifts: &[Shift<'a, P, H, K>]) -> bool
     ensures { result ≡ true → All (λ s. s.ran ≡ true) shifts.now }
 {
     for shift in shifts {
@@ -101,11 +109,11 @@ fn have_all_run<'a, P: Prober, K>(shifts: &[Shift<'a, P, K>]) -> bool
 
 /// The runners of shifts in their order, whose clocks are given back before those that are left,
 /// which stand in turned order.
-fn part<'a, P: Prober, K: Drop>(
+fn part<'a, P: Prober, H: Drop, K: Drop>(
     alloc: Global,
-    mut shifts: Vec<Shift<'a, P, K>>,
+    mut shifts: Vec<Shift<'a, P, H, K>>,
     clocks: &mut Vec<K>,
-) -> Result<Vec<Runner<'a, P>>, OutOfMemory>
+) -> Result<Vec<Runner<'a, P, H>>, OutOfMemory>
     ensures runners { IfOk result (λ done. done.items ≡ runners_of shifts.entry.items) }
     ensures clocks { OnOk result (clocks.new.items
         ≡ clocks_of shifts.entry.items ++ reverse clocks.old.items) }

@@ -1,25 +1,22 @@
 -- The threads of a run that have ended keep what a lawful journal asks of all of them.
-use Rattle.std.proofs.Common.{◌≡◌, ◌≢◌, ℕ, zero, suc, ◌<◌, List, [], ◌∷◌, length, get_or}
-use Rattle.std.proofs.Common.{map}
+use Rattle.std.proofs.Common.{◌≡◌, ◌≢◌, ℕ, zero, suc, ◌<◌, List, [], ◌∷◌, length, map}
 use Rattle.std.proofs.Common.{◌⊎◌, inl, inr, refl, sym, ap, ◌∙◌, subst, arith}
 use Rattle.std.specs.Prelude.{Option, Some, None, IsSomeAnd, option_map, slice_get, zip}
-use Rattle.std.specs.List.{All, AllZip, Contains}
+use Rattle.std.specs.List.{All, Contains}
 use Rattle.std.proofs.lemmas.List.{length-map}
 use Rattle.std.proofs.lemmas.List.Elements.{All-contains}
 use Rattle.std.proofs.lemmas.Option.{get_or_from_slice_get, slice_get-map}
 use Rattle.std.proofs.lemmas.Option.{same_Some, slice_get_within}
 use Rattle.cal_book.specs.Accounts.{HadTurn, ThreadHadTurn}
-use Rattle.cal_book.specs.Seats.{view}
-use Rattle.cal_book.specs.declared.view.Account.{Account}
 use Rattle.cal_channel.specs.Values.{ChannelValue}
-use Rattle.cal_finish.specs.Ended.{AllMetAt, HasAccount, HasEnded, HaveAllEnded, journal_of}
+use Rattle.cal_finish.specs.Ended.{HasEnded, HaveAllEnded, accounts_at, journal_of}
+use Rattle.cal_keeping.specs.Hands.{AccountOf}
 use Rattle.cal_keeping.specs.Runners.{HasKept}
 use Rattle.cal_keeping.specs.declared.runner.Runner.{Runner}
 use Rattle.cal_notes.specs.Notes.{KeepsRules}
 use Rattle.cal_notes.specs.Together as notes
 use Rattle.cal_notes.specs.Together.{HasFlushed, HasMerged, HaveEnded, RanLines}
 use Rattle.cal_process.specs.Operations.{history_of}
-use Rattle.cal_replay.specs.Flushing.{SeatOf}
 use Rattle.cal_replay.specs.Workers.{IsShared, lines_done, script_of}
 use Rattle.cal_replay.specs.declared.shared.Shared.{Shared}
 use Rattle.cal_script.specs.Valid.{IsFlushed, IsPlaced}
@@ -33,6 +30,7 @@ use Rattle.cal_script.specs.declared.script.Line as lines
 use Rattle.cal_script.specs.declared.script.Line.TheVariants as line
 use Rattle.cal_script.specs.declared.script.Script.{Script}
 use Rattle.cal_table.specs.Tables.{TableValue}
+use Rattle.cal_table.specs.declared.shape.TableShape.{TableShape}
 use Rattle.cal_value.specs.declared.attribute.Attribute.{Attribute}
 use Rattle.cal_words.specs.declared.op.OpRec.{OpRec}
 
@@ -62,23 +60,6 @@ mapped-at f [] k y is = absurd cc
 mapped-at f (x ∷ xs) zero y is = (x, refl, sym (same_Some (f x) y is))
 mapped-at f (x ∷ xs) (suc k) y is = mapped-at f xs k y is
 
--- what stands at places of two lists that go together
-zipped-left : {A B : Type 0} (Q : A → B → Type 0) (xs : List A) (ys : List B) → AllZip Q xs ys
-    → (k : ℕ) (x : A) → slice_get xs k ≡ Some x → (y : B) × (slice_get ys k ≡ Some y) × Q x y
-zipped-left Q [] ys all k z at = absurd cc
-zipped-left Q (x ∷ xs) [] all k z at = absurd all
-zipped-left Q (x ∷ xs) (y ∷ ys) all zero z at =
-    (y, refl, subst (λ w. Q w y) (same_Some x z at) all.0)
-zipped-left Q (x ∷ xs) (y ∷ ys) all (suc k) z at = zipped-left Q xs ys all.1 k z at
-
-zipped-right : {A B : Type 0} (Q : A → B → Type 0) (xs : List A) (ys : List B) → AllZip Q xs ys
-    → (k : ℕ) (y : B) → slice_get ys k ≡ Some y → (x : A) × (slice_get xs k ≡ Some x) × Q x y
-zipped-right Q xs [] all k z at = absurd cc
-zipped-right Q [] (y ∷ ys) all k z at = absurd all
-zipped-right Q (x ∷ xs) (y ∷ ys) all zero z at =
-    (x, refl, subst (λ w. Q x w) (same_Some y z at) all.0)
-zipped-right Q (x ∷ xs) (y ∷ ys) all (suc k) z at = zipped-right Q xs ys all.1 k z at
-
 -- an item of two lists that go together, one behind the other
 zipped-contains : {A B : Type 0} (xs : List A) (ys : List B) (x : A) (y : B)
     → Contains (zip xs ys) (x, y) → Contains xs x
@@ -90,8 +71,10 @@ zipped-contains (w ∷ xs) (v ∷ ys) x y (suc k, below, is) =
     let found = zipped-contains xs ys x y (k, omega (arith, below), is) in
     (suc found.0, (let b = found.1 in omega (arith, b)), found.2)
 
-module _ {P : Type 0} (shared : Shared) (runners : List (Runner P)) (history : List Placed)
-    (is_shared : IsShared shared) (ended : HaveAllEnded shared runners history) where
+module _ {P H : Type 0} (account : H → ℕ → AccountOf)
+    (takes : H → ℕ → List TableShape → Type 0) (shared : Shared) (runners : List (Runner P H))
+    (history : List Placed) (is_shared : IsShared shared)
+    (ended : HaveAllEnded account takes shared runners history) where
   abbrev script : Script
   script = script_of shared
 
@@ -100,16 +83,16 @@ module _ {P : Type 0} (shared : Shared) (runners : List (Runner P)) (history : L
 
   -- the thread of a number, with what it has
   record TheThread (thread : ℕ) (ls : List lines.Line) (note : ThreadNote) : Type 0 where
-    pub r : Runner P
+    pub r : Runner P H
     pub there : slice_get runners thread ≡ Some r
     pub note_is : note ≡ r.worker.note
-    pub end : HasEnded shared history thread r
+    pub end : HasEnded account takes shared history thread r
     pub lines_are : lines_done script r.worker ≡ ls
 
   the-thread : (thread : ℕ) (ls : List lines.Line) (note : ThreadNote)
       → RanLines script journal thread ls note → TheThread thread ls note
   the-thread thread ls note ran =
-      let at = mapped-at (λ (r : Runner P). r.worker.note) runners thread note ran.noted in
+      let at = mapped-at (λ (r : Runner P H). r.worker.note) runners thread note ran.noted in
       let end = ended.ended thread at.0 at.1 in
       record {
         r = at.0;
@@ -135,30 +118,25 @@ module _ {P : Type 0} (shared : Shared) (runners : List (Runner P)) (history : L
       }
 
   -- what a thread has kept for the channel at a place
-  record KeptAt (r : Runner P) (h : List OpRec) (place : ℕ) : Type 0 where
+  record KeptAt (r : Runner P H) (h : List OpRec) (place : ℕ) : Type 0 where
     pub attributes : List Attribute
     pub channel : Channel
     pub c : ChannelValue
-    pub seat : SeatOf
-    pub seat_at : slice_get r.channels.seats.items place ≡ Some seat
-    pub kept : HasKept shared attributes r.worker h place channel c (view seat)
+    pub kept : HasKept shared attributes r.worker h place channel c (account r.channels.hand place)
 
-  kept-at : (thread : ℕ) (r : Runner P) (end : HasEnded shared history thread r) (place : ℕ)
-      → place < length script.channels → KeptAt r end.run.h place
+  kept-at : (thread : ℕ) (r : Runner P H) (end : HasEnded account takes shared history thread r)
+      (place : ℕ) → place < length script.channels → KeptAt r end.run.h place
   kept-at thread r end place below =
       let ready = end.run.is.ready in
       let channel = at-below script.channels place below in
-      let many = ready.many in let seats = ready.seats in
+      let many = ready.many in
       let c = at-below r.channels.channels.items place (omega (arith, many, below)) in
-      let seat = at-below r.channels.seats.items place (omega (arith, seats, below)) in
       record {
         attributes = ready.named.0;
         channel = channel.item;
         c = c.item;
-        seat = seat.item;
-        seat_at = seat.there;
-        kept = end.run.is.kept ready.named.0 ready.named.1 place channel.item c.item seat.item
-            channel.there c.there seat.there;
+        kept = end.run.is.kept ready.named.0 ready.named.1 place channel.item c.item
+            channel.there c.there;
       }
 
   -- a flush line of a thread is of a channel
@@ -181,15 +159,7 @@ module _ {P : Type 0} (shared : Shared) (runners : List (Runner P)) (history : L
   flush-among ls note channel r (k, (l, n), below, is, (flush, answer)) =
       subst (Contains ls) flush (zipped-contains ls note.lines l n (k, below, is))
 
-  -- the account that a thread has at a place is that of its seat
-  account-is : (place : ℕ) (r : Runner P) (seat : SeatOf) (account : Account TableValue)
-      → slice_get r.channels.seats.items place ≡ Some seat → HasAccount place r account
-      → account ≡ (view seat).account
-  account-is place r seat account at has =
-      sym has.account_is ∙ ap (λ (s : SeatOf). (view s).account)
-      (same_Some has.seat seat (sym has.seat_at ∙ at))
-
-  -- a thread that has had a turn at a book has merged there
+  -- a thread that has had a turn has merged then
   merged-there : (v : Type 0) (given : List TableValue) (given_up : ℕ)
       → given_up ≡ 0 → (0 < length given → v) → (given ≢ []) ⊎ (0 < given_up) → v
   merged-there v [] given_up none then (inl some) = absurd (some refl)
@@ -209,42 +179,37 @@ module _ {P : Type 0} (shared : Shared) (runners : List (Runner P)) (history : L
     mine : KeptAt t.r t.end.run.h channel
     mine = kept-at thread t.r t.end channel below
 
-    met : AllMetAt channel runners
-    met = ended.run.met channel below
+    -- what the threads have done for the channel
+    abbrev done : Runner P H → AccountOf
+    done r = account r.channels.hand channel
 
-    own : (account : Account TableValue) × (slice_get met.accounts thread ≡ Some account)
-        × HasAccount channel t.r account
-    own = zipped-left (HasAccount channel) runners met.accounts met.each thread t.r t.there
+    abbrev all : List AccountOf
+    all = accounts_at account channel runners
+
+    own : slice_get all thread ≡ Some (done t.r)
+    own = slice_get-map done runners thread ∙ ap (option_map done) t.there
 
     -- the thread has met the holder's turn
-    has-met : Contains own.0.met holder
-    has-met = subst (λ (a : Account TableValue). Contains a.met holder)
-        (sym (account-is channel t.r mine.seat own.0 mine.seat_at own.2))
-        (mine.kept.busy holder (subst (λ n. HasFlushed channel (reply.Busy holder)
+    has-met : Contains (done t.r).met holder
+    has-met = mine.kept.busy holder (subst (λ n. HasFlushed channel (reply.Busy holder)
         (lines_done script t.r.worker) n) t.note_is
-        (subst (λ l. HasFlushed channel (reply.Busy holder) l note) (sym t.lines_are) flushed)))
+        (subst (λ l. HasFlushed channel (reply.Busy holder) l note) (sym t.lines_are) flushed))
 
-    had-turn : ThreadHadTurn met.accounts holder
-    had-turn =
-        let at = slice_get_within met.accounts thread own.0 own.1 in
-        let all : All (ThreadHadTurn met.accounts) (get_or met.accounts thread own.0).met =
-        met.met thread own.0 at in
-        let is : get_or met.accounts thread own.0 ≡ own.0 =
-        get_or_from_slice_get met.accounts thread own.0 own.0 own.1 in
-        All-contains (ThreadHadTurn met.accounts) own.0.met holder
-        (subst (λ (a : Account TableValue). All (ThreadHadTurn met.accounts) a.met) is all)
+    had-turn : ThreadHadTurn all holder
+    had-turn = All-contains (ThreadHadTurn all) (done t.r).met holder
+        (subst (λ (a : AccountOf). All (ThreadHadTurn all) a.met)
+        (get_or_from_slice_get all thread (done t.r) (done t.r) own)
+        (ended.run.met channel below thread (done t.r)
+        (slice_get_within all thread (done t.r) own)))
         has-met
 
-    holder-account : (account : Account TableValue)
-        × (slice_get met.accounts holder ≡ Some account) × HadTurn account
-    holder-account = some-of (slice_get met.accounts holder) had-turn
+    holder-account : (a : AccountOf) × (slice_get all holder ≡ Some a) × HadTurn a
+    holder-account = some-of (slice_get all holder) had-turn
 
-    other : (r : Runner P) × (slice_get runners holder ≡ Some r)
-        × HasAccount channel r holder-account.0
-    other = zipped-right (HasAccount channel) runners met.accounts met.each holder
-        holder-account.0 holder-account.1
+    other : (r : Runner P H) × (slice_get runners holder ≡ Some r) × (holder-account.0 ≡ done r)
+    other = mapped-at done runners holder holder-account.0 holder-account.1
 
-    other-end : HasEnded shared history holder other.0
+    other-end : HasEnded account takes shared history holder other.0
     other-end = ended.ended holder other.0 other.1
 
     theirs : KeptAt other.0 other-end.run.h channel
@@ -254,10 +219,8 @@ module _ {P : Type 0} (shared : Shared) (runners : List (Runner P)) (history : L
         other.0.worker.note
     has-flushed = merged-there
         (HasFlushed channel reply.Merged (lines_done script other.0.worker) other.0.worker.note)
-        (view theirs.seat).account.given (view theirs.seat).account.given_up theirs.kept.turns
-        theirs.kept.merged
-        (subst HadTurn (account-is channel other.0 theirs.seat holder-account.0 theirs.seat_at
-        other.2) holder-account.2)
+        (done other.0).given (done other.0).given_up theirs.kept.turns theirs.kept.merged
+        (subst HadTurn other.2 holder-account.2)
 
     has-merged : HasMerged script journal holder channel
     has-merged =
@@ -269,8 +232,8 @@ module _ {P : Type 0} (shared : Shared) (runners : List (Runner P)) (history : L
           note = other.0.worker.note;
           ran = record {
             ran = ls.there;
-            noted = slice_get-map (λ (r : Runner P). r.worker.note) runners holder
-                ∙ ap (option_map (λ (r : Runner P). r.worker.note)) other.1;
+            noted = slice_get-map (λ (r : Runner P H). r.worker.note) runners holder
+                ∙ ap (option_map (λ (r : Runner P H). r.worker.note)) other.1;
           };
           merged = subst (λ l. HasFlushed channel reply.Merged l other.0.worker.note)
               (other-end.run.all ∙ get_or_from_slice_get script.threads holder ls.item [] ls.there)
@@ -279,7 +242,7 @@ module _ {P : Type 0} (shared : Shared) (runners : List (Runner P)) (history : L
 
   pub have-ended : HaveEnded script journal
   have-ended = record {
-    many = length-map runners (λ (r : Runner P). r.worker.note) ∙ ended.run.many;
+    many = length-map runners (λ (r : Runner P H). r.worker.note) ∙ ended.run.many;
     known = ended.known;
     ended = has-ended;
     busy = has-merged;

@@ -7,31 +7,36 @@ use Rattle.cal_ending.specs.Joining.{AreInOrder}
 use Rattle.cal_finish.proofs.LawfulRuns.{at-below}
 use Rattle.cal_finish.specs.Ended.{HasEnded, HasRun, HaveAllRun, threads_of}
 use Rattle.cal_finish.specs.Threads.{IsWholeFor}
+use Rattle.cal_keeping.specs.Hands.{AccountOf}
 use Rattle.cal_keeping.specs.declared.runner.Runner.{Runner}
 use Rattle.cal_notes.specs.Together.{Begins}
 use Rattle.cal_process.specs.Operations.{history_of}
 use Rattle.cal_replay.specs.Workers.{script_of, state_of}
 use Rattle.cal_replay.specs.declared.shared.Shared.{Shared}
 use Rattle.cal_script.specs.declared.journal.Placed.{Placed}
+use Rattle.cal_table.specs.declared.shape.TableShape.{TableShape}
 use Rattle.cal_thread.specs.Threads.{HasSomeState}
 use Rattle.cal_thread.specs.declared.thread.Thread.{Thread}
 
-module _ {P : Type 0} where
+module _ {P H : Type 0} where
   -- the thread of the runner at a place
-  thread-at : (runners : List (Runner P)) (k : ℕ) (r : Runner P) → slice_get runners k ≡ Some r
+  thread-at : (runners : List (Runner P H)) (k : ℕ) (r : Runner P H) → slice_get runners k ≡ Some r
       → slice_get (threads_of runners) k ≡ Some r.worker.thread
-  thread-at runners k r at = slice_get-map (λ (x : Runner P). x.worker.thread) runners k
-      ∙ ap (option_map (λ (x : Runner P). x.worker.thread)) at
+  thread-at runners k r at = slice_get-map (λ (x : Runner P H). x.worker.thread) runners k
+      ∙ ap (option_map (λ (x : Runner P H). x.worker.thread)) at
 
-  pub length-threads_of : (runners : List (Runner P)) → length (threads_of runners) ≡ length runners
-  length-threads_of runners = length-map runners (λ (x : Runner P). x.worker.thread)
+  pub length-threads_of : (runners : List (Runner P H))
+      → length (threads_of runners) ≡ length runners
+  length-threads_of runners = length-map runners (λ (x : Runner P H). x.worker.thread)
 
-  module _ (shared : Shared) (runners : List (Runner P)) (run : HaveAllRun shared runners) where
+  module _ (account : H → ℕ → AccountOf) (takes : H → ℕ → List TableShape → Type 0)
+      (shared : Shared) (runners : List (Runner P H))
+      (run : HaveAllRun account takes shared runners) where
     -- the runner of the thread at a place
     record RanAt (k : ℕ) (t : Thread) : Type 0 where
-      pub r : Runner P
+      pub r : Runner P H
       pub is : r.worker.thread ≡ t
-      pub has : HasRun shared k r
+      pub has : HasRun account takes shared k r
 
     ran-at : (k : ℕ) (d : Thread) → k < length (threads_of runners)
         → RanAt k (slice_index_or (threads_of runners) k d)
@@ -58,7 +63,8 @@ module _ {P : Type 0} where
 
     -- a thread has ended where the history is whole for all
     pub has-ended : (history : List Placed) → IsWholeFor shared.common (threads_of runners) history
-        → (k : ℕ) (r : Runner P) → slice_get runners k ≡ Some r → HasEnded shared history k r
+        → (k : ℕ) (r : Runner P H) → slice_get runners k ≡ Some r
+        → HasEnded account takes shared history k r
     has-ended history whole k r at =
         let has = run.ran k r at in record {
           run = has;

@@ -3,7 +3,7 @@ ghost use Rattle.std.specs.Prelude.{◌≡◌, ◌++◌, [], ◌∷◌, IfOk, On
 ghost use Rattle.cal_handover.specs.Handing.{IsHandedOver};
 
 use cal_channel::ThreadChannel;
-use cal_keeping::{Channels, Runner};
+use cal_keeping::{BookHand, Channels, Runner};
 use cal_replay::Worker;
 use cal_run::Prober;
 use cal_script::ThreadNote;
@@ -26,7 +26,7 @@ pub struct Handed {
 /// the lists alone. An `Err` is want of it, and drops the runners.
 pub fn hand_over<P: Prober>(
     alloc: Global,
-    runners: Vec<Runner<'_, P>>,
+    runners: Vec<Runner<'_, P, BookHand<'_>>>,
 ) -> Result<Handed, OutOfMemory>
     ensures { IfOk result (IsHandedOver runners.entry.items) }
 {
@@ -54,7 +54,7 @@ impl Handed {
     }
 
     // Takes one runner more apart.
-    fn add<P: Prober>(&mut self, runner: Runner<'_, P>) -> Result<(), OutOfMemory>
+    fn add<P: Prober>(&mut self, runner: Runner<'_, P, BookHand<'_>>) -> Result<(), OutOfMemory>
         ensures threads { OnOk result (self.new.threads.items
             ≡ self.old.threads.items ++ runner.entry.worker.thread ∷ []) }
         ensures notes { OnOk result (self.new.notes
@@ -62,19 +62,19 @@ impl Handed {
         ensures channels { OnOk result (self.new.channels.items
             ≡ self.old.channels.items ++ runner.entry.channels.channels ∷ []) }
         ensures seats { OnOk result (self.new.seats.items
-            ≡ self.old.seats.items ++ runner.entry.channels.seats ∷ []) }
+            ≡ self.old.seats.items ++ runner.entry.channels.hand.seats ∷ []) }
     {
         let Runner { worker, channels } = runner;
         let Worker { thread, note } = worker;
         let Channels {
             thread: _,
             numbers: _,
-            books: _,
             probes: _,
             channels,
-            seats,
+            hand,
             words: _,
         } = channels;
+        let BookHand { books: _, seats } = hand;
         self.threads.push(thread)?;
         self.notes.push(note)?;
         self.channels.push(channels)?;

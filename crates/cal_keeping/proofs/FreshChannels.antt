@@ -1,17 +1,14 @@
 -- What a thread keeps before its first line is ready for all of them.
 use Rattle.std.proofs.Common.{◌≡◌, ℕ, zero, suc, ◌+◌, ◌<◌, ◌≤◌, ◌^◌}
-use Rattle.std.proofs.Common.{List, [], ◌∷◌, ◌++◌, length, map, take}
+use Rattle.std.proofs.Common.{List, [], ◌∷◌, ◌++◌, length, take}
 use Rattle.std.proofs.Common.{Bool, true, false, if◌then◌else◌, refl, sym, ap, ◌∙◌, subst, arith}
 use Rattle.std.specs.Prelude.{Some, None, IfSome, is_some, option_map, slice_get}
 use Rattle.std.proofs.lemmas.List.{take_more}
-use Rattle.std.proofs.lemmas.Option.{get_or_from_slice_get, same_Some, slice_get-map}
-use Rattle.std.proofs.lemmas.Option.{slice_get_within}
-use Rattle.cal_book.specs.Seats.{shape_of, view}
-use Rattle.cal_book.specs.declared.view.Account.{Account}
+use Rattle.std.proofs.lemmas.Option.{get_or_from_slice_get, same_Some, slice_get_within}
+use Rattle.cal_book.specs.Accounts.{blank}
 use Rattle.cal_channel.specs.Values.{ChannelValue, unflushed_of}
-use Rattle.cal_keeping.specs.Kept.{AreEachReady, IsFresh, IsNewSeat, IsReady, given_by, new_for}
-use Rattle.cal_keeping.specs.Kept.{new_of}
-use Rattle.cal_replay.specs.Flushing.{BookOf, SeatOf}
+use Rattle.cal_keeping.specs.Hands.{AccountOf, given_by}
+use Rattle.cal_keeping.specs.Kept.{AreEachReady, IsFresh, IsReady, new_for, new_of}
 use Rattle.cal_script.specs.declared.script.Channel.{Channel}
 use Rattle.cal_table.specs.Tables.{TableValue, empty_table}
 use Rattle.cal_table.specs.declared.shape.TableShape.{TableShape}
@@ -36,11 +33,11 @@ table-if : (b : Bool) (shape : TableShape)
 table-if true shape = refl
 table-if false shape = refl
 
-made-if : (b : Bool) (shape wanted : TableShape) → shape ≡ wanted
+made-if : (b : Bool) (shape : TableShape)
     → IfSome (option_map empty_table (if b then Some shape else None))
-    (λ (table : TableValue). table.shape ≡ wanted)
-made-if true shape wanted e = e
-made-if false shape wanted e = tt
+    (λ (table : TableValue). table.shape ≡ shape)
+made-if true shape = refl
+made-if false shape = tt
 
 none-taken-if : (b : Bool) (shape : TableShape)
     → unflushed_of (option_map empty_table (if b then Some shape else None)) ≡ 0
@@ -50,18 +47,15 @@ none-taken-if false shape = refl
 -- ---- one channel
 
 -- a new channel is ready for as many lines as a run has
-fresh-ready : (thread left : ℕ) (channel : Channel) (shape : TableShape) (book : BookOf)
-    (seat : SeatOf) → left ≤ 2 ^ 20 → IsNewSeat thread book seat → shape ≡ shape_of book
-    → IsReady thread left channel book (new_of channel shape) seat
-fresh-ready thread left channel shape book seat few new made = record {
-  seat_is = new.seat_is;
-  own = new.own;
+fresh-ready : (left : ℕ) (channel : Channel) (shape : TableShape) (account : AccountOf)
+    → left ≤ 2 ^ 20 → account ≡ blank
+    → IsReady left channel shape (new_of channel shape) account
+fresh-ready left channel shape account few nothing = record {
   traces = some-if channel.trace [];
   aggregates = table-if channel.aggregate shape;
-  made = made-if channel.aggregate shape (shape_of book) made;
+  made = made-if channel.aggregate shape;
   few =
-      let given : given_by (view seat) ≡ 0 =
-      ap (λ (a : Account TableValue). given_by (record (view seat) { account = a })) new.nothing in
+      let given : given_by account ≡ 0 = ap given_by nothing in
       let none = none-taken-if channel.aggregate shape in
       omega (arith, given, none, few);
 }
@@ -125,12 +119,10 @@ take-new_for channels shapes place channel shape same at shape_at =
     (get_or_from_slice_get (new_for channels shapes) place (new_of channel shape)
     (new_of channel shape) (new_for-at channels shapes place channel shape at shape_at))
 
--- The new channels of a thread, with the shapes of the books, where its seats have done nothing.
-module _ (thread : ℕ) (channels : List Channel) (books : List BookOf) (shapes : List TableShape)
-    (seats : List SeatOf) (cs : List ChannelValue) (are : cs ≡ new_for channels shapes)
-    (made : map shape_of books ≡ shapes)
-    (new : (place : ℕ) (book : BookOf) (seat : SeatOf) → slice_get books place ≡ Some book
-    → slice_get seats place ≡ Some seat → IsNewSeat thread book seat) where
+-- The new channels of a thread, with the shapes of its tables, for which nothing was done.
+module _ (channels : List Channel) (shapes : List TableShape) (cs : List ChannelValue)
+    (are : cs ≡ new_for channels shapes) (accounts : ℕ → AccountOf)
+    (nothing : (place : ℕ) → accounts place ≡ blank) where
   at-place : (place : ℕ) (channel : Channel) (c : ChannelValue)
       → slice_get channels place ≡ Some channel → slice_get cs place ≡ Some c
       → IsMadeAt shapes place channel c
@@ -138,25 +130,21 @@ module _ (thread : ℕ) (channels : List Channel) (books : List BookOf) (shapes 
       (ap (λ (xs : List ChannelValue). slice_get xs place) (sym are) ∙ had)
 
   pub each-fresh-ready : (left : ℕ) → left ≤ 2 ^ 20
-      → AreEachReady thread left channels books cs seats
-  each-fresh-ready left few place channel book c seat at book_at had seat_at =
+      → AreEachReady left channels shapes cs accounts
+  each-fresh-ready left few place channel shape c at shape_at had =
       let m = at-place place channel c at had in
-      let shape : m.shape ≡ shape_of book = same_Some m.shape (shape_of book)
-      (sym m.shape_at ∙ ap (λ (ss : List TableShape). slice_get ss place) (sym made)
-      ∙ slice_get-map shape_of books place ∙ ap (option_map shape_of) book_at) in
-      subst (λ (x : ChannelValue). IsReady thread left channel book x seat) (sym m.made)
-      (fresh-ready thread left channel m.shape book seat few (new place book seat book_at seat_at)
-      shape)
+      let same : m.shape ≡ shape = same_Some m.shape shape (sym m.shape_at ∙ shape_at) in
+      subst (λ (x : ChannelValue). IsReady left channel shape x (accounts place))
+      (ap (new_of channel) (sym same) ∙ sym m.made)
+      (fresh-ready left channel shape (accounts place) few (nothing place))
 
-  pub each-fresh : length books ≡ length channels → (place : ℕ) (channel : Channel)
-      (c : ChannelValue) (seat : SeatOf) → slice_get channels place ≡ Some channel
-      → slice_get cs place ≡ Some c → slice_get seats place ≡ Some seat → IsFresh channel c seat
-  each-fresh many place channel c seat at had seat_at =
+  pub each-fresh : (place : ℕ) (channel : Channel) (c : ChannelValue)
+      → slice_get channels place ≡ Some channel → slice_get cs place ≡ Some c
+      → IsFresh channel c (accounts place)
+  each-fresh place channel c at had =
       let m = at-place place channel c at had in
-      let less = slice_get_within channels place channel at in
-      let book = there books place (omega (arith, less, many)) in
       record {
         shape = if channel.aggregate then Some m.shape else None;
         made = m.made;
-        nothing = (new place book.0 seat book.1 seat_at).nothing;
+        nothing = nothing place;
       }

@@ -3,14 +3,14 @@ use Rattle.std.proofs.Common.{◌≡◌, ◌⊎◌, ℕ, List, [], ◌∷◌, �
 use Rattle.std.proofs.Common.{◌∙◌, sym, subst}
 use Rattle.std.specs.Prelude.{Contains}
 use Rattle.std.proofs.lemmas.List.Elements.{Contains-append_left, Contains-push}
-use Rattle.cal_book.specs.Views.{giving, meeting}
+use Rattle.cal_book.specs.Accounts.{more_given, more_met}
 use Rattle.cal_channel.specs.Values.{ChannelValue, with_table}
 use Rattle.cal_keeping.proofs.FlushedLines.{flushed-cases, flushed-earlier, flushed-now}
+use Rattle.cal_keeping.specs.Hands.{AccountOf, Hands}
 use Rattle.cal_keeping.specs.Runners.{HasKept}
 use Rattle.cal_notes.specs.Running.{with_line}
 use Rattle.cal_notes.specs.Together.{HasFlushed, WasFlushed}
 use Rattle.cal_replay.specs.Channels.{HasShownLines}
-use Rattle.cal_replay.specs.Flushing.{BookView, Flushed}
 use Rattle.cal_replay.specs.Workers.{lines_done, script_of}
 use Rattle.cal_replay.specs.declared.shared.Shared.{Shared}
 use Rattle.cal_replay.specs.declared.worker.Worker.{Worker}
@@ -32,8 +32,8 @@ module _ (shared : Shared) (attributes : List Attribute) (old new : Worker) (h a
     (lines_are : lines_done (script_of shared) new
     ≡ lines_done (script_of shared) old ++ l ∷ [])
     (noted : new.note ≡ with_line old.note n)
-    (was mid : ChannelValue) (v : BookView)
-    (kept : HasKept shared attributes old h place channel was v) where
+    (was mid : ChannelValue) (before : AccountOf)
+    (kept : HasKept shared attributes old h place channel was before) where
   abbrev script : Script
   script = script_of shared
 
@@ -70,8 +70,8 @@ module _ (shared : Shared) (attributes : List Attribute) (old new : Worker) (h a
   -- ---- the line
 
   -- it isn't a flush of the channel
-  pub kept-left : (l ≡ line.Flush place → ⊥) → ShownNow mid v.account.given
-      → HasKept shared attributes new all place channel mid v
+  pub kept-left : (l ≡ line.Flush place → ⊥) → ShownNow mid before.given
+      → HasKept shared attributes new all place channel mid before
   kept-left other shown = record {
     shown = shown;
     busy = λ holder f. ⊎_elim (kept.busy holder) (λ here. absurd (other here.0))
@@ -82,9 +82,9 @@ module _ (shared : Shared) (attributes : List Attribute) (old new : Worker) (h a
 
   -- it is one that was merged
   merged-now : (part : TableValue) → l ≡ line.Flush place → n.reply ≡ reply.Merged
-      → ShownNow (with_table mid (empty_table part.shape)) (v.account.given ++ part ∷ [])
+      → ShownNow (with_table mid (empty_table part.shape)) (before.given ++ part ∷ [])
       → HasKept shared attributes new all place channel (with_table mid (empty_table part.shape))
-      (giving part v)
+      (more_given before part)
   merged-now part is replied shown = record {
     shown = shown;
     busy = λ holder f. ⊎_elim (kept.busy holder)
@@ -95,37 +95,37 @@ module _ (shared : Shared) (attributes : List Attribute) (old new : Worker) (h a
   }
 
   -- it is one that was busy
-  busy-now : (holder : ℕ) → n.reply ≡ reply.Busy holder → ShownNow mid v.account.given
-      → HasKept shared attributes new all place channel mid (meeting holder v)
+  busy-now : (holder : ℕ) → n.reply ≡ reply.Busy holder → ShownNow mid before.given
+      → HasKept shared attributes new all place channel mid (more_met before holder)
   busy-now holder replied shown = record {
     shown = shown;
     busy = λ other f. ⊎_elim
-        (λ before. Contains-append_left v.account.met (holder ∷ []) other (kept.busy other before))
+        (λ met. Contains-append_left before.met (holder ∷ []) other (kept.busy other met))
         (λ here.
         let both : reply.Busy holder ≡ reply.Busy other = sym replied ∙ here.1 in
         let same : holder ≡ other = cc in
-        subst (Contains (v.account.met ++ holder ∷ [])) same
-        (Contains-push v.account.met holder)) (cases (reply.Busy other) f);
+        subst (Contains (before.met ++ holder ∷ [])) same
+        (Contains-push before.met holder)) (cases (reply.Busy other) f);
     merged = λ some. earlier reply.Merged (kept.merged some);
     turns = kept.turns;
   }
 
   -- it is a flush of the channel, which was answered
-  pub kept-flushed : (part : TableValue) (is : ChannelValue) (w : BookView) (answer : replies.Reply)
-      → l ≡ line.Flush place → n.reply ≡ answer → Flushed v w mid is part answer
-      → ShownNow mid v.account.given
-      → ShownNow (with_table mid (empty_table part.shape)) (v.account.given ++ part ∷ [])
-      → HasKept shared attributes new all place channel is w
-  kept-flushed part is w reply.Merged here replied flushed shown given =
-      subst (HasKept shared attributes new all place channel is) (sym flushed.0)
+  pub kept-flushed : (thread : ℕ) (part : TableValue) (is : ChannelValue) (behind : AccountOf)
+      (answer : replies.Reply) → l ≡ line.Flush place → n.reply ≡ answer
+      → Hands thread before behind mid is part answer → ShownNow mid before.given
+      → ShownNow (with_table mid (empty_table part.shape)) (before.given ++ part ∷ [])
+      → HasKept shared attributes new all place channel is behind
+  kept-flushed thread part is behind reply.Merged here replied handed shown given =
+      subst (HasKept shared attributes new all place channel is) (sym handed.0)
       (subst (λ (c : ChannelValue). HasKept shared attributes new all place channel c
-      (giving part v)) (sym flushed.1) (merged-now part here replied given))
-  kept-flushed part is w (reply.Busy holder) here replied flushed shown given =
-      subst (HasKept shared attributes new all place channel is) (sym flushed.1)
+      (more_given before part)) (sym handed.1) (merged-now part here replied given))
+  kept-flushed thread part is behind (reply.Busy holder) here replied handed shown given =
+      subst (HasKept shared attributes new all place channel is) (sym handed.1)
       (subst (λ (c : ChannelValue). HasKept shared attributes new all place channel c
-      (meeting holder v)) (sym flushed.2) (busy-now holder replied shown))
-  kept-flushed part is w reply.Done here replied flushed shown given = absurd flushed
-  kept-flushed part is w (reply.Mismatch top) here replied flushed shown given = absurd flushed
-  kept-flushed part is w reply.NotOpen here replied flushed shown given = absurd flushed
-  kept-flushed part is w reply.TooDeep here replied flushed shown given = absurd flushed
-  kept-flushed part is w reply.SlotsFull here replied flushed shown given = absurd flushed
+      (more_met before holder)) (sym handed.2) (busy-now holder replied shown))
+  kept-flushed thread part is behind reply.Done here replied handed shown given = absurd handed
+  kept-flushed thread part is behind (reply.Mismatch top) here replied handed shown given = absurd handed
+  kept-flushed thread part is behind reply.NotOpen here replied handed shown given = absurd handed
+  kept-flushed thread part is behind reply.TooDeep here replied handed shown given = absurd handed
+  kept-flushed thread part is behind reply.SlotsFull here replied handed shown given = absurd handed

@@ -1,3 +1,4 @@
+mod BookHands
 mod FreshChannels
 mod KeptChannels
 pub mod FlushedLines

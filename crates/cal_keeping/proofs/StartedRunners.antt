@@ -4,9 +4,8 @@ use Rattle.std.proofs.Common.{◌-◌, ap, ◌∙◌, sym, subst, arith}
 use Rattle.std.specs.Prelude.{Option, Some, slice_get, unwrap_or}
 use Rattle.std.proofs.lemmas.List.{length-map}
 use Rattle.cal_book.proofs.Lists.{at_map}
-use Rattle.cal_book.specs.Seats.{view}
-use Rattle.cal_book.specs.declared.view.Account.{Account}
 use Rattle.cal_channel.specs.Values.{ChannelValue, new_channel, started_at}
+use Rattle.cal_keeping.specs.Hands.{AccountOf}
 use Rattle.cal_keeping.specs.Kept.{AreReady, IsFresh, IsReady}
 use Rattle.cal_keeping.specs.Runners.{HasKept, IsHiredRunner, IsRunner, SameServices}
 use Rattle.cal_keeping.specs.Runners.{lines_left}
@@ -16,7 +15,6 @@ use Rattle.cal_notes.specs.Together.{HasFlushed}
 use Rattle.cal_once.specs.declared.seat.RowSeat.{RowSeat}
 use Rattle.cal_process.specs.declared.common.Common.{Common}
 use Rattle.cal_replay.specs.Channels.{HasShownLines}
-use Rattle.cal_replay.specs.Flushing.{BookOf, SeatOf}
 use Rattle.cal_replay.specs.Workers.{IsWorker, lines_done, lines_of, script_of}
 use Rattle.cal_replay.specs.declared.shared.Shared.{Shared}
 use Rattle.cal_replay.specs.declared.worker.Worker.{Worker}
@@ -46,17 +44,19 @@ pub none-done : (script : Script) (w : Worker) → w.note.lines ≡ [] → lines
 none-done script w none =
     ap (λ (ns : List LineNote). take (length ns) (lines_of script w.thread.number)) none
 
-pub started-same : {P : Type 0} (old new : Channels P)
-    → new ≡ record old { channels = new.channels } → SameServices old new
-started-same old new same = record {
-  thread = λ i. (same i).thread;
-  numbers = λ i. (same i).numbers;
-  books = λ i. (same i).books;
-  probes = λ i. (same i).probes;
+pub started-same : {P H : Type 0} (stays : H → H → Type 0) (same : (hand : H) → stays hand hand)
+    (old new : Channels P H) → new ≡ record old { channels = new.channels }
+    → SameServices stays old new
+started-same {P = P} {H = H} stays same old new started = record {
+  thread = λ i. (started i).thread;
+  numbers = λ i. (started i).numbers;
+  hand = subst (λ (k : Channels P H). stays old.hand k.hand) (sym started) (same old.hand);
+  probes = λ i. (started i).probes;
 }
 
-module _ {P : Type 0} (shared : Shared) (old new : Runner P) (reading : ℕ) (law : StartLaw)
-    (hired : IsHiredRunner shared old)
+module _ {P H : Type 0} (account : H → ℕ → AccountOf) (takes : H → ℕ → List TableShape → Type 0)
+    (shared : Shared) (old new : Runner P H) (reading : ℕ) (law : StartLaw)
+    (hired : IsHiredRunner account takes shared old)
     (worker : IsWorker shared new.worker [])
     (noted : new.worker.note.lines ≡ [])
     (thread : new.worker.thread ≡ old.worker.thread)
@@ -75,28 +75,30 @@ module _ {P : Type 0} (shared : Shared) (old new : Runner P) (reading : ℕ) (la
 
   -- ---- each channel
 
-  module _ (place : ℕ) (c : ChannelValue) (seat : SeatOf)
-      (channel_at : slice_get new.channels.channels.items place ≡ Some c)
-      (seat_at : slice_get new.channels.seats.items place ≡ Some seat) where
+  module _ (place : ℕ) (c : ChannelValue)
+      (channel_at : slice_get new.channels.channels.items place ≡ Some c) where
+    abbrev done-for : AccountOf
+    done-for = account new.channels.hand place
+
     was : (b : ChannelValue) × (slice_get old.channels.channels.items place ≡ Some b)
         × (started_at b reading ≡ c)
     was = at_map (λ (b : ChannelValue). started_at b reading) old.channels.channels.items place c
         (subst (λ (cs : List ChannelValue). slice_get cs place ≡ Some c) started channel_at)
 
-    seat-was : slice_get old.channels.seats.items place ≡ Some seat
-    seat-was = subst (λ (k : Channels P). slice_get k.seats.items place ≡ Some seat) same seat_at
+    account-same : done-for ≡ account old.channels.hand place
+    account-same = ap (λ (k : Channels P H). account k.hand place) same
 
     module _ (channel : Channel) (at : slice_get script.channels place ≡ Some channel) where
-      fresh : IsFresh channel was.0 seat
-      fresh = hired.fresh place channel was.0 seat at was.1 seat-was
+      fresh : IsFresh channel was.0 (account old.channels.hand place)
+      fresh = hired.fresh place channel was.0 at was.1
 
       channel-is : started_at (new_channel channel.trace fresh.shape)
           (unwrap_or new.worker.note.start 0) ≡ c
       channel-is = ap (started_at (new_channel channel.trace fresh.shape)) (sym reading_is)
           ∙ ap (λ (b : ChannelValue). started_at b reading) (sym fresh.made) ∙ was.2
 
-      nothing-given : (view seat).account.given ≡ []
-      nothing-given = ap (λ (a : Account TableValue). a.given) fresh.nothing
+      nothing-given : done-for.given ≡ []
+      nothing-given = ap (λ (a : AccountOf). a.given) (account-same ∙ fresh.nothing)
 
       nothing-flushed : (answer : replies.Reply) → HasFlushed place answer done new.worker.note → ⊥
       nothing-flushed answer f =
@@ -104,47 +106,41 @@ module _ {P : Type 0} (shared : Shared) (old new : Runner P) (reading : ℕ) (la
           in omega (arith, g.2)
 
       shown : (attributes : List Attribute) → HasShownLines shared.common attributes
-          new.worker.thread.tree [] done new.worker.note channel c (view seat).account.given
+          new.worker.thread.tree [] done new.worker.note channel c done-for.given
       shown attributes =
           let common = shared.common in
           let tree = new.worker.thread.tree in
           let note = new.worker.note in
           subst (λ (ls : List Line). HasShownLines common attributes tree [] ls note channel c
-          (view seat).account.given) (sym done-none)
+          done-for.given) (sym done-none)
           (subst (λ (ts : List TableValue). HasShownLines common attributes tree [] [] note channel
           c ts) (sym nothing-given)
           (subst (λ (b : ChannelValue). HasShownLines common attributes tree [] [] note channel b
           []) channel-is (law common attributes tree note channel channel.trace fresh.shape)))
 
       kept : (attributes : List Attribute)
-          → HasKept shared attributes new.worker [] place channel c (view seat)
+          → HasKept shared attributes new.worker [] place channel c done-for
       kept attributes = record {
         shown = shown attributes;
         busy = λ holder f. absurd (nothing-flushed (reply.Busy holder) f);
         merged = λ some.
             let none = ap (λ (ts : List TableValue). length ts) nothing-given in
             absurd (omega (arith, some, none));
-        turns = ap (λ (a : Account TableValue). a.given_up) fresh.nothing;
+        turns = ap (λ (a : AccountOf). a.given_up) (account-same ∙ fresh.nothing);
       }
 
-      ready-each : (left : ℕ) (book : BookOf)
-          → AreReady script old.channels shared.timers.some left
-          → slice_get new.channels.books.now place ≡ Some book
-          → IsReady new.channels.thread left channel book c seat
-      ready-each left book r book_at =
-          let was-ready = r.each place channel book was.0 seat at
-          (subst (λ (k : Channels P). slice_get k.books.now place ≡ Some book) same book_at)
-          was.1 seat-was in
-          subst (λ (t : ℕ). IsReady t left channel book c seat)
-          (ap (λ (k : Channels P). k.thread) (sym same))
-          (subst (λ (b : ChannelValue). IsReady old.channels.thread left channel book b seat) was.2
-          (record {
-            seat_is = was-ready.seat_is;
-            own = was-ready.own;
-            traces = was-ready.traces;
-            aggregates = was-ready.aggregates;
-            made = was-ready.made;
-            few = was-ready.few;
+      ready-each : (left : ℕ) (shape : TableShape)
+          → (r : AreReady account takes script old.channels shared.timers.some left)
+          → slice_get r.shapes place ≡ Some shape → IsReady left channel shape c done-for
+      ready-each left shape r shape_at =
+          let ready = r.each place channel shape was.0 at shape_at was.1 in
+          subst (IsReady left channel shape c) (sym account-same)
+          (subst (λ (b : ChannelValue). IsReady left channel shape b
+          (account old.channels.hand place)) was.2 (record {
+            traces = ready.traces;
+            aggregates = ready.aggregates;
+            made = ready.made;
+            few = ready.few;
           }))
 
   -- ---- all of them
@@ -157,27 +153,30 @@ module _ {P : Type 0} (shared : Shared) (old new : Runner P) (reading : ℕ) (la
       ∙ ap (λ (ns : List LineNote). length (lines_of script new.worker.thread.number) - length ns)
       (none ∙ sym noted)
 
-  are-ready : (left : ℕ) → AreReady script old.channels shared.timers.some left
-      → AreReady script new.channels shared.timers.some left
+  are-ready : (left : ℕ)
+      → AreReady account takes script old.channels shared.timers.some left
+      → AreReady account takes script new.channels shared.timers.some left
   are-ready left r = record {
-    named = subst (λ (k : Channels P). AreNamedInSome script k.numbers.now) (sym same) r.named;
+    named = subst (λ (k : Channels P H). AreNamedInSome script k.numbers.now) (sym same) r.named;
     many = ap (λ (cs : List ChannelValue). length cs) started
         ∙ length-map old.channels.channels.items (λ (c : ChannelValue). started_at c reading)
         ∙ r.many;
-    seats = ap (λ (k : Channels P). length k.seats.items) same ∙ r.seats;
-    books = ap (λ (k : Channels P). length k.books.now) same ∙ r.books;
+    shapes = r.shapes;
+    shaped = r.shaped;
+    takes_them = subst (λ (k : Channels P H). takes k.hand k.thread r.shapes) (sym same)
+        r.takes_them;
     timed_is = r.timed_is;
-    each = λ place channel book c seat at book_at channel_at seat_at.
-        ready-each place c seat channel_at seat_at channel at left book r book_at;
+    each = λ place channel shape c at shape_at channel_at.
+        ready-each place c channel_at channel at left shape r shape_at;
   }
 
-  pub runner-started : IsRunner shared new []
+  pub runner-started : IsRunner account takes shared new []
   runner-started = record {
     worker = worker;
-    kept = λ attributes named place channel c seat at channel_at seat_at.
-        kept place c seat channel_at seat_at channel at attributes;
-    thread = ap (λ (k : Channels P). k.thread) same ∙ hired.thread
+    kept = λ attributes named place channel c at channel_at.
+        kept place c channel_at channel at attributes;
+    thread = ap (λ (k : Channels P H). k.thread) same ∙ hired.thread
         ∙ ap (λ (t : Thread). t.number) (sym thread);
-    ready = subst (AreReady script new.channels shared.timers.some) left-same
+    ready = subst (AreReady account takes script new.channels shared.timers.some) left-same
         (are-ready (lines_left shared old.worker) hired.ready);
   }

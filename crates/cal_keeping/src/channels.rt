@@ -1,77 +1,69 @@
 //! What a thread keeps for the channels of its script.
-ghost use Rattle.std.specs.Prelude.{◌≡◌, ℕ, ◌≤◌, ◌^◌, Bool, true, All, IfOk, OnOk, Some};
-ghost use Rattle.std.specs.Prelude.{length, map, slice_get};
-ghost use Rattle.cal_book.specs.Seats.{shape_of};
+ghost use Rattle.std.specs.Prelude.{◌≡◌, ℕ, ◌≤◌, ◌^◌, Bool, true, All, IfOk, OnOk};
+ghost use Rattle.std.specs.Prelude.{length, map};
+ghost use Rattle.cal_book.specs.Accounts.{blank};
 ghost use Rattle.cal_channel.specs.Values.{ChannelValue, started_at};
-ghost use Rattle.cal_keeping.specs.Kept.{AreFresh, AreReady, IsNewSeat, new_for, new_of};
-ghost use Rattle.cal_replay.specs.Flushing.{BookOf, SeatOf};
+ghost use Rattle.cal_keeping.specs.Kept.{AreFresh, AreReady, new_for, new_of};
 ghost use Rattle.cal_run.specs.Numbers.{AreNamedInSome};
 ghost use Rattle.cal_script.specs.declared.script.Channel as channels_of;
 
+use crate::PartHand;
 use cal_channel::ThreadChannel;
 use cal_process::Common;
-use cal_replay::{Keeper, ShownLine, flush, show};
+use cal_replay::{Keeper, ShownLine, show};
 use cal_run::{Numbers, Prober};
 use cal_script::{Channel, Reply, Script};
-use cal_table::{Book, BookSeat, TableShape};
+use cal_table::TableShape;
 use cal_thread::Thread;
 use cal_value::OutOfMemory;
 use std::alloc::Global;
 
-/// What a thread keeps for the channels of its script, one for each in their order: what the
-/// channel has taken, and the thread's seat at its book. The numbers of attributes, the books and
-/// the probes are those of all threads.
+/// What a thread keeps for the channels of its script: what each has taken, in their order, and the
+/// hand by which its parts go. The numbers of attributes and the probes are those of all threads.
 #[derive(Drop)]
-pub struct Channels<'a, P> {
+pub struct Channels<'a, P, H> {
     pub thread: u32,
     pub numbers: &'a Numbers,
-    pub books: &'a [Book],
     pub probes: &'a P,
     pub channels: Vec<ThreadChannel>,
-    pub seats: Vec<BookSeat>,
+    pub hand: H,
     /// Room for the words of a node that is read.
     pub words: Vec<u64>,
 }
 
-impl<'a, P: Prober> Channels<'a, P> {
-    /// What a thread keeps before its first line, with these seats, one for each channel. A channel
+impl<'a, P: Prober, H: PartHand + Drop> Channels<'a, P, H> {
+    /// What a thread keeps before its first line, with its hand, which has done nothing. A channel
     /// that aggregates has a table of the shape at its place. It takes memory for copies of shapes.
-    /// An `Err` is want of it, and drops the seats.
+    /// An `Err` is want of it, and drops the hand.
     pub fn new(
         alloc: Global,
         script: &Script,
         thread: u32,
         numbers: &'a Numbers,
-        books: &'a [Book],
         shapes: &[TableShape],
         probes: &'a P,
-        seats: Vec<BookSeat>,
-    ) -> Result<Channels<'a, P>, OutOfMemory>
+        hand: H,
+    ) -> Result<Channels<'a, P, H>, OutOfMemory>
         requires named { AreNamedInSome script.now numbers.now }
-        requires books { map shape_of books.now ≡ shapes.now }
         requires many { length shapes.now ≡ length script.now.channels }
-        requires seat_each { length seats.items ≡ length script.now.channels }
-        requires seats { (place : ℕ) (book : BookOf) (seat : SeatOf)
-            → slice_get books.now place ≡ Some book → slice_get seats.items place ≡ Some seat
-            → IsNewSeat thread book seat }
-        ensures fresh { IfOk result (λ kept. AreFresh script.now kept) }
+        requires takes { H.takes hand thread shapes.now }
+        requires nothing { (place : ℕ) → H.account hand place ≡ blank }
+        ensures fresh { IfOk result (λ kept. AreFresh H.account script.now kept) }
         ensures ready { IfOk result (λ kept. (timed : Bool) (left : ℕ) → left ≤ 2 ^ 20
             → All (λ (channel : channels_of.Channel). channel.timer ≡ true → timed ≡ true)
-            script.now.channels → AreReady script.now kept timed left) }
+            script.now.channels → AreReady H.account H.takes script.now kept timed left) }
         ensures thread { IfOk result (λ kept. kept.thread ≡ thread) }
         ensures numbers { IfOk result (λ kept. kept.numbers ≡ numbers.entry) }
-        ensures books { IfOk result (λ kept. kept.books ≡ books.entry) }
         ensures probes { IfOk result (λ kept. kept.probes ≡ probes.entry) }
-        ensures seats { IfOk result (λ kept. kept.seats ≡ seats) }
+        ensures hand { IfOk result (λ kept. kept.hand ≡ hand) }
     {
         let channels = new_channels(alloc, script.channels.as_slice(), shapes)?;
         Ok(Channels {
             thread,
             numbers,
-            books,
             probes,
             channels,
-            seats,
+            hand,
             words: Vec::new(alloc),
         })
     }
@@ -127,17 +119,17 @@ fn start_all(channels: &mut [ThreadChannel], reading: u64)
     }
 }
 
-/// A line is shown to each channel, and a flush takes a turn at the book of the channel's place.
-impl<'a, P: Prober> Keeper for Channels<'a, P> {
+/// A line is shown to each channel, and a flush gives what the channel has taken to the hand.
+impl<'a, P: Prober, H: PartHand> Keeper for Channels<'a, P, H> {
     ghost use Rattle.cal_keeping.specs.Kept.{AreReady, AreToldOf, IsFlushedAt};
 
     ghost thread = { λ kept. kept.thread };
 
-    ghost ready = { AreReady };
+    ghost ready = { AreReady H.account H.takes };
 
     ghost shown = { AreToldOf };
 
-    ghost flushed = { IsFlushedAt };
+    ghost flushed = { IsFlushedAt H.account H.stays };
 
     fn show(
         &mut self,
@@ -162,13 +154,9 @@ impl<'a, P: Prober> Keeper for Channels<'a, P> {
     }
 
     fn flush(&mut self, channel: u32) -> Result<Reply, OutOfMemory> {
-        let place = channel as usize;
-        let books = self.books;
-        let reply = flush(
-            &books[place],
-            &mut self.seats[place],
-            &mut self.channels[place],
-        )?;
+        let reply = self
+            .hand
+            .flush(channel, &mut self.channels[channel as usize])?;
         Ok(reply)
     }
 }

@@ -7,7 +7,7 @@ ghost use Rattle.cal_replay.specs.Steps.{HasRead};
 ghost use Rattle.cal_replay.specs.Workers.{IsShared, lines_of, script_of};
 ghost use Rattle.cal_words.specs.declared.op.OpRec as words;
 
-use crate::Channels;
+use crate::{Channels, PartHand};
 use cal_base::{Clock, Gate};
 use cal_replay::{Shared, Worker, shown_at_start_law, shown_lines_law, told_step_law};
 use cal_run::Prober;
@@ -16,22 +16,22 @@ use std::alloc::Global;
 
 /// A running thread: the worker of its lines, and what it keeps for its channels.
 #[derive(Drop)]
-pub struct Runner<'a, P> {
+pub struct Runner<'a, P, H> {
     pub worker: Worker,
-    pub channels: Channels<'a, P>,
+    pub channels: Channels<'a, P, H>,
 }
 
-impl<'a, P: Prober> Runner<'a, P> {
+impl<'a, P: Prober, H: PartHand + Drop> Runner<'a, P, H> {
     /// Takes the start reading, where some channel has the timer, as `Worker::start` does, and
     /// keeps it in each channel. It is called once, before the first `step`. It takes no memory,
     /// and time in the channels.
     pub fn start<K: Clock>(&mut self, shared: &Shared<'_>, clock: &mut K)
         requires shared { IsShared shared.now }
-        requires hired { IsHiredRunner shared.now self.old }
-        ensures runner { IsRunner shared.now self.new [] }
+        requires hired { IsHiredRunner H.account H.takes shared.now self.old }
+        ensures runner { IsRunner H.account H.takes shared.now self.new [] }
         ensures noted { self.new.worker.note.lines ≡ [] }
         ensures thread { self.new.worker.thread ≡ self.old.worker.thread }
-        ensures services { SameServices self.old.channels self.new.channels }
+        ensures services { SameServices H.stays self.old.channels self.new.channels }
         ensures asked { Asked K.given clock.old clock.new
             (off_clock shared.now.real self.new.worker.note.start) }
     {
@@ -52,13 +52,13 @@ impl<'a, P: Prober> Runner<'a, P> {
         gate: &G,
     ) -> Result<bool, OutOfMemory>
         requires shared { IsShared shared.now }
-        requires runner { IsSomeRunner shared.now self.old }
+        requires runner { IsSomeRunner H.account H.takes shared.now self.old }
         requires remains { length self.old.worker.note.lines
             < length (lines_of (script_of shared.now) self.old.worker.thread.number) }
-        ensures steps { OnOk result (StepsOn shared.now K.given clock.old clock.new
+        ensures steps { OnOk result (StepsOn H.account H.stays shared.now K.given clock.old clock.new
             self.old self.new) }
-        ensures runs { OnOk result ((h : List words.OpRec) → IsRunner shared.now self.old h
-            → (ops : List words.OpRec) × IsRunner shared.now self.new (h ++ ops)) }
+        ensures runs { OnOk result ((h : List words.OpRec) → IsRunner H.account H.takes shared.now self.old h
+            → (ops : List words.OpRec) × IsRunner H.account H.takes shared.now self.new (h ++ ops)) }
         ensures more { IfOk result (λ more. more ≡ nat_lt (length self.new.worker.note.lines)
             (length (lines_of (script_of shared.now) self.old.worker.thread.number))) }
     {
@@ -79,12 +79,12 @@ impl<'a, P: Prober> Runner<'a, P> {
         gate: &G,
     ) -> Result<(), OutOfMemory>
         requires shared { IsShared shared.now }
-        requires runner { IsSomeRunner shared.now self.old }
-        ensures runs { OnOk result ((h : List words.OpRec) → IsRunner shared.now self.old h
-            → RanAll shared.now self.new h) }
+        requires runner { IsSomeRunner H.account H.takes shared.now self.old }
+        ensures runs { OnOk result ((h : List words.OpRec) → IsRunner H.account H.takes shared.now self.old h
+            → RanAll H.account H.takes shared.now self.new h) }
         ensures number { OnOk result
             (self.new.worker.thread.number ≡ self.old.worker.thread.number) }
-        ensures services { OnOk result (SameServices self.old.channels self.new.channels) }
+        ensures services { OnOk result (SameServices H.stays self.old.channels self.new.channels) }
         ensures start { OnOk result
             (self.new.worker.note.start ≡ self.old.worker.note.start) }
         ensures read { OnOk result

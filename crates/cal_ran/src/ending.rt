@@ -10,6 +10,7 @@ ghost use Rattle.cal_start.specs.Runs.{IsRun};
 use crate::ended::EndedRun;
 use cal_finish::{end_threads, ended_runners_law, ended_threads_law};
 use cal_handover::{Handed, close_books};
+use cal_keeping::BookHand;
 use cal_start::{FirstSeats, Run};
 use cal_traces::{limits_law, names_law, traces_law};
 use cal_value::OutOfMemory;
@@ -31,8 +32,8 @@ pub(crate) fn end_run<'a, P>(
     ensures real { IfOk result (λ e. e.journal.real ≡ run.entry.shared.real) }
     ensures noted { IfOk result (λ e. e.journal.threads ≡ handed.notes) }
 {
-    ended_threads_law::<P>();
-    ended_runners_law::<P>();
+    ended_threads_law::<P, BookHand<'_>>();
+    ended_runners_law::<P, BookHand<'_>>();
     traces_law();
     limits_law();
     names_law();

@@ -1,6 +1,7 @@
 mod PlacedSeats
 mod ManyBooks
 mod ManyRunners
+mod NewHands
 mod OneHired
 mod ScriptLimits
 mod StartedRuns

@@ -1,7 +1,7 @@
 -- The first seats of a run, from which those of its threads are split off.
 use Rattle.std.specs.Prelude.{◌≡◌, ℕ, List, length, None, Some, slice_get}
+use Rattle.cal_book.specs.Accounts.{blank}
 use Rattle.cal_book.specs.Seats.{IsSeatOf, view}
-use Rattle.cal_keeping.specs.Kept.{IsNewSeat}
 use Rattle.cal_replay.specs.Flushing.{BookOf, SeatOf}
 use Rattle.cal_start.specs.declared.run.FirstSeats.{FirstSeats}
 use Rattle.cal_start.specs.declared.run.Run.{Run}
@@ -12,6 +12,12 @@ pub record IsFirstSeat (count : ℕ) (book : BookOf) (seat : SeatOf) : Type 0 wh
   pub seat_is : IsSeatOf book seat
   pub first : (view seat).thread ≡ None
   pub others : length (view seat).others ≡ count
+
+-- A seat is a thread's at a book, which has done nothing there.
+pub record IsNewSeat (thread : ℕ) (book : BookOf) (seat : SeatOf) : Type 0 where
+  pub seat_is : IsSeatOf book seat
+  pub own : (view seat).thread ≡ Some thread
+  pub nothing : (view seat).account ≡ blank
 
 -- Each book has a seat at its place, of which something holds.
 pub record HaveSeats (fact : BookOf → SeatOf → Type 0) (books : List BookOf) (seats : List SeatOf)

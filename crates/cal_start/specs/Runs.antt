@@ -32,8 +32,8 @@ pub record AreBooks (threads : ℕ) (shapes : List TableShape) (books : List Boo
 
 -- Workers share what is a run's; the tree and the history have the layouts of the script; the
 -- attributes and values of the script, and the attributes that services add, have their numbers in
--- the context, which has no other; and each channel has the shape of its tables by these attributes, and its book for
--- all threads.
+-- the context, which has no other; and each channel has the shape of its tables by these
+-- attributes, and its book for all threads.
 pub record IsRun (run : Run) : Type 0 where
   pub shared : IsShared run.shared
   pub tree : (nodes.plan_of run.shared.common.tree).shape ≡ tree_shape (script_of run.shared)

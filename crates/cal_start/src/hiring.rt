@@ -8,7 +8,7 @@ ghost use Rattle.cal_start.specs.Hired.{AreHired, IsHiredFor};
 ghost use Rattle.cal_start.specs.Runs.{IsRun};
 
 use crate::{FirstSeats, Run};
-use cal_keeping::{Channels, Runner};
+use cal_keeping::{BookHand, Channels, Runner};
 use cal_replay::Worker;
 use cal_run::Prober;
 use cal_script::{LineNote, Script};
@@ -20,14 +20,14 @@ use std::alloc::Global;
 impl<'a> Run<'a> {
     /// A running thread for each thread of the script, in the order of their numbers, with seats of
     /// its own; none is started. It is called once, behind `new`. It takes memory for a copy of
-    /// each shape for each thread, and for a note of each line. Behind an `Err`, which is want of memory, `first` may have split
-    /// some seats off, and nobody is hired from it again.
+    /// each shape for each thread, and for a note of each line. Behind an `Err`, which is want of
+    /// memory, `first` may have split some seats off, and nobody is hired from it again.
     pub fn hire<'r, P: Prober>(
         &'r self,
         alloc: Global,
         probes: &'r P,
         first: &mut FirstSeats,
-    ) -> Result<Vec<Runner<'r, P>>, OutOfMemory>
+    ) -> Result<Vec<Runner<'r, P, BookHand<'r>>>, OutOfMemory>
         requires run { IsRun self.now }
         requires first { HaveHired self.now first.old 0 }
         ensures hired { IfOk result (λ runners. AreHired self.now runners.items) }
@@ -50,7 +50,7 @@ impl<'a> Run<'a> {
         number: u32,
         probes: &'r P,
         first: &mut FirstSeats,
-    ) -> Result<Runner<'r, P>, OutOfMemory>
+    ) -> Result<Runner<'r, P, BookHand<'r>>, OutOfMemory>
         requires run { IsRun self.now }
         requires thread { number < length (script_of self.now.shared).threads }
         requires first { HaveHired self.now first.old number }
@@ -71,10 +71,9 @@ impl<'a> Run<'a> {
             self.shared.common.script,
             number,
             &self.numbers,
-            books,
             self.shapes.as_slice(),
             probes,
-            seats,
+            BookHand { books, seats },
         )?;
         Ok(Runner { worker, channels })
     }

@@ -13,7 +13,7 @@ pub returns-clause-ended : goal.returns-clause-ended
 returns-clause-ended g c shared runners history run known whole = record {
   run = run;
   known = known;
-  ended = has-ended shared runners run history whole;
+  ended = has-ended _ _ shared runners run history whole;
 }
 
 -- the journal is the one of the law of a run
@@ -21,7 +21,7 @@ pub returns-clause-lawful : goal.returns-clause-lawful
 returns-clause-lawful g c shared runners journal is_shared ended real noted =
     let law : Lawful (script_of shared) (journal_of shared runners journal.ops) =
     together (script_of shared) (journal_of shared runners journal.ops)
-    (have-ended shared runners journal.ops is_shared ended) in
+    (have-ended _ _ shared runners journal.ops is_shared ended) in
     let clock : Lawful (script_of shared)
     (record { real = journal.real; ops = journal.ops; threads = notes_of runners }) =
     subst (λ (b : Bool). Lawful (script_of shared)

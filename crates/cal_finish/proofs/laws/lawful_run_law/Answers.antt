@@ -7,4 +7,4 @@ use Rattle.cal_finish.specs.Ended.{journal_of}
 pub returns : goal.returns
 returns g c shared runners history is_shared ended =
     together (script_of shared) (journal_of shared runners history)
-    (have-ended shared runners history is_shared ended)
+    (have-ended _ _ shared runners history is_shared ended)

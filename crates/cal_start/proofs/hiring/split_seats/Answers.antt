@@ -3,10 +3,9 @@ use Rattle.std.proofs.Common.{refl, sym, ap, ◌∙◌, subst, arith}
 use Rattle.std.proofs.lemmas.List.{length_push}
 use Rattle.std.proofs.lemmas.Option.{slice_get-get_or, slice_get_read}
 use Rattle.cal_book.specs.Seats.{view}
-use Rattle.cal_keeping.specs.Kept.{IsNewSeat}
 use Rattle.cal_replay.specs.Flushing.{BookView, SeatOf}
 use Rattle.cal_start.proofs.PlacedSeats.{AreMade, made-more, split-all, split-more}
-use Rattle.cal_start.specs.FirstSeats.{IsFirstSeat}
+use Rattle.cal_start.specs.FirstSeats.{IsFirstSeat, IsNewSeat}
 use Rattle.cal_start.proofs.hiring.split_seats.Goals as goal
 
 pub loop-place-preserved : goal.loop-place-preserved

@@ -1,7 +1,6 @@
 use Rattle.std.proofs.Common.{◌+◌}
-use Rattle.cal_keeping.specs.Kept.{IsNewSeat}
 use Rattle.cal_start.proofs.PlacedSeats.{AreMade, AreSplit}
-use Rattle.cal_start.specs.FirstSeats.{IsFirstSeat}
+use Rattle.cal_start.specs.FirstSeats.{IsFirstSeat, IsNewSeat}
 use Rattle.cal_start.proofs.hiring.split_seats.Given as goal
 
 -- at the books before this place the seats are split

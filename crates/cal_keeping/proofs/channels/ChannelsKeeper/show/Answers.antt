@@ -11,7 +11,7 @@ show-requires-clause-may g c =
     let script = c.args.common.now.script.now in
     let runner = c.args.runner.now in
     subst (MayShow script runner) (sym c.as_mut_slice.ensures.value)
-    (may-show script c.args.self.now runner c.requires.ready.0 c.requires.ready.1)
+    (may-show _ _ script c.args.self.now runner c.requires.ready.0 c.requires.ready.1)
 
 pub returns-clause-shown : goal.returns-clause-shown
 returns-clause-shown g c =
@@ -36,9 +36,10 @@ returns-clause-ready g c left ready =
     record {
       named = ready.named;
       many = told.many ∙ ready.many;
-      seats = ready.seats;
-      books = ready.books;
+      shapes = ready.shapes;
+      shaped = ready.shaped;
+      takes_them = ready.takes_them;
       timed_is = ready.timed_is;
-      each = each-shown common kept.numbers.now c.show.new.thread c.args.line kept.thread left
-          kept.books.now vec.items _ kept.seats.items told ready.each;
+      each = each-shown common kept.numbers.now c.show.new.thread c.args.line left ready.shapes
+          vec.items _ _ told ready.each;
     }

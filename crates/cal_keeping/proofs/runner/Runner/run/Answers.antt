@@ -1,4 +1,4 @@
-use Rattle.std.proofs.Common.{◌∙◌, ◌+◌, ◌++◌, List, [], refl, sym, subst}
+use Rattle.std.proofs.Common.{◌∙◌, ◌++◌, [], refl, sym, subst}
 use Rattle.std.proofs.Common.{append-nil, append_assoc, arith}
 use Rattle.cal_keeping.proofs.SteppedRunners.{all-done, lines-remain, one-less, same-already}
 use Rattle.cal_keeping.proofs.SteppedRunners.{same-then, step-same}
@@ -6,7 +6,6 @@ use Rattle.cal_keeping.specs.Kept.{AreToldOf, IsFlushedAt}
 use Rattle.cal_keeping.specs.Runners.{IsRunner}
 use Rattle.cal_replay.proofs.ManyLines.{asked-none, readings-then}
 use Rattle.cal_replay.specs.Workers.{script_of}
-use Rattle.cal_words.specs.declared.op.OpRec.{OpRec}
 use Rattle.cal_keeping.proofs.runner.Runner.run.Goals as goal
 
 pub loop-alloc-init : goal.loop-alloc-init
@@ -14,11 +13,11 @@ loop-alloc-init g c = record {
   some = c.requires.runner;
   more = λ h r. (
     [],
-    subst (λ (hs : List OpRec). IsRunner c.args.shared.now c.args.self.now hs)
+    subst (IsRunner _ _ c.args.shared.now c.args.self.now)
         (sym (append-nil h)) r,
   );
   number = refl;
-  services = same-already c.args.self.now.channels;
+  services = same-already _ g.H.PartHand.same c.args.self.now.channels;
   start = refl;
   read = (
     [],
@@ -39,13 +38,14 @@ pub loop-alloc-smaller : goal.loop-alloc-smaller
 loop-alloc-smaller g c =
     let below = lines-remain (script_of c.args.shared.now) c.loop-alloc.self.worker
     c.has_more.result c.has_more.ensures c.loop-alloc-test.true in
-    let one = one-less _ c.args.shared.now c.loop-alloc.clock c.step.new.clock c.loop-alloc.self
+    let one = one-less _ _ _ c.args.shared.now c.loop-alloc.clock c.step.new.clock c.loop-alloc.self
     c.step.new.self c.in_ok-_more.ensures.steps below in
     omega (arith, one)
 
 pub loop-alloc-preserved : goal.loop-alloc-preserved
 loop-alloc-preserved g c =
     let i = c.loop-alloc.invariant in
+    let hand = g.H.PartHand in
     let shared = c.args.shared.now in
     let was = c.loop-alloc.self in
     let is = c.step.new.self in
@@ -57,13 +57,14 @@ loop-alloc-preserved g c =
           let m = i.more h r in
           let n = runs (h ++ m.0) m.1 in (
             m.0 ++ n.0,
-            subst (λ (hs : List OpRec). IsRunner shared is hs) (append_assoc h m.0 n.0) n.1,
+            subst (IsRunner _ _ shared is) (append_assoc h m.0 n.0) n.1,
           );
       number = s.number ∙ i.number;
-      services = same-then c.args.self.now.channels was.channels is.channels i.services
-          (step-same _ shared c.loop-alloc.clock c.step.new.clock was is s);
+      services = same-then _ hand.same hand.later c.args.self.now.channels was.channels
+          is.channels i.services (step-same _ hand.same hand.later _ _ shared c.loop-alloc.clock
+          c.step.new.clock was is s);
       start = (λ k. (s.noted k).start) ∙ i.start;
-      read = readings-then _ AreToldOf IsFlushedAt shared c.args.self.now.worker was.worker
+      read = readings-then _ AreToldOf (IsFlushedAt hand.account hand.stays) shared c.args.self.now.worker was.worker
           is.worker c.args.clock.now c.loop-alloc.clock c.step.new.clock was.channels is.channels s
           i.read;
     }

@@ -8,12 +8,13 @@ use Rattle.cal_keeping.proofs.runner.Runner.run.Given as goal
 abbrev pub invariant-loop-alloc : goal.invariant-loop-alloc
 invariant-loop-alloc g l =
     let clock = g.K.Clock in
+    let hand = g.H.PartHand in
     record {
-      some : IsSomeRunner l.shared l.self;
-      more : (h : List OpRec) → IsRunner l.shared l.fn.self h
-          → (ops : List OpRec) × IsRunner l.shared l.self (h ++ ops);
+      some : IsSomeRunner hand.account hand.takes l.shared l.self;
+      more : (h : List OpRec) → IsRunner hand.account hand.takes l.shared l.fn.self h
+          → (ops : List OpRec) × IsRunner hand.account hand.takes l.shared l.self (h ++ ops);
       number : l.self.worker.thread.number ≡ l.fn.self.worker.thread.number;
-      services : SameServices l.fn.self.channels l.self.channels;
+      services : SameServices hand.stays l.fn.self.channels l.self.channels;
       start : l.self.worker.note.start ≡ l.fn.self.worker.note.start;
       read : HasRead l.shared clock.given l.fn.clock l.clock l.fn.self.worker l.self.worker;
     }

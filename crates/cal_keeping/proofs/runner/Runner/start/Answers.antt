@@ -3,7 +3,7 @@ use Rattle.cal_keeping.proofs.runner.Runner.start.Goals as goal
 
 pub returns-clause-runner : goal.returns-clause-runner
 returns-clause-runner g c =
-    runner-started c.args.shared.now c.args.self.now
+    runner-started _ _ c.args.shared.now c.args.self.now
     (record { worker = c.start.new.self; channels = c.start-2.new.self })
     c.unwrap_or-reading.result c.shown_at_start_law.ensures c.requires.hired c.start.ensures.worker
     c.start.ensures.noted c.start.ensures.thread c.unwrap_or-reading.ensures
@@ -11,4 +11,4 @@ returns-clause-runner g c =
 
 pub returns-clause-services : goal.returns-clause-services
 returns-clause-services g c =
-    started-same c.args.self.now.channels c.start-2.new.self c.start-2.ensures.same
+    started-same _ g.H.PartHand.same c.args.self.now.channels c.start-2.new.self c.start-2.ensures.same

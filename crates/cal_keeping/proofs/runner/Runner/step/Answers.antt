@@ -1,5 +1,5 @@
 use Rattle.std.proofs.Common.{◌≡◌, ◌-◌, ◌+◌, arith, subst}
-use Rattle.cal_keeping.proofs.SteppedRunners.{one-less, runner-behind}
+use Rattle.cal_keeping.proofs.SteppedRunners.{one-less, runner-behind, step-same}
 use Rattle.cal_keeping.specs.Kept.{AreReady}
 use Rattle.cal_keeping.specs.Runners.{lines_left}
 use Rattle.cal_keeping.specs.declared.runner.Runner.{Runner}
@@ -20,22 +20,25 @@ step-requires-clause-ready g c =
     let below = c.requires.remains in
     let one : left ≡ (left - 1) + 1 = omega (arith, below) in (
       left - 1,
-      subst (AreReady (script_of shared) self.channels shared.timers.some) one
+      subst (AreReady _ _ (script_of shared) self.channels shared.timers.some) one
           c.requires.runner.1.ready,
     )
 
 pub returns-clause-runs : goal.returns-clause-runs
 returns-clause-runs g c h r =
+    let hand = g.H.PartHand in
     let shared = c.args.shared.now in
     let e = c.in_ok-more.ensures in
     let old = c.args.self.now in
-    let new : Runner g.row.P.Denot =
+    let new : Runner g.row.P.Denot g.row.H.Denot =
     record { worker = c.step.new.self; channels = c.step.new.keeper } in
-    let one = one-less _ shared c.args.clock.now c.step.new.clock old new e.steps
+    let one = one-less _ _ _ shared c.args.clock.now c.step.new.clock old new e.steps
     c.requires.remains in (
       _,
-      runner-behind _ shared c.args.clock.now c.step.new.clock old new e.steps
-          c.told_step_law.ensures c.shown_lines_law.ensures.merged h r e.keeper
+      runner-behind _ _ _ shared c.args.clock.now c.step.new.clock old new e.steps _
+          c.told_step_law.ensures c.shown_lines_law.ensures.merged h r
+          (step-same _ hand.same hand.later _ _ shared c.args.clock.now c.step.new.clock old new
+          e.steps) e.keeper
           (e.ready (lines_left shared new.worker)
-          (subst (AreReady (script_of shared) old.channels shared.timers.some) one r.ready)),
+          (subst (AreReady _ _ (script_of shared) old.channels shared.timers.some) one r.ready)),
     )

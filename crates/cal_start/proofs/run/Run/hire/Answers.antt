@@ -1,4 +1,5 @@
 use Rattle.std.proofs.Common.{◌≡◌, ◌+◌, ℕ, List, length, sym, subst, arith}
+use Rattle.cal_keeping.specs.declared.book_hand.BookHand.{BookHand}
 use Rattle.cal_keeping.specs.declared.runner.Runner.{Runner}
 use Rattle.cal_replay.specs.Workers.{script_of}
 use Rattle.cal_start.proofs.ManyRunners.{AreHiredBelow, hired-more}
@@ -8,7 +9,7 @@ use Rattle.cal_start.proofs.run.Run.hire.Goals as goal
 pub loop-number-preserved : goal.loop-number-preserved
 loop-number-preserved g c = record {
   hired = subst
-      (λ (xs : List (Runner g.row.P.Denot)).
+      (λ (xs : List (Runner g.row.P.Denot BookHand)).
       AreHiredBelow c.args.self.now xs (c.loop-number.number + 1))
       (sym c.in_ok-push.ensures.items)
       (hired-more c.args.self.now c.loop-number.runners.items c.loop-number.number

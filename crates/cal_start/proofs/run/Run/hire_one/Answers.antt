@@ -1,7 +1,10 @@
-use Rattle.std.proofs.Common.{◌+◌, List, Bor, sym, ap, ◌∙◌, subst}
+use Rattle.std.proofs.Common.{◌+◌, List, Bor, map, sym, ap, ◌∙◌, subst}
 use Rattle.std.proofs.lemmas.List.{with_items_is}
+use Rattle.cal_book.specs.Seats.{shape_of}
+use Rattle.cal_keeping.specs.declared.book_hand.BookHand.{BookHand}
 use Rattle.cal_replay.specs.Flushing.{BookOf, SeatOf}
 use Rattle.cal_run.specs.declared.numbers.Numbers.{Numbers}
+use Rattle.cal_start.proofs.NewHands.{nothing-done, takes-all}
 use Rattle.cal_start.proofs.OneHired.{hired-for}
 use Rattle.cal_start.specs.FirstSeats.{AreFirstSeats}
 use Rattle.cal_thread.specs.declared.thread.Thread.{Thread}
@@ -17,7 +20,7 @@ returns-clause-hired g c =
     (ap (λ (t : Thread). t.number) worker.thread ∙ thread.number)
     kept.fresh kept.ready kept.thread
     (ap (λ (b : Bor Numbers). b.now) kept.numbers)
-    (ap (λ (b : Bor (List BookOf)). b.now) kept.books ∙ c.as_slice-books.ensures.value)
+    (ap (λ (h : BookHand). h.books.now) kept.hand ∙ c.as_slice-books.ensures.value)
 
 pub returns-clause-first : goal.returns-clause-first
 returns-clause-first g c =
