@@ -10,4 +10,5 @@
 mod running;
 mod shift;
 
-pub use running::run_threads;
+pub use running::{have_all_run, pair, part, run_threads};
+pub use shift::Shift;

@@ -49,9 +49,10 @@ pub fn run_threads<
     Ok(done)
 }
 
-/// Each runner with the clock at its place. What is left of the clocks stands in turned order, so
-/// that a clock is taken and given back at the end. Behind an `Err` the clocks taken are dropped.
-fn pair<'a, P: Prober, H: Drop, K: Drop>(
+/// Each runner with the clock at its place, in the order of the runners, and not run yet. What is
+/// left of the clocks stands in turned order, so that a clock is taken and given back at the end. It
+/// takes memory for the list. Behind an `Err` the clocks taken are dropped.
+pub fn pair<'a, P: Prober, H: Drop, K: Drop>(
     alloc: Global,
     mut runners: Vec<Runner<'a, P, H>>,
     clocks: &mut Vec<K>,
@@ -96,7 +97,7 @@ fn run_all<
 }
 
 /// Whether each shift has run all its lines.
-fn have_all_run<'a, P: Prober, H, K>(shifts: &[Shift<'a, P, H, K>]) -> bool
+pub fn have_all_run<'a, P: Prober, H, K>(shifts: &[Shift<'a, P, H, K>]) -> bool
     ensures { result ≡ true → All (λ s. s.ran ≡ true) shifts.now }
 {
     for shift in shifts {
@@ -108,8 +109,9 @@ fn have_all_run<'a, P: Prober, H, K>(shifts: &[Shift<'a, P, H, K>]) -> bool
 }
 
 /// The runners of shifts in their order, whose clocks are given back before those that are left,
-/// which stand in turned order.
-fn part<'a, P: Prober, H: Drop, K: Drop>(
+/// which stand in turned order. It takes memory for the list. Behind an `Err` shifts and clocks are
+/// dropped.
+pub fn part<'a, P: Prober, H: Drop, K: Drop>(
     alloc: Global,
     mut shifts: Vec<Shift<'a, P, H, K>>,
     clocks: &mut Vec<K>,

@@ -11,10 +11,10 @@ use std::alloc::Global;
 
 /// A runner with its clock, and whether it has run all its lines.
 #[derive(Drop)]
-pub(crate) struct Shift<'a, P, H, K> {
-    pub(crate) runner: Runner<'a, P, H>,
-    pub(crate) clock: K,
-    pub(crate) ran: bool,
+pub struct Shift<'a, P, H, K> {
+    pub runner: Runner<'a, P, H>,
+    pub clock: K,
+    pub ran: bool,
 }
 
 /// Starts the runner and runs all its lines. Where it ran out of memory they haven't run.

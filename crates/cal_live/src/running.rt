@@ -1,0 +1,103 @@
+//! All running threads beside the collector.
+ghost use Rattle.std.specs.Prelude.{◌≡◌, ◌≤◌, All, IfOk, OnOk, length};
+ghost use Rattle.cal_collect.specs.Collecting.{HasMerged};
+ghost use Rattle.cal_keeping.specs.Runners.{IsHiredRunner};
+ghost use Rattle.cal_live.specs.Ran.{HaveRunAndEnded, HaveShiftedAndEnded};
+ghost use Rattle.cal_live.specs.Sending.{IsSendingFor, account_of};
+ghost use Rattle.cal_mail.specs.Ends.{AllLastCame, mailbox_of, senders_of};
+ghost use Rattle.cal_replay.specs.Workers.{IsShared};
+
+use crate::SenderHand;
+use crate::shift::run_and_end;
+use cal_base::{Clock, Gate};
+use cal_collect::{PartCollector, Shapes};
+use cal_crew::{Shift, have_all_run, pair, part};
+use cal_keeping::Runner;
+use cal_replay::Shared;
+use cal_run::Prober;
+use cal_value::OutOfMemory;
+use std::alloc::Global;
+use std::sync::Wait;
+use std::thread;
+use std::thread::Threads;
+
+/// Runs all lines of these runners, each in a thread of its own with the clock at its place, while
+/// the collector merges what they flush. It gives the runners back in their order, each with its
+/// sender ended, and leaves the clocks in theirs. An `Err` is want of memory: some runner may have
+/// run, all are dropped, and clocks with them. It waits while threads and the collector wait for
+/// each other; that it returns isn't promised, also not where no thread can be made.
+pub fn run_and_collect<
+    'a,
+    R: Threads + Sync,
+    P: Prober + Sync,
+    Q: Wait + Sync,
+    S: Shapes + Send + Sync,
+    K: Clock + Send + Drop,
+    G: Gate + Sync,
+>(
+    rt: &R,
+    alloc: Global,
+    shared: &Shared<'_>,
+    runners: Vec<Runner<'a, P, SenderHand<'a, Q, S>>>,
+    clocks: &mut Vec<K>,
+    gate: &G,
+    collector: &mut PartCollector<'a, Q, S>,
+) -> Result<Vec<Runner<'a, P, SenderHand<'a, Q, S>>>, OutOfMemory>
+    requires shared { IsShared shared.now }
+    requires hired { All (IsHiredRunner account_of (IsSendingFor S.shapes) shared.now)
+        runners.items }
+    requires clocks { length runners.items ≤ length clocks.old.items }
+    requires merged { HasMerged S.shapes collector.old }
+    ensures ran { IfOk result (λ done. HaveRunAndEnded S.shapes shared.now K.given
+        runners.entry.items done.items clocks.old.items clocks.new.items) }
+    ensures merged { OnOk result (HasMerged S.shapes collector.new) }
+    ensures came { OnOk result (AllLastCame collector.new.collector) }
+    ensures stays { OnOk result
+        ((mailbox_of collector.new.collector ≡ mailbox_of collector.old.collector)
+        × (senders_of collector.new.collector ≡ senders_of collector.old.collector)) }
+{
+    let mut shifts = pair(alloc, runners, clocks)?;
+    let all = shifts.as_mut_slice();
+    let (collected, ()) = thread::join_mut(
+        rt,
+        &mut || collector.collect(),
+        &mut || run_all(rt, alloc, shared, all, gate),
+    );
+    collected?;
+    if !have_all_run(shifts.as_slice()) {
+        return Err(OutOfMemory);
+    }
+    let done = part(alloc, shifts, clocks)?;
+    Ok(done)
+}
+
+/// Runs each shift in a thread of its own.
+fn run_all<
+    'a,
+    R: Threads + Sync,
+    P: Prober + Sync,
+    Q: Wait + Sync,
+    S: Shapes + Send + Sync,
+    K: Clock + Send,
+    G: Gate + Sync,
+>(
+    rt: &R,
+    alloc: Global,
+    shared: &Shared<'_>,
+    shifts: &mut [Shift<'a, P, SenderHand<'a, Q, S>, K>],
+    gate: &G,
+)
+    requires shared { IsShared shared.now }
+    requires hired { All (λ s. IsHiredRunner account_of (IsSendingFor S.shapes) shared.now s.runner)
+        shifts.old }
+    ensures many { length shifts.new ≡ length shifts.old }
+    ensures ran { HaveShiftedAndEnded S.shapes shared.now K.given shifts.old shifts.new }
+{
+    let threads = shifts.len().max(1);
+    thread::for_each_mut(
+        rt,
+        shifts,
+        threads,
+        &|_number, shift| run_and_end(alloc, shared, gate, shift),
+    );
+}
