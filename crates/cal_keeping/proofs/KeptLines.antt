@@ -125,7 +125,8 @@ module _ (shared : Shared) (attributes : List Attribute) (old new : Worker) (h a
       (subst (λ (c : ChannelValue). HasKept shared attributes new all place channel c
       (more_met before holder)) (sym handed.2) (busy-now holder replied shown))
   kept-flushed thread part is behind reply.Done here replied handed shown given = absurd handed
-  kept-flushed thread part is behind (reply.Mismatch top) here replied handed shown given = absurd handed
+  kept-flushed thread part is behind (reply.Mismatch top) here replied handed shown given =
+      absurd handed
   kept-flushed thread part is behind reply.NotOpen here replied handed shown given = absurd handed
   kept-flushed thread part is behind reply.TooDeep here replied handed shown given = absurd handed
   kept-flushed thread part is behind reply.SlotsFull here replied handed shown given = absurd handed

@@ -115,8 +115,7 @@ module _ {P H : Type 0} (stays : H → H → Type 0) (same : (hand : H) → stay
   pub same-already : (a : Channels P H) → SameServices stays a a
   same-already a = record { thread = refl; numbers = refl; hand = same a.hand; probes = refl }
 
-  module _ (later : (one two three : H) → stays one two → stays two three → stays one three)
-      where
+  module _ (later : (a b c : H) → stays a b → stays b c → stays a c) where
     pub same-then : (a b c : Channels P H) → SameServices stays a b → SameServices stays b c
         → SameServices stays a c
     same-then a b c p q = record {

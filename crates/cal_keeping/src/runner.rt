@@ -55,10 +55,12 @@ impl<'a, P: Prober, H: PartHand + Drop> Runner<'a, P, H> {
         requires runner { IsSomeRunner H.account H.takes shared.now self.old }
         requires remains { length self.old.worker.note.lines
             < length (lines_of (script_of shared.now) self.old.worker.thread.number) }
-        ensures steps { OnOk result (StepsOn H.account H.stays shared.now K.given clock.old clock.new
-            self.old self.new) }
-        ensures runs { OnOk result ((h : List words.OpRec) → IsRunner H.account H.takes shared.now self.old h
-            → (ops : List words.OpRec) × IsRunner H.account H.takes shared.now self.new (h ++ ops)) }
+        ensures steps { OnOk result (StepsOn H.account H.stays shared.now K.given
+            clock.old clock.new self.old self.new) }
+        ensures runs { OnOk result ((h : List words.OpRec)
+            → IsRunner H.account H.takes shared.now self.old h
+            → (ops : List words.OpRec)
+            × IsRunner H.account H.takes shared.now self.new (h ++ ops)) }
         ensures more { IfOk result (λ more. more ≡ nat_lt (length self.new.worker.note.lines)
             (length (lines_of (script_of shared.now) self.old.worker.thread.number))) }
     {
@@ -80,7 +82,8 @@ impl<'a, P: Prober, H: PartHand + Drop> Runner<'a, P, H> {
     ) -> Result<(), OutOfMemory>
         requires shared { IsShared shared.now }
         requires runner { IsSomeRunner H.account H.takes shared.now self.old }
-        ensures runs { OnOk result ((h : List words.OpRec) → IsRunner H.account H.takes shared.now self.old h
+        ensures runs { OnOk result ((h : List words.OpRec)
+            → IsRunner H.account H.takes shared.now self.old h
             → RanAll H.account H.takes shared.now self.new h) }
         ensures number { OnOk result
             (self.new.worker.thread.number ≡ self.old.worker.thread.number) }

@@ -64,9 +64,9 @@ loop-alloc-preserved g c =
           is.channels i.services (step-same _ hand.same hand.later _ _ shared c.loop-alloc.clock
           c.step.new.clock was is s);
       start = (λ k. (s.noted k).start) ∙ i.start;
-      read = readings-then _ AreToldOf (IsFlushedAt hand.account hand.stays) shared c.args.self.now.worker was.worker
-          is.worker c.args.clock.now c.loop-alloc.clock c.step.new.clock was.channels is.channels s
-          i.read;
+      read = readings-then _ AreToldOf (IsFlushedAt hand.account hand.stays) shared
+          c.args.self.now.worker was.worker is.worker c.args.clock.now c.loop-alloc.clock
+          c.step.new.clock was.channels is.channels s i.read;
     }
 
 pub returns-clause-runs : goal.returns-clause-runs

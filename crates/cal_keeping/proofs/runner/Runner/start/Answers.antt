@@ -11,4 +11,5 @@ returns-clause-runner g c =
 
 pub returns-clause-services : goal.returns-clause-services
 returns-clause-services g c =
-    started-same _ g.H.PartHand.same c.args.self.now.channels c.start-2.new.self c.start-2.ensures.same
+    started-same _ g.H.PartHand.same c.args.self.now.channels c.start-2.new.self
+    c.start-2.ensures.same
