@@ -12,6 +12,11 @@ use Rattle.cal_mail.specs.Ends.{IsEndedOf, Mailbox, mailbox_of_sender, number_of
 use Rattle.cal_mail.specs.declared.ended.Ended.{Ended}
 use Rattle.cal_table.specs.declared.shape.TableShape.{TableShape}
 
+-- a mailbox, and the number of a sender there
+pub record Home (S : Type 0) : Type 0 where
+  pub mailbox : Mailbox Part (PartLaw S)
+  pub number : ℕ
+
 module _ {Q S : Type 0} where
   -- the parts that a sender sent, or else those of an ended one
   abbrev pub sent_by_either : Option (PartSender Q S) → Option (Ended Part) → List Part
@@ -39,11 +44,7 @@ module _ {Q S : Type 0} where
     pub number_is : number_of sender.sender ≡ thread
 
   -- where it sends to, and with which number
-  pub record Home : Type 0 where
-    pub mailbox : Mailbox Part (PartLaw S)
-    pub number : ℕ
-
-  abbrev pub home_of : SenderHand Q S → Option Home
+  abbrev pub home_of : SenderHand Q S → Option (Home S)
   home_of hand = option_map (λ (one : PartSender Q S). record {
     mailbox = mailbox_of_sender one.sender;
     number = number_of one.sender;

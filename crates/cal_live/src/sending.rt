@@ -20,7 +20,7 @@ pub struct SenderHand<'a, Q, S: Shapes> {
 impl<'a, Q: Wait, S: Shapes> SenderHand<'a, Q, S> {
     /// A hand that sends by this sender.
     pub fn new(sender: PartSender<'a, Q, S>) -> SenderHand<'a, Q, S>
-        ensures { (result.sender ≡ Some sender) × (result.ended ≡ None) }
+        ensures { (result.sender ≡ Some sender.entry) × (result.ended ≡ None) }
     {
         SenderHand {
             sender: Some(sender),
@@ -40,7 +40,7 @@ impl<'a, Q: Wait, S: Shapes> SenderHand<'a, Q, S> {
 
     /// What is left of the sender, if it has ended.
     pub fn into_ended(self) -> Option<Ended<Part>>
-        ensures { result ≡ self.ended }
+        ensures { result ≡ self.entry.ended }
     {
         let SenderHand { sender: _, ended } = self;
         ended
