@@ -1,11 +1,14 @@
 -- What running threads leave whose parts were collected.
 use Rattle.std.specs.Prelude.{◌≡◌, ℕ, ◌<◌, true, List, length, drop, Option, Some}
 use Rattle.std.specs.Prelude.{slice_get, slice_index_or}
+use Rattle.cal_collect.specs.Collecting.{HasMerged}
+use Rattle.cal_collect.specs.declared.collector.PartCollector.{PartCollector}
 use Rattle.cal_crew.specs.Ran.{HasRun}
 use Rattle.cal_crew.specs.declared.shift.Shift.{Shift}
 use Rattle.cal_keeping.specs.declared.runner.Runner.{Runner}
 use Rattle.cal_live.specs.Sending.{HasEnded, HasSameHome, IsSendingFor, account_of}
 use Rattle.cal_live.specs.declared.sending.SenderHand.{SenderHand}
+use Rattle.cal_mail.specs.Ends.{AllLastCame, mailbox_of, senders_of}
 use Rattle.cal_replay.specs.declared.shared.Shared.{Shared}
 use Rattle.cal_table.specs.declared.shape.TableShape.{TableShape}
 
@@ -42,3 +45,11 @@ module _ {K P Q S : Type 0} (shapes : List TableShape) (shared : Shared)
         → slice_get was place ≡ Some before → slice_get is place ≡ Some behind
         → HasRunAndEnded had has before behind
     pub others : drop (length old) is ≡ drop (length old) was
+
+-- The last message of each sender of its mailbox came to a collector, which has merged all parts.
+pub record HasCollected {Q S : Type 0} (shapes : List TableShape) (old new : PartCollector Q S)
+    : Type 0 where
+  pub merged : HasMerged shapes new
+  pub came : AllLastCame new.collector
+  pub mailbox : mailbox_of new.collector ≡ mailbox_of old.collector
+  pub senders : senders_of new.collector ≡ senders_of old.collector

@@ -1,10 +1,10 @@
 //! All running threads beside the collector.
 ghost use Rattle.std.specs.Prelude.{◌≡◌, ◌≤◌, All, IfOk, OnOk, length};
+ghost use Rattle.std.specs.Thread.{IsSend, IsSync};
 ghost use Rattle.cal_collect.specs.Collecting.{HasMerged};
 ghost use Rattle.cal_keeping.specs.Runners.{IsHiredRunner};
-ghost use Rattle.cal_live.specs.Ran.{HaveRunAndEnded, HaveShiftedAndEnded};
+ghost use Rattle.cal_live.specs.Ran.{HasCollected, HaveRunAndEnded, HaveShiftedAndEnded};
 ghost use Rattle.cal_live.specs.Sending.{IsSendingFor, account_of};
-ghost use Rattle.cal_mail.specs.Ends.{AllLastCame, mailbox_of, senders_of};
 ghost use Rattle.cal_replay.specs.Workers.{IsShared};
 
 use crate::SenderHand;
@@ -23,11 +23,14 @@ use std::thread::Threads;
 
 /// Runs all lines of these runners, each in a thread of its own with the clock at its place, while
 /// the collector merges what they flush. It gives the runners back in their order, each with its
-/// sender ended, and leaves the clocks in theirs. An `Err` is want of memory: some runner may have
-/// run, all are dropped, and clocks with them. It waits while threads and the collector wait for
-/// each other; that it returns isn't promised, also not where no thread can be made.
+/// sender ended, and the collector, and leaves the clocks in theirs. An `Err` is want of memory:
+/// some runner may have run, all are dropped, and clocks with them. It waits while threads and the
+/// collector wait for each other; that it returns isn't promised, also not where no thread can be
+/// made.
 pub fn run_and_collect<
     'a,
+    'b,
+    'c,
     R: Threads + Sync,
     P: Prober + Sync,
     Q: Wait + Sync,
@@ -38,42 +41,62 @@ pub fn run_and_collect<
     rt: &R,
     alloc: Global,
     shared: &Shared<'_>,
-    runners: Vec<Runner<'a, P, SenderHand<'a, Q, S>>>,
+    runners: Vec<Runner<'a, P, SenderHand<'b, Q, S>>>,
     clocks: &mut Vec<K>,
     gate: &G,
-    collector: &mut PartCollector<'a, Q, S>,
-) -> Result<Vec<Runner<'a, P, SenderHand<'a, Q, S>>>, OutOfMemory>
+    collector: PartCollector<'c, Q, S>,
+) -> Result<(Vec<Runner<'a, P, SenderHand<'b, Q, S>>>, PartCollector<'c, Q, S>), OutOfMemory>
     requires shared { IsShared shared.now }
     requires hired { All (IsHiredRunner account_of (IsSendingFor S.shapes) shared.now)
         runners.items }
     requires clocks { length runners.items ≤ length clocks.old.items }
-    requires merged { HasMerged S.shapes collector.old }
+    requires merged { HasMerged S.shapes collector }
     ensures ran { IfOk result (λ done. HaveRunAndEnded S.shapes shared.now K.given
-        runners.entry.items done.items clocks.old.items clocks.new.items) }
-    ensures merged { OnOk result (HasMerged S.shapes collector.new) }
-    ensures came { OnOk result (AllLastCame collector.new.collector) }
-    ensures stays { OnOk result
-        ((mailbox_of collector.new.collector ≡ mailbox_of collector.old.collector)
-        × (senders_of collector.new.collector ≡ senders_of collector.old.collector)) }
+        runners.entry.items done.0.items clocks.old.items clocks.new.items) }
+    ensures collected { IfOk result
+        (λ done. HasCollected S.shapes collector.entry done.1) }
 {
-    let mut shifts = pair(alloc, runners, clocks)?;
-    let all = shifts.as_mut_slice();
-    let (collected, ()) = thread::join_mut(
+    let shifts = pair(alloc, runners, clocks)?;
+    let ((collector, collected), shifts) = thread::join(
         rt,
-        &mut || collector.collect(),
-        &mut || run_all(rt, alloc, shared, all, gate),
+        || -> (PartCollector<'c, Q, S>, Result<(), OutOfMemory>)
+            requires { HasMerged S.shapes collector }
+            ensures { OnOk result.1 (HasCollected S.shapes collector.entry result.0) }
+        { collect(collector) },
+        || -> Vec<Shift<'a, P, SenderHand<'b, Q, S>, K>>
+            requires bounds { IsSync R.row × IsSync P.row × IsSync Q.row × IsSend S.row
+                × IsSync S.row × IsSend K.row × IsSync G.row }
+            requires shared { IsShared shared.now }
+            requires hired { All (λ s. IsHiredRunner account_of (IsSendingFor S.shapes) shared.now
+                s.runner) shifts.items }
+            ensures { (length result.items ≡ length shifts.entry.items)
+                × HaveShiftedAndEnded S.shapes shared.entry.now K.given shifts.entry.items
+                result.items }
+        { run_shifts(rt, alloc, shared, shifts, gate) },
     );
     collected?;
     if !have_all_run(shifts.as_slice()) {
         return Err(OutOfMemory);
     }
     let done = part(alloc, shifts, clocks)?;
-    Ok(done)
+    Ok((done, collector))
 }
 
-/// Runs each shift in a thread of its own.
-fn run_all<
+/// The collector, once each sender's last message has come to it.
+fn collect<'c, Q: Wait, S: Shapes>(
+    mut collector: PartCollector<'c, Q, S>,
+) -> (PartCollector<'c, Q, S>, Result<(), OutOfMemory>)
+    requires merged { HasMerged S.shapes collector }
+    ensures collected { OnOk result.1 (HasCollected S.shapes collector.entry result.0) }
+{
+    let collected = collector.collect();
+    (collector, collected)
+}
+
+/// The shifts, each of which was run in a thread of its own.
+fn run_shifts<
     'a,
+    'b,
     R: Threads + Sync,
     P: Prober + Sync,
     Q: Wait + Sync,
@@ -84,7 +107,34 @@ fn run_all<
     rt: &R,
     alloc: Global,
     shared: &Shared<'_>,
-    shifts: &mut [Shift<'a, P, SenderHand<'a, Q, S>, K>],
+    mut shifts: Vec<Shift<'a, P, SenderHand<'b, Q, S>, K>>,
+    gate: &G,
+) -> Vec<Shift<'a, P, SenderHand<'b, Q, S>, K>>
+    requires shared { IsShared shared.now }
+    requires hired { All (λ s. IsHiredRunner account_of (IsSendingFor S.shapes) shared.now s.runner)
+        shifts.items }
+    ensures many { length result.items ≡ length shifts.entry.items }
+    ensures ran { HaveShiftedAndEnded S.shapes shared.now K.given shifts.entry.items result.items }
+{
+    run_all(rt, alloc, shared, shifts.as_mut_slice(), gate);
+    shifts
+}
+
+/// Runs each shift in a thread of its own.
+fn run_all<
+    'a,
+    'b,
+    R: Threads + Sync,
+    P: Prober + Sync,
+    Q: Wait + Sync,
+    S: Shapes + Send + Sync,
+    K: Clock + Send,
+    G: Gate + Sync,
+>(
+    rt: &R,
+    alloc: Global,
+    shared: &Shared<'_>,
+    shifts: &mut [Shift<'a, P, SenderHand<'b, Q, S>, K>],
     gate: &G,
 )
     requires shared { IsShared shared.now }

@@ -15,11 +15,11 @@ use std::sync::Wait;
 
 /// Starts the runner, runs all its lines, and sends its last message, also where it ran out of
 /// memory and its lines haven't run.
-pub(crate) fn run_and_end<'a, P: Prober, Q: Wait, S: Shapes, K: Clock, G: Gate>(
+pub(crate) fn run_and_end<'a, 'b, P: Prober, Q: Wait, S: Shapes, K: Clock, G: Gate>(
     alloc: Global,
     shared: &Shared<'_>,
     gate: &G,
-    shift: &mut Shift<'a, P, SenderHand<'a, Q, S>, K>,
+    shift: &mut Shift<'a, P, SenderHand<'b, Q, S>, K>,
 )
     requires shared { IsShared shared.now }
     requires hired { IsHiredRunner account_of (IsSendingFor S.shapes) shared.now shift.old.runner }
