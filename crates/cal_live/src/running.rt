@@ -1,6 +1,5 @@
 //! All running threads beside the collector.
 ghost use Rattle.std.specs.Prelude.{◌≡◌, ◌≤◌, All, IfOk, OnOk, length};
-ghost use Rattle.std.specs.Thread.{IsSend, IsSync};
 ghost use Rattle.cal_collect.specs.Collecting.{HasMerged};
 ghost use Rattle.cal_keeping.specs.Runners.{IsHiredRunner};
 ghost use Rattle.cal_live.specs.Ran.{HasCollected, HaveRunAndEnded, HaveShiftedAndEnded};
@@ -45,7 +44,13 @@ pub fn run_and_collect<
     clocks: &mut Vec<K>,
     gate: &G,
     collector: PartCollector<'c, Q, S>,
-) -> Result<(Vec<Runner<'a, P, SenderHand<'b, Q, S>>>, PartCollector<'c, Q, S>), OutOfMemory>
+) -> Result<
+    (
+        Vec<Runner<'a, P, SenderHand<'b, Q, S>>>,
+        PartCollector<'c, Q, S>,
+    ),
+    OutOfMemory,
+>
     requires shared { IsShared shared.now }
     requires hired { All (IsHiredRunner account_of (IsSendingFor S.shapes) shared.now)
         runners.items }
@@ -59,13 +64,11 @@ pub fn run_and_collect<
     let shifts = pair(alloc, runners, clocks)?;
     let ((collector, collected), shifts) = thread::join(
         rt,
-        || -> (PartCollector<'c, Q, S>, Result<(), OutOfMemory>)
+        || -> (PartCollector<'_, Q, S>, Result<(), OutOfMemory>)
             requires { HasMerged S.shapes collector }
             ensures { OnOk result.1 (HasCollected S.shapes collector.entry result.0) }
         { collect(collector) },
-        || -> Vec<Shift<'a, P, SenderHand<'b, Q, S>, K>>
-            requires bounds { IsSync R.row × IsSync P.row × IsSync Q.row × IsSend S.row
-                × IsSync S.row × IsSend K.row × IsSync G.row }
+        || -> Vec<Shift<'_, P, SenderHand<'_, Q, S>, K>>
             requires shared { IsShared shared.now }
             requires hired { All (λ s. IsHiredRunner account_of (IsSendingFor S.shapes) shared.now
                 s.runner) shifts.items }

@@ -1,4 +1,4 @@
-use Rattle.std.proofs.Common.{◌≡◌, true, All, List, length, reverse, rules, ap, ◌∙◌, subst, sym}
+use Rattle.std.proofs.Common.{◌≡◌, true, All, reverse, rules, subst}
 use Rattle.cal_crew.proofs.EachRun.{of-all}
 use Rattle.cal_crew.specs.declared.shift.Shift.{Shift}
 use Rattle.cal_keeping.specs.Runners.{IsHiredRunner}
@@ -17,7 +17,7 @@ join-collector-requires-after_bounds g c κs within =
     (λ (s : Shift g.row.P.Denot (SenderHand g.row.Q.Denot g.row.S.Denot) g.row.K.Denot). s.runner)
     c.in_ok-shifts.shifts.items c.args.runners.items c.in_ok-shifts.ensures.runners
     c.requires.hired in
-    ?
+    (c.requires.merged, (c.requires.shared, (hired, search rules)))
 
 pub returns-clause-ran : goal.returns-clause-ran
 returns-clause-ran g c =

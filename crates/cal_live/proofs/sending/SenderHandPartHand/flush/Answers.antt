@@ -23,14 +23,13 @@ returns-clause-takes g c thread shapes takes =
 pub returns-clause-handed : goal.returns-clause-handed
 returns-clause-handed g c thread shapes part takes part_is =
     let e = c.in_ok-part.ensures in
-    let same = same_Some c.in_ok-part.part part (sym e.part ∙ part_is) in
-    (
+    let same = same_Some c.in_ok-part.part part (sym e.part ∙ part_is) in (
       given-more c.args.self.now (record {
         sender = Some c.hand.new.self;
         ended = c.args.self.now.ended;
       }) c.in-Some.sender c.hand.new.self c.args.channel c.in_ok-part.part c.in-Some.is refl
-      c.hand.ensures.sent
-      ∙ ap (more_given (account_of c.args.self.now c.args.channel)) same,
+          c.hand.ensures.sent
+          ∙ ap (more_given (account_of c.args.self.now c.args.channel)) same,
       e.left ∙ ap (λ (t : TableValue). with_table c.args.kept.now (empty_table t.shape)) same,
     )
 
