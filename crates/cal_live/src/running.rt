@@ -23,9 +23,9 @@ use std::thread::Threads;
 /// Runs all lines of these runners, each in a thread of its own with the clock at its place, while
 /// the collector merges what they flush. It gives the runners back in their order, each with its
 /// sender ended, and the collector, and leaves the clocks in theirs. An `Err` is want of memory:
-/// some runner may have run, all are dropped, and clocks with them. It waits while threads and the
-/// collector wait for each other; that it returns isn't promised, also not where no thread can be
-/// made.
+/// some runner may have run; all are dropped with the collector, and clocks with them. Threads and
+/// the collector wait for each other; that it returns isn't promised, least of all where no thread
+/// can be made.
 pub fn run_and_collect<
     'a,
     'b,
@@ -85,7 +85,7 @@ pub fn run_and_collect<
     Ok((done, collector))
 }
 
-/// The collector, once each sender's last message has come to it.
+/// The collector, once each sender's last message came to it, and whether it merged all parts.
 fn collect<'c, Q: Wait, S: Shapes>(
     mut collector: PartCollector<'c, Q, S>,
 ) -> (PartCollector<'c, Q, S>, Result<(), OutOfMemory>)
