@@ -1,0 +1,2 @@
+pub mod GatheredFrom
+pub mod LeftTables

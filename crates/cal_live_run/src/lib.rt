@@ -1,0 +1,5 @@
+//! A whole run whose parts are collected while it runs.
+#![tactic(auto)]
+
+mod gathering;
+mod places;
