@@ -6,9 +6,9 @@ use Rattle.std.specs.List.{All}
 use Rattle.std.specs.Prelude.{slice_get}
 use Rattle.std.proofs.lemmas.List.{take_all}
 use Rattle.cal_channel.specs.Values.{ChannelValue}
-use Rattle.cal_handover.proofs.FromPlace.{channels-all, channels-next, channels-none}
-use Rattle.cal_handover.proofs.FromPlace.{channels-same, channels-within, emptied_from}
-use Rattle.cal_handover.proofs.FromPlace.{popped-at, popped-rest}
+use Rattle.cal_live_run.proofs.FromPlace.{channels-all, channels-next, channels-none}
+use Rattle.cal_live_run.proofs.FromPlace.{channels-same, channels-within, emptied_from}
+use Rattle.cal_live_run.proofs.FromPlace.{popped-at, popped-rest}
 use Rattle.cal_handover.specs.Places.{emptied, emptied_at, tables_at, tables_of}
 use Rattle.cal_live_run.proofs.GatheredFrom.{AreGatheredFrom, gathered-all, gathered-more}
 use Rattle.cal_live_run.proofs.GatheredFrom.{gathered-none}
@@ -79,21 +79,23 @@ module _ (tables : List TableValue) (channels : List (List ChannelValue)) where
         (channels-within (length tables) (length rest) channels less may.channels_are))
 
     -- it may take in what is left there
-    pub may-gather : MayGather table (tables_at place left_channels)
-    may-gather = subst (λ (ts : List TableValue). MayGather table ts) (sym tables-here)
-        (may.each (length rest) table table-at)
+    pub may-gather : (there : List TableValue) → there ≡ tables_at place left_channels
+        → MayGather table there
+    may-gather there are = subst (λ (ts : List TableValue). MayGather table ts)
+        (sym (are ∙ tables-here)) (may.each (length rest) table table-at)
 
     -- it does, and the others are left
-    pub one-gathered : (rest_channels : List (List ChannelValue)) (all : TableValue)
-        → rest_channels ≡ map (emptied_at place) left_channels
-        → HasGathered table (tables_at place left_channels) all
+    pub one-gathered : (rest_channels : List (List ChannelValue)) (there : List TableValue)
+        (all : TableValue) → rest_channels ≡ map (emptied_at place) left_channels
+        → there ≡ tables_at place left_channels → HasGathered table there all
         → AreLeft rest rest_channels (all ∷ alls)
-    one-gathered rest_channels all k gathered = record {
+    one-gathered rest_channels there all k are gathered = record {
       tables_are = popped-rest tables left rest table h.tables_are pop;
       channels_are = k ∙ ap (λ (n : ℕ). map (emptied_at n) left_channels) at
           ∙ ap (map (emptied_at (length rest))) channels-are
           ∙ channels-next (length rest) channels;
       gathered = gathered-more tables channels (length rest) table all alls
           (subst (λ (n : ℕ). AreGatheredFrom tables channels n alls) long h.gathered) table-at
-          (subst (λ (ts : List TableValue). HasGathered table ts all) tables-here gathered);
+          (subst (λ (ts : List TableValue). HasGathered table ts all) (are ∙ tables-here)
+          gathered);
     }

@@ -1,2 +1,4 @@
+pub mod OnePlace
+pub mod FromPlace
 pub mod GatheredFrom
 pub mod LeftTables

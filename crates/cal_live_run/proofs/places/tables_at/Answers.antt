@@ -2,8 +2,8 @@ use Rattle.std.proofs.Common.{◌≡◌, ◌<◌, ◌++◌, ◌∙◌, [], ◌�
 use Rattle.std.proofs.Common.{ap, sym, arith, refl, set}
 use Rattle.std.proofs.lemmas.Option.{slice_get-get_or, slice_get_read}
 use Rattle.cal_channel.specs.Values.{ChannelValue}
-use Rattle.cal_handover.proofs.OnePlace.{All-at, next-changed, next-list, set-emptied}
-use Rattle.cal_handover.proofs.OnePlace.{tables_at-more}
+use Rattle.cal_live_run.proofs.OnePlace.{All-at, next-changed, next-list, set-emptied}
+use Rattle.cal_live_run.proofs.OnePlace.{tables_at-more}
 use Rattle.cal_channel.specs.Places.{lists_of}
 use Rattle.cal_handover.specs.Places.{emptied_at, tables_of}
 use Rattle.cal_table.specs.Tables.{TableValue}
