@@ -1,5 +1,5 @@
 //! The running threads of a run, each with a sender to the run's collector.
-ghost use Rattle.std.specs.Prelude.{◌≡◌, ◌+◌, ◌<◌, ◌≤◌, ◌×◌, [], IfOk, OnOk, length};
+ghost use Rattle.std.specs.Prelude.{◌≡◌, ◌+◌, ◌<◌, ◌≤◌, [], IfOk, OnOk, length};
 ghost use Rattle.cal_collect.specs.Collecting.{HasMerged, senders_in};
 ghost use Rattle.cal_live_run.specs.Hired.{AreHiredToSend, IsHiredToSend};
 ghost use Rattle.cal_mail.specs.Ends.{AreNewSenders, IsSenderOf, mailbox_of, senders_of, sent_by};

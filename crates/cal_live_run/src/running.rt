@@ -1,5 +1,5 @@
 //! All threads of a run beside a collector, from their hiring until all that they sent is merged.
-ghost use Rattle.std.specs.Prelude.{◌≡◌, ◌≤◌, ◌×◌, IfOk, OnOk, length};
+ghost use Rattle.std.specs.Prelude.{◌≡◌, ◌≤◌, IfOk, OnOk, length};
 ghost use Rattle.cal_live_run.specs.Collected.{AreCollectedOf};
 ghost use Rattle.cal_ran.specs.Told.{AreToldAll};
 ghost use Rattle.cal_replay.specs.Workers.{script_of};
@@ -69,12 +69,13 @@ pub(crate) fn run_all<
     let (runners, collector) = hire_to_send::<P, Q, S>(wait, alloc, run, probes, first, room)?;
     let (done, collector) =
         run_and_collect(rt, alloc, &run.shared, runners, clocks, gate, collector)?;
+    let sent = hand_over(alloc, done)?;
     let Sent {
         threads,
         notes,
         channels,
         ended,
-    } = hand_over(alloc, done)?;
+    } = sent;
     let tables = collector.finish(ended);
     Ok(Collected {
         threads,
