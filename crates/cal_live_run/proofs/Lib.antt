@@ -1,4 +1,5 @@
 pub mod Limits
+pub mod NextItem
 pub mod HiredSenders
 pub mod Chosen
 pub mod SentRuns
