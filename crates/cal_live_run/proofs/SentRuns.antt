@@ -173,7 +173,8 @@ module _ {P Q S : Type 0} (shapes : List TableShape) (run : Run)
       same-channels : map (λ (r : Runner P (SenderHand Q S)). r.channels.channels) new
           ≡ map (λ (r : Runner P (SenderHand Q S)). r.channels.channels) all-before.ys
       same-channels = map-alike (λ (r : Runner P (SenderHand Q S)). r.channels.channels)
-          (λ (r : Runner P (SenderHand Q S)). r.channels.channels) new all-before.ys all-before.many
+          (λ (r : Runner P (SenderHand Q S)). r.channels.channels) new all-before.ys
+          all-before.many
           (λ k now before at at_before. (all-before.each k now before at at_before).channels)
 
       -- what each clock was asked is by what is noted of its thread
@@ -224,7 +225,8 @@ module _ {P Q S : Type 0} (shapes : List TableShape) (run : Run)
             ∙ at_mapped (λ (x : Ended Part). Some x) sent.ended.items number e at_e)
 
         ended-at : (number : ℕ) (e : Ended Part) (before : Runner P (SenderHand Q S))
-            → slice_get sent.ended.items number ≡ Some e → slice_get all-before.ys number ≡ Some before
+            → slice_get sent.ended.items number ≡ Some e
+            → slice_get all-before.ys number ≡ Some before
             → (sent_in e ≡ sent_of before.channels.hand) × IsEndedOf mailbox number e
         ended-at number e before at_e at =
             let less = slice_get_within sent.ended.items number e at_e in
@@ -249,7 +251,8 @@ module _ {P Q S : Type 0} (shapes : List TableShape) (run : Run)
         same-sent : map sent_in sent.ended.items
             ≡ map (λ (r : Runner P (SenderHand Q S)). sent_of r.channels.hand) all-before.ys
         same-sent = map-alike (λ (e : Ended Part). sent_in e)
-            (λ (r : Runner P (SenderHand Q S)). sent_of r.channels.hand) sent.ended.items all-before.ys
+            (λ (r : Runner P (SenderHand Q S)). sent_of r.channels.hand) sent.ended.items
+            all-before.ys
             (all-before.many ∙ sym ended-many)
             (λ k e before at_e at. (ended-at k e before at_e at).0)
 
