@@ -104,9 +104,9 @@ module _ {P Q S : Type 0} (shapes : List TableShape) (run : Run)
   -- no runner yet
   pub hired-none : (number : ℕ) → number ≡ 0 → (runners : List (Runner P (SenderHand Q S)))
       → runners ≡ [] → AreHiredBelow shapes run mailbox runners number
-  hired-none number zero runners none = subst
+  hired-none number is_zero runners none = subst
       (λ (rs : List (Runner P (SenderHand Q S))). AreHiredBelow shapes run mailbox rs number)
-      (sym none) (record { many = sym zero; each = λ k r at. cc })
+      (sym none) (record { many = sym is_zero; each = λ k r at. cc })
 
   -- one more
   pub hired-more : (runners : List (Runner P (SenderHand Q S))) (number : ℕ)

@@ -134,18 +134,15 @@ module _ {P Q S : Type 0} (shapes : List TableShape) (run : Run)
             },
           )
 
+      -- the runners before their senders ended
       all-before : Chosen HasSentBefore new
       all-before = chosen HasSentBefore new sent-before
 
-      -- the runners before their senders ended
-      befores : List (Runner P (SenderHand Q S))
-      befores = all-before.ys
-
-      have-sent : HaveSent shapes run befores
+      have-sent : HaveSent shapes run all-before.ys
       have-sent = record {
         many = all-before.many ∙ ran.many ∙ hired.many;
         each = λ number before at.
-            let less = slice_get_within befores number before at in
+            let less = slice_get_within all-before.ys number before at in
             let many = all-before.many in
             let now = at-below new number (omega (arith, less, many)) in
             (all-before.each number now.item before now.there at).sent;
@@ -161,22 +158,23 @@ module _ {P Q S : Type 0} (shapes : List TableShape) (run : Run)
           (sym (get_or_from_slice_get new k now.item d now.there))
           (ap (λ (o : Option (Ended Part)). is_some o) ended.ended_is)
 
-      same-threads : threads_of new ≡ threads_of befores
+      same-threads : threads_of new ≡ threads_of all-before.ys
       same-threads = map-alike (λ (r : Runner P (SenderHand Q S)). r.worker.thread)
-          (λ (r : Runner P (SenderHand Q S)). r.worker.thread) new befores all-before.many
+          (λ (r : Runner P (SenderHand Q S)). r.worker.thread) new all-before.ys all-before.many
           (λ k now before at at_before. ap (λ (w : Worker). w.thread)
           (all-before.each k now before at at_before).worker)
 
-      same-notes : notes_of new ≡ notes_of befores
+      same-notes : notes_of new ≡ notes_of all-before.ys
       same-notes = map-alike (λ (r : Runner P (SenderHand Q S)). r.worker.note)
-          (λ (r : Runner P (SenderHand Q S)). r.worker.note) new befores all-before.many
+          (λ (r : Runner P (SenderHand Q S)). r.worker.note) new all-before.ys all-before.many
           (λ k now before at at_before. ap (λ (w : Worker). w.note)
           (all-before.each k now before at at_before).worker)
 
       same-channels : map (λ (r : Runner P (SenderHand Q S)). r.channels.channels) new
-          ≡ map (λ (r : Runner P (SenderHand Q S)). r.channels.channels) befores
+          ≡ map (λ (r : Runner P (SenderHand Q S)). r.channels.channels) all-before.ys
       same-channels = map-alike (λ (r : Runner P (SenderHand Q S)). r.channels.channels)
-          (λ (r : Runner P (SenderHand Q S)). r.channels.channels) new befores all-before.many
+          (λ (r : Runner P (SenderHand Q S)). r.channels.channels) new all-before.ys
+          all-before.many
           (λ k now before at at_before. (all-before.each k now before at at_before).channels)
 
       -- what each clock was asked is by what is noted of its thread
@@ -227,7 +225,8 @@ module _ {P Q S : Type 0} (shapes : List TableShape) (run : Run)
             ∙ at_mapped (λ (x : Ended Part). Some x) sent.ended.items number e at_e)
 
         ended-at : (number : ℕ) (e : Ended Part) (before : Runner P (SenderHand Q S))
-            → slice_get sent.ended.items number ≡ Some e → slice_get befores number ≡ Some before
+            → slice_get sent.ended.items number ≡ Some e
+            → slice_get all-before.ys number ≡ Some before
             → (sent_in e ≡ sent_of before.channels.hand) × IsEndedOf mailbox number e
         ended-at number e before at_e at =
             let less = slice_get_within sent.ended.items number e at_e in
@@ -244,22 +243,23 @@ module _ {P Q S : Type 0} (shapes : List TableShape) (run : Run)
             let many = ended-many in
             let before_many = all-before.many in
             let e = at-below sent.ended.items number below in
-            let before = at-below befores number (omega (arith, below, many, before_many)) in
+            let before = at-below all-before.ys number (omega (arith, below, many, before_many)) in
             subst (λ (x : Ended Part). IsEndedOf mailbox number x)
             (sym (get_or_from_slice_get sent.ended.items number e.item d e.there))
             (ended-at number e.item before.item e.there before.there).1
 
         same-sent : map sent_in sent.ended.items
-            ≡ map (λ (r : Runner P (SenderHand Q S)). sent_of r.channels.hand) befores
+            ≡ map (λ (r : Runner P (SenderHand Q S)). sent_of r.channels.hand) all-before.ys
         same-sent = map-alike (λ (e : Ended Part). sent_in e)
-            (λ (r : Runner P (SenderHand Q S)). sent_of r.channels.hand) sent.ended.items befores
+            (λ (r : Runner P (SenderHand Q S)). sent_of r.channels.hand) sent.ended.items
+            all-before.ys
             (all-before.many ∙ sym ended-many)
             (λ k e before at_e at. (ended-at k e before at_e at).0)
 
         -- they have sent and left what is asked of them
         pub sent-of : AreSentOf P Q S shapes run mailbox sent
         sent-of = record {
-          from = befores;
+          from = all-before.ys;
           have = have-sent;
           threads = parts.threads ∙ same-threads;
           notes = parts.notes ∙ same-notes;

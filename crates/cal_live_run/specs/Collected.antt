@@ -12,8 +12,8 @@ use Rattle.cal_start.specs.declared.run.Run.{Run}
 use Rattle.cal_table.specs.declared.shape.TableShape.{TableShape}
 
 module _ {P Q S : Type 0} where
-  -- of each runner, in their order, its thread, what was noted of it, its channels, and what is left
-  -- of its sender
+  -- of each runner, in their order, its thread, what was noted of it, its channels, and what is
+  -- left of its sender
   pub record IsHandedOver (runners : List (Runner P (SenderHand Q S))) (sent : Sent) : Type 0 where
     pub threads : sent.threads.items ≡ threads_of runners
     pub notes : sent.notes ≡ notes_of runners

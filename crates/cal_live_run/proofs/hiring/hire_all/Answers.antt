@@ -1,4 +1,4 @@
-use Rattle.std.proofs.Common.{◌≡◌, ◌+◌, ◌<◌, ◌×◌, ℕ, List, ◌∷◌, [], ◌++◌, length}
+use Rattle.std.proofs.Common.{◌≡◌, ◌+◌, ◌<◌, ℕ, List, ◌∷◌, [], ◌++◌, length}
 use Rattle.std.proofs.Common.{append_assoc, append-nil, refl, sym, ap, ◌∙◌, subst, arith, rules}
 use Rattle.std.specs.Vec.Iter.{into_iter_items}
 use Rattle.std.proofs.lemmas.List.{length_push, nil_from_length}
@@ -12,7 +12,7 @@ use Rattle.cal_mail.specs.Ends.{IsSenderOf, mailbox_of, sent_by}
 use Rattle.cal_replay.specs.Workers.{script_of}
 use Rattle.cal_thread.specs.Hiring.{HasHired}
 use Rattle.cal_live_run.proofs.hiring.hire_all.Goals as goal
-use Rattle.cal_live_run.proofs.hiring.hire_all.Goals.{In-Some}
+use Rattle.cal_live_run.proofs.hiring.hire_all.Goals.{In-None, In-Some}
 
 pub loop-sender-init : goal.loop-sender-init
 loop-sender-init g c = record {
@@ -106,7 +106,7 @@ loop-sender-preserved g c =
     }
 
 -- all senders were taken
-all : (g : _) (c : goal.In-None g)
+all : (g : _) (c : In-None g)
     → length c.loop-sender.yielded ≡ length (script_of c.args.run.now.shared).threads
 all g c =
     let at = c.loop-sender in

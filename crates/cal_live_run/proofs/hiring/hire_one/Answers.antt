@@ -11,8 +11,8 @@ use Rattle.cal_thread.specs.declared.thread.Thread.{Thread}
 use Rattle.cal_live_run.proofs.hiring.hire_one.Goals as goal
 
 -- its hand sends tables of the run's shapes
-pub new-requires-clause-takes : goal.new-requires-clause-takes
-new-requires-clause-takes g c = record {
+pub new-requires-2-clause-takes : goal.new-requires-2-clause-takes
+new-requires-2-clause-takes g c = record {
   sender = c.args.sender;
   sender_is = c.new.ensures.0;
   shapes_are = c.requires.shapes ∙ sym c.as_slice.ensures.value;
@@ -23,8 +23,8 @@ new-requires-clause-takes g c = record {
 }
 
 -- and has done nothing
-pub new-requires-clause-nothing : goal.new-requires-clause-nothing
-new-requires-clause-nothing g c =
+pub new-requires-2-clause-nothing : goal.new-requires-2-clause-nothing
+new-requires-2-clause-nothing g c =
     nothing-done c.new.result c.args.sender c.new.ensures.0 c.requires.nothing
 
 pub returns-clause-hired : goal.returns-clause-hired

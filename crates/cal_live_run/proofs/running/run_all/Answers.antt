@@ -18,14 +18,16 @@ run_and_collect-requires-clause-clocks g c =
 
 -- all senders have ended
 pub hand_over-requires : goal.hand_over-requires
-hand_over-requires g c =
-    all-ended g.S.Shapes.shapes c.args.run.now (mailbox_of c.in_ok-runners.collector.collector)
-    c.in_ok-runners.runners.items c.in_ok-runners.ensures.hired g.K.Clock.given
-    c.in_ok-done.done.items c.args.clocks.now.items c.run_and_collect.new.clocks.items
-    c.in_ok-done.ensures.ran c.requires.clocks
+hand_over-requires g c = record {
+  ended = all-ended g.S.Shapes.shapes c.args.run.now
+      (mailbox_of c.in_ok-runners.collector.collector) c.in_ok-runners.runners.items
+      c.in_ok-runners.ensures.hired g.K.Clock.given c.in_ok-done.done.items
+      c.args.clocks.now.items c.run_and_collect.new.clocks.items c.in_ok-done.ensures.ran
+      c.requires.clocks;
+}
 
-pub finish-requires-clause-all : goal.finish-requires-clause-all
-finish-requires-clause-all g c =
+pub finish-tables-requires-clause-all : goal.finish-tables-requires-clause-all
+finish-tables-requires-clause-all g c =
     let sent = sent-of g.S.Shapes.shapes c.args.run.now
     (mailbox_of c.in_ok-runners.collector.collector) c.in_ok-runners.runners.items
     c.in_ok-runners.ensures.hired g.K.Clock.given c.in_ok-done.done.items
@@ -33,8 +35,8 @@ finish-requires-clause-all g c =
     c.requires.clocks c.in_ok-sent.sent c.in_ok-sent.ensures in
     sent.many ∙ sym (c.in_ok-done.ensures.collected.senders ∙ c.in_ok-runners.ensures.senders)
 
-pub finish-requires-clause-ended : goal.finish-requires-clause-ended
-finish-requires-clause-ended g c =
+pub finish-tables-requires-clause-ended : goal.finish-tables-requires-clause-ended
+finish-tables-requires-clause-ended g c =
     let sent = sent-of g.S.Shapes.shapes c.args.run.now
     (mailbox_of c.in_ok-runners.collector.collector) c.in_ok-runners.runners.items
     c.in_ok-runners.ensures.hired g.K.Clock.given c.in_ok-done.done.items
@@ -57,8 +59,8 @@ returns-clause-collected g c =
       notes = sent.notes;
       channels = sent.channels;
       merged = subst (λ (sents : List (List Part)).
-          AreMergesOf g.S.Shapes.shapes sents c.finish.result.items) sent.sents
-          c.finish.ensures.merged;
+          AreMergesOf g.S.Shapes.shapes sents c.finish-tables.result.items) sent.sents
+          c.finish-tables.ensures.merged;
     }
 
 pub returns-clause-told : goal.returns-clause-told
