@@ -1,5 +1,5 @@
 -- What threads whose parts were collected have left.
-use Rattle.std.proofs.Common.{◌≡◌, ◌∙◌, ℕ, List, [], All, Contains, ap, map, subst, sym, arith}
+use Rattle.std.proofs.Common.{◌≡◌, ◌∙◌, List, [], All, Contains, ap, map, subst, sym, arith}
 use Rattle.std.proofs.lemmas.Option.{get_or_from_slice_get}
 use Rattle.std.specs.Prelude.{slice_get, Some}
 use Rattle.cal_book.proofs.Lists.{at_map}
@@ -19,7 +19,7 @@ use Rattle.cal_live_run.specs.Collected.{AreCollectedOf}
 use Rattle.cal_live_run.specs.Gathering.{AreGathered, MayGatherAll}
 use Rattle.cal_live_run.specs.Quiet.{IsQuiet}
 use Rattle.cal_live_run.specs.declared.running.Collected.{Collected}
-use Rattle.cal_notes.specs.Together.{HasFlushed, RanLines}
+use Rattle.cal_notes.specs.Together.{HasFlushed}
 use Rattle.cal_once.specs.declared.seat.RowSeat.{RowSeat}
 use Rattle.cal_ran.proofs.Places.{channels_of}
 use Rattle.cal_ran.proofs.TakenChannels.{KeepsLimits}

@@ -1,19 +1,19 @@
 -- What the threads of a run sent and have left is what the run's law asks for.
-use Rattle.std.proofs.Common.{◌≡◌, ℕ, ◌<◌, ◌≤◌, ◌^◌, Bool, true, false, cond, eqb, List, [], ◌∷◌}
+use Rattle.std.proofs.Common.{◌≡◌, ℕ, Bool, cond, List, [], ◌∷◌}
 use Rattle.std.proofs.Common.{length, map, get_or, sym, ap, ◌∙◌, subst, arith, eq-eqb, ne_eqb}
 use mathlib.Core.Logic.{dite}
 use native.Mathlib.Decide.{ℕ_discrete}
-use Rattle.std.specs.Prelude.{All, Option, Some, slice_get, sum_by}
+use Rattle.std.specs.Prelude.{All, Option, Some, slice_get}
 use Rattle.std.proofs.lemmas.List.{length-map}
 use Rattle.std.proofs.lemmas.List.Elements.{All-cons, All-head, All-map, All-nil, All-tail}
 use Rattle.std.proofs.lemmas.List.Folds.{flat_map-map}
 use Rattle.std.proofs.lemmas.Option.{same_Some, slice_get-get_or, slice_get_within}
-use Rattle.cal_book.specs.Closing.{AllMetHadTurns, ThreadHadTurn}
+use Rattle.cal_book.specs.Closing.{ThreadHadTurn}
 use Rattle.cal_channel.specs.Values.{ChannelValue}
 use Rattle.cal_closing.proofs.Rests.{merged-both}
 use Rattle.cal_closing.specs.Parts.{AreMadeFor, AreOfShape, all_of}
 use Rattle.cal_closing.specs.Seats.{given_by}
-use Rattle.cal_collect.specs.Parts.{AreMergesOf, merge_of, sent_for, tables_for}
+use Rattle.cal_collect.specs.Parts.{AreMergesOf, sent_for, tables_for}
 use Rattle.cal_collect.specs.declared.part.Part.{Part}
 use Rattle.cal_collect.specs.declared.sender.PartSender.{PartSender}
 use Rattle.cal_finish.proofs.LawfulRuns.{at-below}
@@ -23,7 +23,7 @@ use Rattle.cal_keeping.specs.Hands.{AccountOf}
 use Rattle.cal_keeping.specs.declared.runner.Runner.{Runner}
 use Rattle.cal_live.specs.Sending.{AreMade, IsSendingFor, account_of, sent_by_either, sent_of}
 use Rattle.cal_live.specs.declared.sending.SenderHand.{SenderHand}
-use Rattle.cal_live_run.proofs.LeftParts.{LeaveParts, LeavesPart, few-at, made-at}
+use Rattle.cal_live_run.proofs.LeftParts.{LeaveParts, few-at, made-at}
 use Rattle.cal_live_run.specs.Collected.{HaveSent}
 use Rattle.cal_live_run.specs.Gathering.{AreGathered, MayGather, MayGatherAll}
 use Rattle.cal_ran.proofs.Places.{all-lists, channels_of}
@@ -167,28 +167,28 @@ module _ {P Q S : Type 0} (shapes : List TableShape) (run : Run) (is : IsRun run
     }
 
     module _ (alls : List TableValue) (gathered : AreGathered tables (channels_of from) alls)
-        where
-      counted-at : (place : ℕ) (shape : TableShape) (all : TableValue)
-          → slice_get run.shapes.items place ≡ Some shape → slice_get alls place ≡ Some all
-          → IsCounted shape (accounts_at account_of place from)
-          (tables_at place (channels_of from)) all
-      counted-at place shape all at_run at_all =
-          let within = slice_get_within alls place all at_all in
-          let many = gathered.many in
-          let at_shape : slice_get shapes place ≡ Some shape =
-          ap (λ (some : List TableShape). slice_get some place) shapes_are ∙ at_run in
-          let table = at-below tables place (omega (arith, within, many)) in
-          record {
-            merged = merged-both shape (given_by (accounts_at account_of place from))
-                (tables_at place (channels_of from)) table.item all
-                (table-of place shape table.item at_shape table.there)
-                (gathered.each place table.item all table.there at_all);
-            made = sent-made place shape at_shape;
-          }
+      where
+        counted-at : (place : ℕ) (shape : TableShape) (all : TableValue)
+            → slice_get run.shapes.items place ≡ Some shape → slice_get alls place ≡ Some all
+            → IsCounted shape (accounts_at account_of place from)
+            (tables_at place (channels_of from)) all
+        counted-at place shape all at_run at_all =
+            let within = slice_get_within alls place all at_all in
+            let many = gathered.many in
+            let at_shape : slice_get shapes place ≡ Some shape =
+            ap (λ (some : List TableShape). slice_get some place) shapes_are ∙ at_run in
+            let table = at-below tables place (omega (arith, within, many)) in
+            record {
+              merged = merged-both shape (given_by (accounts_at account_of place from))
+                  (tables_at place (channels_of from)) table.item all
+                  (table-of place shape table.item at_shape table.there)
+                  (gathered.each place table.item all table.there at_all);
+              made = sent-made place shape at_shape;
+            }
 
-      -- and then each counts what the threads sent and have left
-      pub all-counted : AreCounted account_of run.shapes.items from alls
-      all-counted = record {
-        many = gathered.many ∙ merged.many ∙ ap length shapes_are;
-        each = counted-at;
-      }
+        -- and then each counts what the threads sent and have left
+        pub all-counted : AreCounted account_of run.shapes.items from alls
+        all-counted = record {
+          many = gathered.many ∙ merged.many ∙ ap length shapes_are;
+          each = counted-at;
+        }

@@ -38,13 +38,13 @@ module _ (tables : List TableValue) (channels : List (List ChannelValue)) where
   -- none is
   module _ (left : List TableValue) (left_channels : List (List ChannelValue))
       (alls : List TableValue) (h : AreLeft left left_channels alls) (none : length left ≡ 0)
-      where
-    pub all-gathered : AreGathered tables channels alls
-    all-gathered = gathered-all tables channels (length left) alls none h.gathered
+    where
+      pub all-gathered : AreGathered tables channels alls
+      all-gathered = gathered-all tables channels (length left) alls none h.gathered
 
-    pub all-emptied : left_channels ≡ map (map emptied) channels
-    all-emptied = h.channels_are ∙ ap (λ (n : ℕ). map (emptied_from n) channels) none
-        ∙ channels-all channels
+      pub all-emptied : left_channels ≡ map (map emptied) channels
+      all-emptied = h.channels_are ∙ ap (λ (n : ℕ). map (emptied_from n) channels) none
+          ∙ channels-all channels
 
   -- the last one of those that are left
   module _ (may : MayGatherAll tables channels) (left rest : List TableValue) (table : TableValue)

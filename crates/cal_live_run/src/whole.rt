@@ -59,8 +59,9 @@ pub fn run_live_script<
 {
     valid_script_law();
     let (run, first) = Run::new(alloc, hashers, script, real)?;
-    let ended =
-        run_by::<R, Q, P, K, G, Brand>(rt, wait, alloc, run, first, clocks, gate, probes, room)?;
+    let ended = run_by::<R, Q, P, K, G, Brand>(
+        rt, wait, alloc, run, first, clocks, gate, probes, room,
+    )?;
     Ok(ended)
 }
 
@@ -96,8 +97,9 @@ fn run_by<
     ensures told { IfOk result
         (λ ended. HaveToldAll K.given ended.journal clocks.old.items clocks.new.items) }
 {
-    let collected =
-        run_all::<R, Q, P, S, K, G>(rt, wait, alloc, &run, &mut first, clocks, gate, probes, room)?;
+    let collected = run_all::<R, Q, P, S, K, G>(
+        rt, wait, alloc, &run, &mut first, clocks, gate, probes, room,
+    )?;
     let ended = end_run::<P, Q, S>(alloc, run, first, collected)?;
     Ok(ended)
 }

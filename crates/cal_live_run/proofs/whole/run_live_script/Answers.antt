@@ -1,4 +1,4 @@
-use Rattle.std.proofs.Common.{◌≤◌, ℕ, Bool, List, length, subst, sym}
+use Rattle.std.proofs.Common.{◌≤◌, length, subst, sym}
 use Rattle.cal_live_run.specs.Quiet.{IsQuiet}
 use Rattle.cal_ran.specs.Ended.{IsEnded}
 use Rattle.cal_script.specs.Reading.{IsValidScript}
