@@ -8,7 +8,7 @@ use Rattle.std.proofs.lemmas.List.{length-map}
 use Rattle.std.proofs.lemmas.List.Elements.{All-cons, All-head, All-map, All-nil, All-tail}
 use Rattle.std.proofs.lemmas.List.Folds.{flat_map-map}
 use Rattle.std.proofs.lemmas.Option.{same_Some, slice_get-get_or, slice_get_within}
-use Rattle.cal_book.specs.Closing.{ThreadHadTurn}
+use Rattle.cal_book.specs.Accounts.{ThreadHadTurn}
 use Rattle.cal_channel.specs.Values.{ChannelValue}
 use Rattle.cal_closing.proofs.Rests.{merged-both}
 use Rattle.cal_closing.specs.Parts.{AreMadeFor, AreOfShape, all_of}

@@ -26,15 +26,15 @@ count-cons_option : (table : Option TableValue) (tables : List TableValue)
 count-cons_option None tables = omega arith
 count-cons_option (Some table) tables = sum_by-cons count table tables
 
-module _ {P H : Type 0} (account : H → ℕ → AccountOf) (place : ℕ) (shape : TableShape) where
-  -- tables are of a shape, and one more is where there is one
-  made-cons_option : (table : Option TableValue) (tables : List TableValue)
-      → IfSome table (λ (t : TableValue). t.shape ≡ shape) → AreOfShape shape tables
-      → AreOfShape shape (cons_option table tables)
-  made-cons_option None tables one all = all
-  made-cons_option (Some table) tables one all =
-      All-cons (λ (t : TableValue). t.shape ≡ shape) table tables one all
+-- tables are of a shape, and one more is where there is one
+made-cons_option : (shape : TableShape) (table : Option TableValue) (tables : List TableValue)
+    → IfSome table (λ (t : TableValue). t.shape ≡ shape) → AreOfShape shape tables
+    → AreOfShape shape (cons_option table tables)
+made-cons_option shape None tables one all = all
+made-cons_option shape (Some table) tables one all =
+    All-cons (λ (t : TableValue). t.shape ≡ shape) table tables one all
 
+module _ {P H : Type 0} (account : H → ℕ → AccountOf) (place : ℕ) (shape : TableShape) where
   -- A runner has a channel at the place, whose table is of the shape; and with what was given for
   -- it that stands for 2^20 snapshots at most.
   pub record LeavesPart (r : Runner P H) : Type 0 where
@@ -54,7 +54,7 @@ module _ {P H : Type 0} (account : H → ℕ → AccountOf) (place : ℕ) (shape
       let first = each zero r refl in
       subst (λ (tables : List TableValue). AreOfShape shape tables)
       (sym (tables-cons place r runners first.c first.channel_at))
-      (made-cons_option first.c.table (tables_at place (channels_of runners)) first.made
+      (made-cons_option shape first.c.table (tables_at place (channels_of runners)) first.made
       (made-at runners (λ k s at. each (suc k) s at)))
 
   -- all that was given and is left stands for 2^20 snapshots each at most
