@@ -1,17 +1,19 @@
 -- What a thread has given for each channel, when its sender has sent one part more.
 use Rattle.std.proofs.Common.{◌≡◌, ◌≢◌, ℕ, Bool, true, false, cond, eqb, List, [], ◌∷◌, ◌++◌}
-use Rattle.std.proofs.Common.{refl, sym, ap, ◌∙◌, eq-eqb, ne_eqb}
-use Rattle.std.specs.Prelude.{Option, Some}
+use Rattle.std.proofs.Common.{refl, sym, ap, ◌∙◌, subst, eq-eqb, ne_eqb}
+use Rattle.std.specs.Prelude.{Option, Some, slice_get}
 use Rattle.std.proofs.lemmas.List.{append-nil}
+use Rattle.std.proofs.lemmas.List.Elements.{All-append, All-cons, All-nil}
 use Rattle.cal_book.specs.Accounts.{more_given}
 use Rattle.cal_collect.specs.Parts.{part_of, tables_for}
 use Rattle.cal_collect.specs.declared.part.Part.{Part}
 use Rattle.cal_collect.specs.declared.sender.PartSender.{PartSender}
 use Rattle.cal_keeping.specs.Hands.{AccountOf}
-use Rattle.cal_live.specs.Sending.{account_of, sent_by_either, sent_of}
+use Rattle.cal_live.specs.Sending.{AreMade, account_of, sent_by_either, sent_of}
 use Rattle.cal_live.specs.declared.sending.SenderHand.{SenderHand}
 use Rattle.cal_mail.specs.Ends.{sent_by}
 use Rattle.cal_table.specs.Tables.{TableValue}
+use Rattle.cal_table.specs.declared.shape.TableShape.{TableShape}
 
 -- ---- the tables for a channel among parts
 
@@ -35,6 +37,19 @@ one-away : (place channel : ℕ) (table : TableValue) → place ≢ channel
     → tables_for place (part_of channel table ∷ []) ≡ []
 one-away place channel table away = ap (λ (b : Bool). cond b (table ∷ []) [])
     (ne_eqb channel place (λ same. away (sym same)))
+
+-- ---- the shapes of the tables
+
+-- one part more is of the shape of its channel
+pub made-more : (own : List TableShape) (sent all : List Part) (channel : ℕ) (table : TableValue)
+    → all ≡ sent ++ part_of channel table ∷ [] → slice_get own channel ≡ Some table.shape
+    → AreMade own sent → AreMade own all
+made-more own sent all channel table all_are shape made =
+    let of_channel : Part → Type 0 =
+    λ part. slice_get own part.channel ≡ Some part.table.shape in
+    subst (AreMade own) (sym all_are)
+    (All-append of_channel sent (part_of channel table ∷ []) made
+    (All-cons of_channel (part_of channel table) [] shape (All-nil of_channel)))
 
 -- ---- what a thread has given
 

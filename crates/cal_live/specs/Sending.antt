@@ -1,6 +1,6 @@
 -- What contracts see of a thread's hand whose parts are collected.
 use Rattle.std.proofs.Common.{refl, ◌∙◌}
-use Rattle.std.specs.Prelude.{◌≡◌, ℕ, Option, Some, None, List, []}
+use Rattle.std.specs.Prelude.{◌≡◌, ℕ, Option, Some, None, List, [], All, slice_get}
 use Rattle.std.specs.Option.{option_map}
 use Rattle.cal_collect.specs.Parts.{tables_for}
 use Rattle.cal_collect.specs.declared.law.PartLaw.{PartLaw}
@@ -16,6 +16,10 @@ use Rattle.cal_table.specs.declared.shape.TableShape.{TableShape}
 pub record Home (S : Type 0) : Type 0 where
   pub mailbox : Mailbox Part (PartLaw S)
   pub number : ℕ
+
+-- each part's table is of the shape of its channel
+abbrev pub AreMade : List TableShape → List Part → Type 0
+AreMade own sent = All (λ (part : Part). slice_get own part.channel ≡ Some part.table.shape) sent
 
 module _ {Q S : Type 0} where
   -- the parts that a sender sent, or else those of an ended one
@@ -35,13 +39,14 @@ module _ {Q S : Type 0} where
     given_up = 0;
   }
 
-  -- It sends tables of the mailbox's shapes, with the thread's number.
+  -- It sends tables of the mailbox's shapes, with the thread's number; and all that it sent are.
   pub record IsSendingFor (own : List TableShape) (hand : SenderHand Q S) (thread : ℕ)
       (shapes : List TableShape) : Type 0 where
     pub sender : PartSender Q S
     pub sender_is : hand.sender ≡ Some sender
     pub shapes_are : own ≡ shapes
     pub number_is : number_of sender.sender ≡ thread
+    pub made : AreMade own (sent_by sender.sender)
 
   -- where it sends to, and with which number
   abbrev pub home_of : SenderHand Q S → Option (Home S)

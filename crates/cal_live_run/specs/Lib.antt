@@ -1,0 +1,4 @@
+pub mod Hired
+pub mod Collected
+pub mod Gathering
+pub mod Quiet

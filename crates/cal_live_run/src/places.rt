@@ -1,0 +1,44 @@
+//! What all threads have left in their channels at one place.
+ghost use Rattle.std.specs.Prelude.{◌≡◌, ◌<◌, ◌++◌, [], ◌∷◌, List, All, IfOk, OnOk};
+ghost use Rattle.std.specs.Prelude.{length, map};
+ghost use Rattle.cal_channel.specs.Places.{lists_of};
+ghost use Rattle.cal_channel.specs.Values.{ChannelValue};
+ghost use Rattle.cal_handover.specs.Places.{emptied, emptied_at, tables_at, tables_of};
+
+use cal_channel::ThreadChannel;
+use cal_table::Table;
+use cal_value::OutOfMemory;
+use std::alloc::Global;
+
+/// The tables that the threads' channels have left at a place. Empty ones stay there.
+pub(crate) fn tables_at(
+    alloc: Global,
+    place: usize,
+    channels: &mut [Vec<ThreadChannel>],
+) -> Result<Vec<Table>, OutOfMemory>
+    requires within { All (λ (own : List ChannelValue). place < length own)
+        (lists_of channels.old) }
+    ensures taken { IfOk result (λ taken. taken.items ≡ tables_at place (lists_of channels.old)) }
+    ensures left { OnOk result
+        (lists_of channels.new ≡ map (emptied_at place) (lists_of channels.old)) }
+{
+    let mut taken = Vec::with_capacity(alloc, channels.len())?;
+    for own in channels.iter_mut() {
+        take_table(&mut own[place], &mut taken)?;
+    }
+    Ok(taken)
+}
+
+// Takes the table of a channel out, if it has one, and leaves an empty one.
+fn take_table(channel: &mut ThreadChannel, taken: &mut Vec<Table>) -> Result<(), OutOfMemory>
+    ensures taken { OnOk result
+        (taken.new.items ≡ taken.old.items ++ tables_of (channel.old ∷ [])) }
+    ensures left { OnOk result (channel.new ≡ emptied channel.old) }
+{
+    if channel.table().is_none() {
+        return Ok(());
+    }
+    let part = channel.part()?;
+    taken.push(part)?;
+    Ok(())
+}
