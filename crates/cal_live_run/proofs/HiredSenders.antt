@@ -94,9 +94,9 @@ module _ {P Q S : Type 0} (shapes : List TableShape) (run : Run)
         own = own;
         numbers = numbers;
         home = ap (option_map (λ (s : PartSender Q S). record {
-              mailbox = mailbox_of_sender s.sender;
-              number = number_of s.sender;
-            })) sender
+          mailbox = mailbox_of_sender s.sender;
+          number = number_of s.sender;
+        })) sender
             ∙ ap (λ m. home m (number_of one.sender)) of.mailbox_is
             ∙ ap (home mailbox) of.number_is;
       }

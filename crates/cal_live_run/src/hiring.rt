@@ -30,7 +30,13 @@ pub(crate) fn hire_to_send<'r, 'q, P: Prober, Q: Wait, S: Shapes>(
     probes: &'r P,
     first: &mut FirstSeats,
     room: u32,
-) -> Result<(Vec<Runner<'r, P, SenderHand<'q, Q, S>>>, PartCollector<'q, Q, S>), OutOfMemory>
+) -> Result<
+    (
+        Vec<Runner<'r, P, SenderHand<'q, Q, S>>>,
+        PartCollector<'q, Q, S>,
+    ),
+    OutOfMemory,
+>
     requires run { IsRun run.now }
     requires shapes { S.shapes ≡ run.now.shapes.items }
     requires first { HasHired run.now.shared.common first.old.tree first.old.log 0 }

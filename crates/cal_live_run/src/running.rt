@@ -67,8 +67,15 @@ pub(crate) fn run_all<
         collected.notes clocks.old.items clocks.new.items) }
 {
     let (runners, collector) = hire_to_send::<P, Q, S>(wait, alloc, run, probes, first, room)?;
-    let (done, collector) =
-        run_and_collect(rt, alloc, &run.shared, runners, clocks, gate, collector)?;
+    let (done, collector) = run_and_collect(
+        rt,
+        alloc,
+        &run.shared,
+        runners,
+        clocks,
+        gate,
+        collector,
+    )?;
     let sent = hand_over(alloc, done)?;
     let Sent {
         threads,
