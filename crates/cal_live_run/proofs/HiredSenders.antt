@@ -1,7 +1,7 @@
 -- The running threads of a run, each with a sender of its own.
 use Rattle.std.proofs.Common.{◌≡◌, ℕ, ◌+◌, ◌<◌, ◌≤◌, ◌^◌, Bool, true, List, [], ◌∷◌, ◌++◌}
 use Rattle.std.proofs.Common.{length, map, refl, sym, ap, ◌∙◌, subst, arith, ⊎_elim}
-use Rattle.std.specs.Prelude.{All, Option, Some, option_map, slice_get, slice_index_or}
+use Rattle.std.specs.Prelude.{All, Option, Some, option_map, slice_index_or}
 use Rattle.std.proofs.lemmas.List.{length_push, length-map}
 use Rattle.cal_book.proofs.Lists.{at_end}
 use Rattle.cal_book.specs.Accounts.{blank}
@@ -26,7 +26,6 @@ use Rattle.cal_replay.specs.Workers.{IsHired, lines_of, script_of}
 use Rattle.cal_script.specs.declared.script.Channel.{Channel}
 use Rattle.cal_start.specs.Runs.{IsRun}
 use Rattle.cal_start.specs.declared.run.Run.{Run}
-use Rattle.cal_table.specs.Tables.{TableValue}
 use Rattle.cal_table.specs.declared.shape.TableShape.{TableShape}
 
 -- a hand that has sent nothing has done nothing

@@ -1,8 +1,7 @@
 -- Runners that were hired with senders, have run, and have ended these.
-use Rattle.std.proofs.Common.{◌≡◌, ℕ, zero, suc, ◌<◌, ◌≤◌, Bor, true, List, [], ◌∷◌, drop, length}
+use Rattle.std.proofs.Common.{◌≡◌, ℕ, ◌≤◌, Bor, true, List, drop, length}
 use Rattle.std.proofs.Common.{map, refl, sym, ap, ◌∙◌, subst, arith}
 use Rattle.std.specs.Prelude.{All, Option, Some, None, is_some, option_map, slice_get}
-use Rattle.std.specs.Prelude.{slice_index_or}
 use Rattle.std.proofs.lemmas.List.{length-map}
 use Rattle.std.proofs.lemmas.Option.{get_or_from_slice_get, same_Some, slice_get_within}
 use Rattle.cal_book.proofs.Lists.{at_map, at_mapped}
@@ -14,7 +13,7 @@ use Rattle.cal_finish.proofs.LawfulRuns.{at-below}
 use Rattle.cal_finish.specs.Ended.{notes_of, threads_of}
 use Rattle.cal_keeping.specs.Runners.{IsHiredRunner}
 use Rattle.cal_keeping.specs.declared.runner.Runner.{Runner}
-use Rattle.cal_live.specs.Ran.{HasRunAndEnded, HaveRunAndEnded}
+use Rattle.cal_live.specs.Ran.{HaveRunAndEnded}
 use Rattle.cal_live.specs.Sending.{EndsEither, Home, IsSendingFor, account_of}
 use Rattle.cal_live.specs.Sending.{sent_by_either, sent_of}
 use Rattle.cal_live.specs.declared.sending.SenderHand.{SenderHand}
@@ -28,7 +27,6 @@ use Rattle.cal_mail.specs.declared.ended.Ended.{Ended}
 use Rattle.cal_ran.specs.Told.{AreToldAll}
 use Rattle.cal_replay.specs.Workers.{lines_of, script_of}
 use Rattle.cal_replay.specs.declared.worker.Worker.{Worker}
-use Rattle.cal_channel.specs.Values.{ChannelValue}
 use Rattle.cal_run.specs.declared.numbers.Numbers.{Numbers}
 use Rattle.cal_script.specs.declared.journal.ThreadNote.{ThreadNote}
 use Rattle.cal_start.specs.declared.run.Run.{Run}

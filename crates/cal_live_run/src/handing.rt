@@ -1,5 +1,6 @@
 //! What runners hand over whose senders have ended.
-ghost use Rattle.std.specs.Prelude.{◌≡◌, ◌++◌, [], ◌∷◌, All, IfOk, OnOk, Some, is_some, map, true};
+ghost use Rattle.std.specs.Prelude.{◌≡◌, ◌++◌, [], ◌∷◌, All, IfOk, OnOk, Some};
+ghost use Rattle.std.specs.Prelude.{is_some, map, true};
 ghost use Rattle.cal_live_run.specs.Collected.{IsHandedOver};
 
 use cal_channel::ThreadChannel;

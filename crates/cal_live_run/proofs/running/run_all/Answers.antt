@@ -1,4 +1,4 @@
-use Rattle.std.proofs.Common.{List, length, sym, ◌∙◌, subst, arith}
+use Rattle.std.proofs.Common.{List, sym, ◌∙◌, subst, arith}
 use Rattle.cal_collect.specs.Parts.{AreMergesOf}
 use Rattle.cal_collect.specs.declared.part.Part.{Part}
 use Rattle.cal_live_run.proofs.SentRuns.{all-ended, all-hired, sent-of, told-sent}

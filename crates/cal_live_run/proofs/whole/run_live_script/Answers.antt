@@ -9,11 +9,11 @@ pub new-requires : goal.new-requires
 new-requires g c = c.valid_script_law.ensures c.args.script.now c.requires.script
 
 pub run_by-requires-clause-valid : goal.run_by-requires-clause-valid
-run_by-requires-clause-valid g c =
+run_by-requires-clause-valid g c κs within =
     subst IsValidScript (sym c.in_ok-run.ensures.run.script_is) c.requires.script
 
 pub run_by-requires-clause-clocks : goal.run_by-requires-clause-clocks
-run_by-requires-clause-clocks g c =
+run_by-requires-clause-clocks g c κs within =
     subst (λ (s : Script). length s.threads ≤ length c.args.clocks.now.items)
     (sym c.in_ok-run.ensures.run.script_is) c.requires.clocks
 
