@@ -285,8 +285,14 @@ module _ (old others : List ℕ) (first start count : ℕ) (own : ArePlaces old 
   before n less =
       let none : among n rest ≡ false = list_any_none (λ place. place == n) rest
       (λ k d short. ne_eqb (get_or rest k d) n
-      (λ e. omega (arith, e, less, rest_read k d, behind (start + k) d (omega arith)
-      (omega (arith, short, long_rest))))) in
+      (λ e. omega (
+        arith,
+        e,
+        less,
+        rest_read k d,
+        behind (start + k) d (omega arith)
+            (omega (arith, short, long_rest)),
+      ))) in
       list_any-append (λ place. place == n) old rest ∙ ap (λ b. among n old || b) none
       ∙ or_false (among n old)
     where
@@ -303,8 +309,13 @@ module _ (old others : List ℕ) (first start count : ℕ) (own : ArePlaces old 
       let front : among n (take start others) ≡ false =
       list_any_none (λ place. place == n) (take start others)
       (λ k d short. ne_eqb (get_or (take start others) k d) n
-      (λ e. omega (arith, e, least, get_or-take start others k d (omega (arith, short, few)),
-      below k d (omega (arith, short, few))))) in
+      (λ e. omega (
+        arith,
+        e,
+        least,
+        get_or-take start others k d (omega (arith, short, few)),
+        below k d (omega (arith, short, few)),
+      ))) in
       list_any-append (λ place. place == n) old rest ∙ ap (λ b. b || among n rest) none
       ∙ sym (ap (among n) (sym (take-append-drop start others))
       ∙ list_any-append (λ place. place == n) (take start others) rest
@@ -385,10 +396,19 @@ module _ (old others : List ℕ) (first start count : ℕ) (own : ArePlaces old 
           → get_or (old ++ rest) i d ≤ get_or (old ++ rest) j d
       rise i j d le (inl a) (inl b) = omega (arith, a.read, b.read, own.rising i j d le b.short)
       rise i j d le (inl a) (inr b) =
-          omega (arith, a.read, b.read, own.below i d a.short,
-          behind (start + (j - length old)) d (omega arith) b.short)
+          omega (
+            arith,
+            a.read,
+            b.read,
+            own.below i d a.short,
+            behind (start + (j - length old)) d (omega arith) b.short,
+          )
       rise i j d le (inr a) (inl b) = absurd (omega (arith, a.late, b.short, le))
       rise i j d le (inr a) (inr b) =
-          omega (arith, a.read, b.read,
-          all.rising (start + (i - length old)) (start + (j - length old)) d
-          (omega (arith, le, a.late, b.late)) b.short)
+          omega (
+            arith,
+            a.read,
+            b.read,
+            all.rising (start + (i - length old)) (start + (j - length old)) d
+                (omega (arith, le, a.late, b.late)) b.short,
+          )

@@ -1,6 +1,7 @@
 -- Where the last immediates of names stand in one record.
 use Rattle.std.specs.Prelude.{◌≡◌, ℕ, ◌<◌, ◌≤◌, List, length, map, position, slice_get}
-use Rattle.std.specs.Prelude.{slice_index_or, Option, None, Some, IfSome, option_and_then, option_map}
+use Rattle.std.specs.Prelude.{slice_index_or, Option, None, Some, IfSome, option_and_then}
+use Rattle.std.specs.Prelude.{option_map}
 use Rattle.std.specs.List.{All, AllZip}
 use Rattle.std.specs.Ordering.{eq_by_cmp}
 use Rattle.cal_context.specs.Lists.{AreApart}

@@ -82,10 +82,7 @@ impl AttributeNames {
 fn number_at(numbers: &[Option<usize>], attribute: AttributeNumber) -> Option<usize>
     ensures { result ≡ slice_index_or numbers.now attribute.0 None }
 {
-    numbers
-        .get(attribute.0 as usize)
-        .copied()
-        .unwrap_or(None)
+    numbers.get(attribute.0 as usize).copied().unwrap_or(None)
 }
 
 fn row(rows: &Vec<Vec<usize>>, name: usize) -> &[usize]

@@ -175,7 +175,8 @@ impl Seeker {
     #[inline(always)]
     fn pass_nodes(&mut self, context: &Context) -> Result<(), OutOfMemory>
         requires unnamed { (a : attribute_numbers.AttributeNumber) → named_at self.old a ≡ false }
-        requires nowhere { (n : node_numbers.NodeNumber) → nearest_at self.old n ≡ record { 0 = 0 } }
+        requires nowhere { (n : node_numbers.NodeNumber)
+            → nearest_at self.old n ≡ record { 0 = 0 } }
         ensures knows { OnOk result
             (KnowsAttributes context.now self.old → KnowsAll context.now self.new) }
         ensures same { OnOk result (sought self.new ≡ sought self.old) }
@@ -196,7 +197,8 @@ impl Seeker {
     fn finds_none(&self, context: &Context)
         requires few { length context.now.paths < 2 ^ 32 }
         requires unnamed { (a : attribute_numbers.AttributeNumber) → named_at self.now a ≡ false }
-        requires nowhere { (n : node_numbers.NodeNumber) → nearest_at self.now n ≡ record { 0 = 0 } }
+        requires nowhere { (n : node_numbers.NodeNumber)
+            → nearest_at self.now n ≡ record { 0 = 0 } }
         ensures { KnowsAttributes context.now self.now → (n : node_numbers.NodeNumber)
             → n.0 < length context.now.paths
             → last_sought (sought self.now) (path_at context.now n) ≡ None }
@@ -273,7 +275,8 @@ impl Seeker {
 
     /// Whether no attribute that is known has the name.
     pub(crate) fn is_unnamed(&self) -> bool
-        ensures { IsTrue result → (a : attribute_numbers.AttributeNumber) → named_at self.now a ≡ false }
+        ensures { IsTrue result
+            → (a : attribute_numbers.AttributeNumber) → named_at self.now a ≡ false }
     {
         self.named.is_none()
     }
