@@ -83,7 +83,7 @@ module _ (t : Tree) (s : Sought) (imms : List Immediate) (x : Immediate) where
 
 module _ (t : Tree) (l l' : Latest) (keys : l'.names.keys ≡ l.names.keys) where
   -- what is known of names stays where they and what is kept of attributes do
-  pub all_names_stay : l'.named.items ≡ l.named.items → KnowsAllNames t l → KnowsAllNames t l'
+  pub all_names_stay : l'.named ≡ l.named → KnowsAllNames t l → KnowsAllNames t l'
   all_names_stay named h = record {
     knows = record {
       apart = rw keys h.knows.apart;
@@ -99,35 +99,35 @@ module _ (t : Tree) (l l' : Latest) (keys : l'.names.keys ≡ l.names.keys) wher
   }
 
   -- one attribute more is known
-  pub names_more : (k : ℕ) (o : Option ℕ) → l'.named.items ≡ l.named.items ++ o ∷ []
-      → length l.named.items ≡ k → k < length t.attributes
+  pub names_more : (k : ℕ) (o : Option ℕ) → l'.named ≡ l.named ++ o ∷ []
+      → length l.named ≡ k → k < length t.attributes
       → o ≡ position (same_name (attribute_at t (record { 0 = k })).name) l.names.keys
       → KnowsNames t l → KnowsNames t l'
   names_more k o more counted inside is h = record {
     apart = rw keys h.apart;
     attributes = λ a short.
-        let long = length-append l.named.items (o ∷ []) in
+        let long = length-append l.named (o ∷ []) in
         let whole = subst (λ xs. a.0 < length xs) more short in
-        by a (omega (arith, long, whole, counted)) (cases_lt a.0 (length l.named.items));
+        by a (omega (arith, long, whole, counted)) (cases_lt a.0 (length l.named));
   }
     where
       by : (a : AttributeNumber) → a.0 < k + 1
-          → (a.0 < length l.named.items) ⊎ (length l.named.items ≤ a.0) → IsNumberedName t l' a
+          → (a.0 < length l.named) ⊎ (length l.named ≤ a.0) → IsNumberedName t l' a
       by a below (inl less) =
           let known = h.attributes a less in
           record {
             within = known.within;
             number = ap (λ xs. slice_index_or xs a.0 None) more
-                ∙ get_or_append_left l.named.items (o ∷ []) None a.0 less ∙ known.number
+                ∙ get_or_append_left l.named (o ∷ []) None a.0 less ∙ known.number
                 ∙ ap (position (same_name (attribute_at t a).name)) (sym keys);
           }
       by a below (inr least) =
-          let at : length l.named.items ≡ a.0 = omega (arith, below, least, counted) in
+          let at : length l.named ≡ a.0 = omega (arith, below, least, counted) in
           let same : k ≡ a.0 = sym counted ∙ at in
           record {
             within = subst (λ n. n < length t.attributes) same inside;
             number = ap (λ xs. slice_index_or xs a.0 None) more
-                ∙ get_or_push l.named.items o None a.0 at ∙ is
+                ∙ get_or_push l.named o None a.0 at ∙ is
                 ∙ ap (λ n. position (same_name (attribute_at t (record { 0 = n })).name) l.names.keys)
                 same
                 ∙ ap (position (same_name (attribute_at t a).name)) (sym keys);
@@ -242,7 +242,7 @@ module _ (t : Tree) (l : Latest) (imms : List Immediate) (x : Immediate) (h : Is
         (last_stays t s imms x (slice_index_or places n None) (miss e) last)
 
     module _ (l' : Latest) (same_keys : l'.names.keys ≡ l.names.keys)
-        (named : l'.named.items ≡ l.named.items)
+        (named : l'.named ≡ l.named)
         (places : l'.places.items ≡ slice_set l.places.items m (Some p)) where
       any_noted : (n : ℕ) (key : List ℕ) → slice_get l'.names.keys n ≡ Some key
           → IsLast t (any_of key) (imms ++ x ∷ []) (slice_index_or l'.places.items n None)

@@ -17,3 +17,5 @@ mod InternedLemmas
 mod MemoLemmas
 pub mod LatestLemmas
 mod NamedLemmas
+mod RowLemmas
+mod Telling

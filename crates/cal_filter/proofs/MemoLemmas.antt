@@ -1,10 +1,11 @@
 -- What is left out at the end of what is kept.
 use Rattle.std.proofs.Common.{◌≡◌, ℕ, zero, suc, ◌+◌, ◌-◌, ◌<◌, ◌≤◌, Bool, true, false, ◌||◌, ◌==◌}
 use Rattle.std.proofs.Common.{List, [], ◌∷◌, ◌++◌, ◌⊎◌, inl, inr, length, get_or, refl, sym, ◌∙◌, ap, arith, append_assoc, append-nil, add-one, eq-eqb, ne_eqb}
-use Rattle.std.proofs.Common.{Result, Ok, Err, is_ok, nat_cmp}
+use Rattle.std.proofs.Common.{Result, Ok, Err, is_ok, nat_cmp, take, drop}
 use Rattle.std.specs.List.{list_any}
 use Rattle.std.specs.List.Sorted.{IsBinarySearchResult, IsNonDecreasing}
 use Rattle.std.specs.Prelude.{replicate}
+use Rattle.std.proofs.lemmas.List.{drop-append-le, drop_all, get_or-drop, get_or-take, length-drop, length-take-le, take-append-drop}
 use Rattle.std.proofs.lemmas.Bool.{cases_eq, cases_lt}
 use Rattle.std.proofs.lemmas.List.{length-append, length-replicate, get_or_append_left, get_or-append_right, get_or_default, replicate-append-replicate}
 use Rattle.std.proofs.lemmas.List.Elements.{All-push}
@@ -259,3 +260,155 @@ found_among places n (Err i) rising is =
         by : (k < i) ⊎ (i ≤ k) → ⊥
         by (inl before) = absurd (omega (arith, e, same, parted.1 k before))
         by (inr behind) = absurd (omega (arith, e, same, parted.2 k behind short))
+
+-- ---- places of a list that are behind those of another
+
+-- of the others those from a start on aren't below a first count, and those before it are
+module _ (old others : List ℕ) (first start count : ℕ) (own : ArePlaces old first)
+    (all : ArePlaces others count) (within : start ≤ length others)
+    (below : (k d : ℕ) → k < start → get_or others k d < first)
+    (behind : (k d : ℕ) → start ≤ k → k < length others → first ≤ get_or others k d) where
+  abbrev rest : List ℕ
+  rest = drop start others
+
+  abbrev among : ℕ → List ℕ → Bool
+  among n places = list_any (λ place. place == n) places
+
+  rest_read : (k d : ℕ) → get_or rest k d ≡ get_or others (start + k) d
+  rest_read k d = get_or-drop start others k d
+
+  long_rest : length rest ≡ length others - start
+  long_rest = length-drop start others
+
+  -- a place below the first count is among the old ones alone
+  before : (n : ℕ) → n < first → among n (old ++ rest) ≡ among n old
+  before n less =
+      let none : among n rest ≡ false = list_any_none (λ place. place == n) rest
+      (λ k d short. ne_eqb (get_or rest k d) n
+      (λ e. omega (
+        arith,
+        e,
+        less,
+        rest_read k d,
+        behind (start + k) d (omega arith)
+            (omega (arith, short, long_rest)),
+      ))) in
+      list_any-append (λ place. place == n) old rest ∙ ap (λ b. among n old || b) none
+      ∙ or_false (among n old)
+    where
+      or_false : (b : Bool) → (b || false) ≡ b
+      or_false true = refl
+      or_false false = refl
+
+  -- and one behind it among the others
+  after : (n : ℕ) → first ≤ n → among n (old ++ rest) ≡ among n others
+  after n least =
+      let none : among n old ≡ false = list_any_none (λ place. place == n) old
+      (λ k d short. ne_eqb (get_or old k d) n (λ e. omega (arith, e, least, own.below k d short))) in
+      let few : length (take start others) ≡ start = length-take-le start others within in
+      let front : among n (take start others) ≡ false =
+      list_any_none (λ place. place == n) (take start others)
+      (λ k d short. ne_eqb (get_or (take start others) k d) n
+      (λ e. omega (
+        arith,
+        e,
+        least,
+        get_or-take start others k d (omega (arith, short, few)),
+        below k d (omega (arith, short, few)),
+      ))) in
+      list_any-append (λ place. place == n) old rest ∙ ap (λ b. b || among n rest) none
+      ∙ sym (ap (among n) (sym (take-append-drop start others))
+      ∙ list_any-append (λ place. place == n) (take start others) rest
+      ∙ ap (λ b. b || among n rest) front)
+
+  same_front : (n : ℕ) → n ≤ first → marked (old ++ rest) n ≡ marked old n
+  same_front zero h = refl
+  same_front (suc n) h = λ i. same_front n (omega (arith, h)) i ++ before n (omega (arith, h)) i ∷ []
+
+  base : (k : ℕ) → first ≡ k
+      → marked (old ++ rest) k ≡ marked old first ++ drop first (marked others k)
+  base k e =
+      let long = length-marked others k in
+      same_front k (omega (arith, e))
+      ∙ sym (ap (λ xs. marked old first ++ xs)
+      (drop_all first (marked others k) (omega (arith, e, long)))
+      ∙ append-nil (marked old first) ∙ ap (marked old) e)
+
+  joined : (k : ℕ) → first ≤ k
+      → marked (old ++ rest) k ≡ marked old first ++ drop first (marked others k)
+  joined zero least = base zero (omega (arith, least))
+  joined (suc k) least = by (λ less. joined k less) (cases_lt k first)
+    where
+      last : Bool
+      last = among k others
+
+      by : (first ≤ k → marked (old ++ rest) k ≡ marked old first ++ drop first (marked others k))
+          → (k < first) ⊎ (first ≤ k)
+          → marked (old ++ rest) (suc k) ≡ marked old first ++ drop first (marked others (suc k))
+      by earlier (inl short) = base (suc k) (omega (arith, short, least))
+      by earlier (inr less) =
+          let long = length-marked others k in
+          (λ i. earlier less i ++ after k less i ∷ [])
+          ∙ append_assoc (marked old first) (drop first (marked others k)) (last ∷ [])
+          ∙ ap (λ xs. marked old first ++ xs)
+          (sym (drop-append-le first (marked others k) (last ∷ []) (omega (arith, less, long))))
+
+  -- the answers up to the first count, and then the others'
+  pub marked-joined : first ≤ count
+      → marked (old ++ rest) count ≡ marked old first ++ drop first (marked others count)
+  marked-joined more = joined count more
+
+  record IsOld (k d : ℕ) : Type 0 where
+    pub short : k < length old
+    pub read : get_or (old ++ rest) k d ≡ get_or old k d
+
+  record IsOther (k d : ℕ) : Type 0 where
+    pub late : length old ≤ k
+    pub short : start + (k - length old) < length others
+    pub read : get_or (old ++ rest) k d ≡ get_or others (start + (k - length old)) d
+
+  reads : (k d : ℕ) → k < length (old ++ rest) → IsOld k d ⊎ IsOther k d
+  reads k d short = by (cases_lt k (length old))
+    where
+      by : (k < length old) ⊎ (length old ≤ k) → IsOld k d ⊎ IsOther k d
+      by (inl less) = inl (record { short = less; read = get_or_append_left old rest d k less })
+      by (inr late) =
+          let whole = length-append old rest in
+          inr (record {
+            late = late;
+            short = omega (arith, short, whole, long_rest, late);
+            read = get_or-append_right old rest (length old) k d refl late
+                ∙ rest_read (k - length old) d;
+          })
+
+  pub ArePlaces-joined : first ≤ count → ArePlaces (old ++ rest) count
+  ArePlaces-joined more = record {
+    rising = λ i j d le short.
+        rise i j d le (reads i d (omega (arith, le, short))) (reads j d short);
+    below = λ k d short. under k d (reads k d short);
+  }
+    where
+      under : (k d : ℕ) → IsOld k d ⊎ IsOther k d → get_or (old ++ rest) k d < count
+      under k d (inl a) = omega (arith, a.read, own.below k d a.short, more)
+      under k d (inr a) = omega (arith, a.read, all.below (start + (k - length old)) d a.short)
+
+      rise : (i j d : ℕ) → i ≤ j → IsOld i d ⊎ IsOther i d → IsOld j d ⊎ IsOther j d
+          → get_or (old ++ rest) i d ≤ get_or (old ++ rest) j d
+      rise i j d le (inl a) (inl b) = omega (arith, a.read, b.read, own.rising i j d le b.short)
+      rise i j d le (inl a) (inr b) =
+          omega (
+            arith,
+            a.read,
+            b.read,
+            own.below i d a.short,
+            behind (start + (j - length old)) d (omega arith) b.short,
+          )
+      rise i j d le (inr a) (inl b) = absurd (omega (arith, a.late, b.short, le))
+      rise i j d le (inr a) (inr b) =
+          omega (
+            arith,
+            a.read,
+            b.read,
+            all.rising (start + (i - length old)) (start + (j - length old)) d
+                (omega (arith, le, a.late, b.late)) b.short,
+          )

@@ -1,6 +1,7 @@
 -- Where the last immediates of names stand in one record.
 use Rattle.std.specs.Prelude.{◌≡◌, ℕ, ◌<◌, ◌≤◌, List, length, map, position, slice_get}
-use Rattle.std.specs.Prelude.{slice_index_or, Option, None, Some, IfSome, option_and_then, option_map}
+use Rattle.std.specs.Prelude.{slice_index_or, Option, None, Some, IfSome, option_and_then}
+use Rattle.std.specs.Prelude.{option_map}
 use Rattle.std.specs.List.{All, AllZip}
 use Rattle.std.specs.Ordering.{eq_by_cmp}
 use Rattle.cal_context.specs.Lists.{AreApart}
@@ -20,7 +21,7 @@ use Rattle.cal_filter.specs.declared.wanted.Wanted.TheVariants as wanted
 
 -- what is kept for an attribute: the number of its name, if it is one of these names
 abbrev pub number_at : Latest → AttributeNumber → Option ℕ
-number_at l a = slice_index_or l.named.items a.0 None
+number_at l a = slice_index_or l.named a.0 None
 
 -- an attribute of the context, and the number of its name
 pub record IsNumberedName (t : Tree) (l : Latest) (a : AttributeNumber) : Type 0 where
@@ -31,12 +32,12 @@ pub record IsNumberedName (t : Tree) (l : Latest) (a : AttributeNumber) : Type 0
 -- each name is there once, and what is kept of attributes is right, as far as it goes
 pub record KnowsNames (t : Tree) (l : Latest) : Type 0 where
   pub apart : AreApart l.names.keys
-  pub attributes : (a : AttributeNumber) → a.0 < length l.named.items → IsNumberedName t l a
+  pub attributes : (a : AttributeNumber) → a.0 < length l.named → IsNumberedName t l a
 
 -- and each attribute of the context is known
 pub record KnowsAllNames (t : Tree) (l : Latest) : Type 0 where
   pub knows : KnowsNames t l
-  pub attributes : length t.attributes ≤ length l.named.items
+  pub attributes : length t.attributes ≤ length l.named
 
 -- where the last immediate that is sought stands, if there is one
 pub record IsLast (t : Tree) (s : Sought) (imms : List Immediate) (place : Option ℕ) : Type 0 where

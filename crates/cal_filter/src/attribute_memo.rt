@@ -1,5 +1,6 @@
-ghost use Rattle.std.specs.Prelude.{◌≡◌, ℕ, ◌==◌, ◌+◌, Bool, false, [], ◌∷◌, ◌++◌, length};
-ghost use Rattle.std.specs.Prelude.{slice_index_or, IsTrue, OnOk, OnErr};
+//! What is true of which attributes.
+ghost use Rattle.std.specs.Prelude.{◌≡◌, ℕ, ◌==◌, ◌+◌, ◌<◌, ◌≤◌, Bool, false, [], ◌∷◌, ◌++◌, drop};
+ghost use Rattle.std.specs.Prelude.{length, slice_index_or, IsTrue, OnOk, OnErr};
 ghost use Rattle.std.specs.List.{list_any};
 ghost use Rattle.std.specs.List.Sorted.{IsNonDecreasing};
 ghost use Rattle.cal_filter.specs.Memo.{ArePlaces, marked};
@@ -76,6 +77,53 @@ impl AttributeMemo {
         self.count = count;
         Ok(())
     }
+
+    /// Keeps whether it is true of the attributes that come next, up to so many: it is of those at
+    /// these places. It takes time for the new ones of these.
+    pub(crate) fn add_places(&mut self, places: &[usize], count: usize) -> Result<(), OutOfMemory>
+        requires { ArePlaces places.now count }
+        ensures { OnOk result (self.new
+            ≡ self.old ++ drop (length self.old) (marked places.now count)) }
+    {
+        let _ = &self.places;
+        if count <= self.count {
+            return Ok(());
+        }
+        add_behind(&mut self.places, self.count, places, count)?;
+        self.count = count;
+        Ok(())
+    }
+}
+
+/// Adds to the places below a first count those of others that aren't below it.
+fn add_behind(
+    places: &mut Vec<usize>,
+    first: usize,
+    others: &[usize],
+    count: usize,
+) -> Result<(), OutOfMemory>
+    requires own { ArePlaces places.old.items first }
+    requires others { ArePlaces others.now count }
+    requires more { first ≤ count }
+    ensures added { OnOk result (marked places.new.items count
+        ≡ marked places.old.items first ++ drop first (marked others.now count)) }
+    ensures ok { OnOk result (ArePlaces places.new.items count) }
+    ensures err { OnErr result (ArePlaces places.new.items first) }
+{
+    let start = count_below(others, first);
+    places.extend_from_slice(&others[start..])?;
+    Ok(())
+}
+
+/// How many of places in order are below a limit.
+fn count_below(places: &[usize], limit: usize) -> usize
+    requires { IsNonDecreasing places.now }
+    ensures within { result ≤ length places.now }
+    ensures below { (k d : ℕ) → k < result → slice_index_or places.now k d < limit }
+    ensures behind { (k d : ℕ) → result ≤ k → k < length places.now
+        → limit ≤ slice_index_or places.now k d }
+{
+    places.partition_point(|place| *place < limit)
 }
 
 /// Whether a place is among these.

@@ -1,16 +1,18 @@
 //! Where the last immediates of names stand in one record.
-ghost use Rattle.std.specs.Prelude.{◌≡◌, ℕ, ◌+◌, ◌<◌, [], ◌∷◌, ◌++◌, List, length, Some, IfOk};
-ghost use Rattle.std.specs.Prelude.{slice_get, slice_index_or, slice_set, replicate, None, OnOk};
+ghost use Rattle.std.specs.Prelude.{◌≡◌, ℕ, ◌+◌, ◌<◌, [], ◌∷◌, ◌++◌, List, drop, length, map, Some};
+ghost use Rattle.std.specs.Prelude.{slice_get, slice_index_or, slice_set, replicate, None};
+ghost use Rattle.std.specs.Prelude.{IfOk, OnOk};
 ghost use Rattle.std.specs.List.{All, AllZip};
-ghost use Rattle.std.specs.Ordering.{eq_by_cmp};
 ghost use Rattle.cal_context.specs.Lists.{IsFront};
-ghost use Rattle.cal_context.specs.Tree.{Tree, attribute_at};
+ghost use Rattle.cal_context.specs.Tree.{Tree};
 ghost use Rattle.cal_context.specs.declared.snapshot.Immediate.{Immediate as ImmediateOf};
-ghost use Rattle.cal_value.specs.Texts.{text_cmp};
-ghost use Rattle.cal_filter.specs.Latest.{IsLatest, KnowsAllNames, KnowsNames, number_at, place_for};
+ghost use Rattle.cal_filter.specs.Latest.{IsLatest, KnowsAllNames, KnowsNames};
+ghost use Rattle.cal_filter.specs.Latest.{number_at, place_for};
+ghost use Rattle.cal_filter.specs.Memo.{is_of};
 
-use crate::number_in;
+use crate::attribute_names::AttributeNames;
 use crate::wanted::Wanted;
+use crate::{AttributeMemo, number_in};
 use cal_context::{AttributeNumber, Context, Immediate};
 use cal_seeds::Seeds;
 use cal_value::{OutOfMemory, Text, TryCopy};
@@ -23,7 +25,7 @@ use std::alloc::Global;
 pub(crate) struct Latest {
     names: IndexSet<Text, Seeds>,
     // of each attribute: the number of its name, if it is one of these
-    named: Vec<Option<usize>>,
+    named: AttributeNames,
     // of each name: where its last immediate stands, if it has one
     places: Vec<Option<usize>>,
     // the same of its last number
@@ -39,7 +41,7 @@ impl Latest {
         let _ = names.as_slice();
         Latest {
             names,
-            named: Vec::new(alloc),
+            named: AttributeNames::new(alloc),
             places: Vec::new(alloc),
             number_places: Vec::new(alloc),
         }
@@ -81,11 +83,11 @@ impl Latest {
         attribute: AttributeNumber,
     ) -> Result<(), OutOfMemory>
         requires within { attribute.0 < length context.now.attributes }
-        requires next { length self.old.named.items ≡ attribute.0 }
+        requires next { length self.old.named ≡ attribute.0 }
         ensures knows { OnOk result
             (KnowsNames context.now self.old → KnowsNames context.now self.new) }
         ensures counted { OnOk result
-            (length self.new.named.items ≡ length self.old.named.items + 1) }
+            (length self.new.named ≡ length self.old.named + 1) }
         ensures names { OnOk result (self.new.names ≡ self.old.names) }
     {
         let name = &context.attribute_at(attribute).name;
@@ -131,26 +133,18 @@ impl Latest {
         put(&mut self.number_places, number, place);
     }
 
-    /// Whether an attribute that is known has the name of this number.
-    pub(crate) fn has_name(&self, attribute: AttributeNumber, name: usize) -> bool
-        ensures { (t : Tree) (text : List ℕ) → KnowsAllNames t self.now
-            → attribute.0 < length t.attributes
-            → slice_get self.now.names.keys name ≡ Some text
-            → result ≡ eq_by_cmp text_cmp (attribute_at t attribute).name text }
+    /// Tells a memo which of the attributes that it lacks have the name of this number.
+    pub(crate) fn tell(&self, name: usize, memo: &mut AttributeMemo) -> Result<(), OutOfMemory>
+        ensures { OnOk result (memo.new
+            ≡ memo.old ++ drop (length memo.old) (map (is_of name) self.now.named)) }
     {
-        match self.number_of(attribute) {
-            Some(number) => number == name,
-            None => false,
-        }
+        self.named.tell(name, memo)
     }
 
     fn number_of(&self, attribute: AttributeNumber) -> Option<usize>
         ensures { result ≡ number_at self.now attribute }
     {
-        self.named
-            .get(attribute.0 as usize)
-            .copied()
-            .unwrap_or(None)
+        self.named.get(attribute)
     }
 
     /// Where the last immediate of a name stands, or its last number where a number is wanted.

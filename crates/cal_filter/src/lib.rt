@@ -8,6 +8,7 @@
 
 mod arithmetic;
 mod attribute_memo;
+mod attribute_names;
 mod condition;
 mod counts;
 mod definition;

@@ -1,8 +1,9 @@
+//! Looks for the last entry of a name among numbered snapshots.
 ghost use Rattle.std.specs.Prelude.{◌≡◌, ◌<◌, ◌^◌, false, length, slice_get, IsTrue};
 ghost use Rattle.std.specs.Prelude.{None, Some, OnOk};
 ghost use Rattle.cal_context.specs.Tree.{Tree, attribute_at, path_at};
-ghost use Rattle.cal_context.specs.declared.numbers.AttributeNumber.{AttributeNumber as AttributeNumberOf};
-ghost use Rattle.cal_context.specs.declared.numbers.NodeNumber.{NodeNumber as NodeNumberOf};
+ghost use Rattle.cal_context.specs.declared.numbers.AttributeNumber as attribute_numbers;
+ghost use Rattle.cal_context.specs.declared.numbers.NodeNumber as node_numbers;
 ghost use Rattle.cal_filter.specs.Known.{IsNearest, Knows, KnowsAll, KnowsAttributes, named_at};
 ghost use Rattle.cal_filter.specs.Known.{nearest_at, sought};
 ghost use Rattle.cal_filter.specs.Latest.{KnowsAllNames, place_for};
@@ -98,7 +99,7 @@ impl Seeker {
             → Knows context.now self.old → KnowsAll context.now self.new) }
         ensures same { OnOk result (sought self.new ≡ sought self.old) }
     {
-        self.know_numbered_attributes(context, latest, name)?;
+        self.know_numbered_attributes(latest, name)?;
         self.know_new_nodes(context)
     }
 
@@ -114,24 +115,13 @@ impl Seeker {
         self.know_nodes(context)
     }
 
-    fn know_numbered_attributes(
-        &mut self,
-        context: &Context,
-        latest: &Latest,
-        name: usize,
-    ) -> Result<(), OutOfMemory>
-        ensures knows { OnOk result (KnowsAllNames context.now latest.now
+    fn know_numbered_attributes(&mut self, latest: &Latest, name: usize) -> Result<(), OutOfMemory>
+        ensures knows { OnOk result ((t : Tree) → KnowsAllNames t latest.now
             → slice_get latest.now.names.keys name ≡ Some self.old.name
-            → Knows context.now self.old → KnowsAttributes context.now self.new) }
+            → Knows t self.old → KnowsAttributes t self.new) }
         ensures same { OnOk result (sought self.new ≡ sought self.old) }
     {
-        for place in self.named.len()..context.attribute_count() {
-            let Ok(number) = u32::try_from(place) else {
-                return Err(OutOfMemory);
-            };
-            let named = latest.has_name(AttributeNumber(number), name);
-            self.named.push(named)?;
-        }
+        latest.tell(name, &mut self.named)?;
         Ok(())
     }
 
@@ -184,8 +174,9 @@ impl Seeker {
     /// The same where nothing is sought in any path that is known, and no attribute has the name.
     #[inline(always)]
     fn pass_nodes(&mut self, context: &Context) -> Result<(), OutOfMemory>
-        requires unnamed { (a : AttributeNumberOf) → named_at self.old a ≡ false }
-        requires nowhere { (n : NodeNumberOf) → nearest_at self.old n ≡ record { 0 = 0 } }
+        requires unnamed { (a : attribute_numbers.AttributeNumber) → named_at self.old a ≡ false }
+        requires nowhere { (n : node_numbers.NodeNumber)
+            → nearest_at self.old n ≡ record { 0 = 0 } }
         ensures knows { OnOk result
             (KnowsAttributes context.now self.old → KnowsAll context.now self.new) }
         ensures same { OnOk result (sought self.new ≡ sought self.old) }
@@ -205,9 +196,10 @@ impl Seeker {
     #[inline(always)]
     fn finds_none(&self, context: &Context)
         requires few { length context.now.paths < 2 ^ 32 }
-        requires unnamed { (a : AttributeNumberOf) → named_at self.now a ≡ false }
-        requires nowhere { (n : NodeNumberOf) → nearest_at self.now n ≡ record { 0 = 0 } }
-        ensures { KnowsAttributes context.now self.now → (n : NodeNumberOf)
+        requires unnamed { (a : attribute_numbers.AttributeNumber) → named_at self.now a ≡ false }
+        requires nowhere { (n : node_numbers.NodeNumber)
+            → nearest_at self.now n ≡ record { 0 = 0 } }
+        ensures { KnowsAttributes context.now self.now → (n : node_numbers.NodeNumber)
             → n.0 < length context.now.paths
             → last_sought (sought self.now) (path_at context.now n) ≡ None }
     {
@@ -221,9 +213,9 @@ impl Seeker {
     #[inline(always)]
     fn finds_none_at(&self, context: &Context, node: NodeNumber)
         requires within { node.0 < length context.now.paths }
-        requires unnamed { (a : AttributeNumberOf) → named_at self.now a ≡ false }
+        requires unnamed { (a : attribute_numbers.AttributeNumber) → named_at self.now a ≡ false }
         ensures { KnowsAttributes context.now self.now
-            → ((n : NodeNumberOf) → n.0 < node.0
+            → ((n : node_numbers.NodeNumber) → n.0 < node.0
             → last_sought (sought self.now) (path_at context.now n) ≡ None)
             → last_sought (sought self.now) (path_at context.now node) ≡ None }
     {
@@ -283,7 +275,8 @@ impl Seeker {
 
     /// Whether no attribute that is known has the name.
     pub(crate) fn is_unnamed(&self) -> bool
-        ensures { IsTrue result → (a : AttributeNumberOf) → named_at self.now a ≡ false }
+        ensures { IsTrue result
+            → (a : attribute_numbers.AttributeNumber) → named_at self.now a ≡ false }
     {
         self.named.is_none()
     }
@@ -291,9 +284,9 @@ impl Seeker {
     /// Whether no attribute that is known has the name, and no node a sought entry on its path.
     pub(crate) fn sees_nothing(&self) -> bool
         ensures unnamed { IsTrue result
-            → (a : AttributeNumberOf) → named_at self.now a ≡ false }
+            → (a : attribute_numbers.AttributeNumber) → named_at self.now a ≡ false }
         ensures nowhere { IsTrue result
-            → (n : NodeNumberOf) → nearest_at self.now n ≡ record { 0 = 0 } }
+            → (n : node_numbers.NodeNumber) → nearest_at self.now n ≡ record { 0 = 0 } }
     {
         self.named.is_none() && self.nearest.is_none()
     }

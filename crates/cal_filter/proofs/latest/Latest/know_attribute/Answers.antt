@@ -17,12 +17,12 @@ returns-clause-knows c = λ k.
       number_places = old.number_places;
     } in
     names_more c.args.context.now old new refl c.args.attribute.0 c.get_index_of.result
-    c.in_ok-push.ensures.items c.requires.next c.requires.within
+    c.in_ok-push.ensures c.requires.next c.requires.within
     (c.get_index_of.ensures.index
     ∙ ap (λ (a : Attribute). position (eq_by_cmp text_cmp a.name) old.names.keys)
     c.attribute_at.ensures) k
 
 pub returns-clause-counted : goal.returns-clause-counted
 returns-clause-counted c =
-    ap length c.in_ok-push.ensures.items
-    ∙ length-append c.args.self.now.named.items (c.get_index_of.result ∷ [])
+    ap length c.in_ok-push.ensures
+    ∙ length-append c.args.self.now.named (c.get_index_of.result ∷ [])

@@ -8,5 +8,5 @@ returns-clause-knows c = λ t. record {
   apart = AreApart-from_distinct (exact_equiv text_exact) (exact_tells text_exact) c.args.names.keys
       c.as_slice.ensures.unique;
   attributes = λ a short.
-      absurd (omega (arith, subst (λ xs. a.0 < length xs) c.new.ensures.items short));
+      absurd (omega (arith, subst (λ xs. a.0 < length xs) c.new.ensures short));
 }
