@@ -10,7 +10,7 @@ use Rattle.cal_value.specs.declared.attribute.Entry.{Entry}
 use Rattle.cal_value.specs.declared.record.Rec.{Rec}
 use Rattle.cal_engine.specs.Rows as rows
 use Rattle.cal_engine.specs.Rows.{is_below}
-use Rattle.cal_engine.specs.Trails.{begins, mark, trail}
+use Rattle.cal_keys.specs.Trails.{begins, mark, trail}
 
 module _ {A : Type 0} where
   split_equal : (xs us ys vs : List A) → length xs ≡ length us → xs ++ ys ≡ us ++ vs → (xs ≡ us) × (ys ≡ vs)
