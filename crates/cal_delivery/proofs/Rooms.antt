@@ -7,7 +7,7 @@ use Rattle.std.proofs.lemmas.List.Elements.{recursion_from_All}
 use Rattle.std.proofs.lemmas.List.Sums.{count_by-le-length, length-filter}
 use Rattle.cal_agg.specs.Numbers.{IsWithin}
 use Rattle.cal_agg.specs.declared.row.AggRow.{AggRow}
-use Rattle.cal_engine.specs.Groups.{is_group}
+use Rattle.cal_keys.specs.Groups.{is_group}
 use Rattle.cal_filter.specs.Named.{HasSmallNumbers}
 use Rattle.cal_groups.specs.ContextRows.{HasRoom}
 use Rattle.cal_profile.proofs.Lists.{all-filter, all_weaker}

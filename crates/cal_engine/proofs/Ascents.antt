@@ -1,5 +1,5 @@
 -- Adding at a node and at each node above it.
-use Rattle.std.proofs.Common.{◌≡◌, ℕ, zero, suc, ◌<◌, Bool, true, false, not, ◌&&◌, List, [], ◌∷◌, ◌++◌, ◌⊎◌, inl, inr, if◌then◌else◌, length, get_or, refl, sym, ap, subst, ◌∙◌, arith, true≢false, append_assoc, get_or-set_other, get_or-set_same}
+use Rattle.std.proofs.Common.{◌≡◌, ◌<◌, Bool, true, false, not, ◌&&◌, List, [], ◌∷◌, ◌++◌, ◌⊎◌, inl, inr, if◌then◌else◌, length, get_or, refl, sym, ap, subst, ◌∙◌, arith, true≢false, append_assoc, get_or-set_other, get_or-set_same}
 use Rattle.std.specs.Prelude.{◌==◌, slice_set}
 use Rattle.std.proofs.lemmas.Bool.Decides.{Decides-eqb}
 use Rattle.std.proofs.lemmas.List.{length-append}
@@ -10,10 +10,11 @@ use Rattle.cal_context.specs.declared.numbers.Link.{Link}
 use Rattle.cal_context.specs.declared.numbers.NodeNumber.{NodeNumber}
 use Rattle.cal_context.proofs.CallerLemmas.{one_node}
 use Rattle.cal_value.specs.declared.attribute.Entry.{Entry}
-use Rattle.cal_engine.specs.Parts.{Gathered, merged_parts}
+use Rattle.cal_parts.specs.Parts.{Gathered, merged_parts}
 use Rattle.cal_engine.specs.Totals.{IsAddedAbove, IsAddedFrom}
-use Rattle.cal_engine.specs.Trails.{begins}
+use Rattle.cal_keys.specs.Trails.{begins}
 use Rattle.cal_engine.proofs.Trails.{begins_decides, front_push}
+use Rattle.cal_keys.proofs.ReadSame.{read_same}
 
 begins_true : (x y : List Entry) → IsFront x y → begins x y ≡ true
 begins_true x y f = (begins_decides x y).1 f
@@ -31,11 +32,6 @@ begins_false x y no_front = by (begins x y) refl
     by : (b : Bool) → begins x y ≡ b → begins x y ≡ false
     by true e = absurd (no_front ((begins_decides x y).0 e))
     by false e = e
-
-pub read_same : {A : Type 0} (xs : List A) (n : ℕ) (d e : A) → n < length xs → get_or xs n d ≡ get_or xs n e
-read_same [] n d e l = absurd (omega arith)
-read_same (x ∷ xs) zero d e l = refl
-read_same (x ∷ xs) (suc n) d e l = read_same xs n d e (omega arith)
 
 module _ {t : Tree} (is : IsContext t) where
   -- what begins a node's path is the node, or begins its parent's

@@ -6,7 +6,7 @@ use Rattle.std.proofs.lemmas.Grind.{common_steps}
 use Rattle.std.proofs.lemmas.List.Elements.{filter-append}
 use Rattle.std.proofs.lemmas.Map.Views.{list_any-from_Contains, Contains-from_any}
 use Rattle.cal_context.specs.Lists.{Adds}
-use Rattle.cal_engine.specs.FirstSeen.{firsts}
+use Rattle.cal_keys.specs.FirstSeen.{firsts}
 
 module _ {A : Type 0} {eq : A → A → Bool} (laws : IsEquivalence eq) (same : (x y : A) → eq x y ≡ true → x ≡ y) where
   -- the items of a list that aren't this one

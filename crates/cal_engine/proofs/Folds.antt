@@ -11,10 +11,10 @@ use Rattle.cal_ql.specs.declared.query.Let.{Let}
 use Rattle.cal_ql.specs.declared.query.Agg.{Agg}
 use Rattle.cal_ql.specs.declared.query.Query.{Query}
 use Rattle.cal_value.specs.declared.record.Rec.{Rec}
-use Rattle.cal_engine.specs.Groups.{group_of, groups_of}
-use Rattle.cal_engine.specs.Kernels.{contributions}
-use Rattle.cal_engine.specs.Parts.{Gathered, part_over, parts_over}
-use Rattle.cal_engine.specs.Readings.{parts_of, reading_of}
+use Rattle.cal_keys.specs.Groups.{group_of, groups_of}
+use Rattle.cal_parts.specs.Kernels.{contributions}
+use Rattle.cal_parts.specs.Parts.{Gathered, part_over, parts_over}
+use Rattle.cal_parts.specs.Readings.{parts_of, reading_of}
 use Rattle.cal_engine.specs.Folding.{Folded, Gathers, Grouped, IsFolded, StandsFor, folded, groups_over, no_groups}
 use Rattle.cal_engine.specs.Rows.{is_aggregated, row_of, rows_of}
 use Rattle.cal_engine.proofs.Gathering.{groups_over-Gathers}

@@ -11,12 +11,13 @@ use Rattle.cal_value.specs.OrderLaws.{group_exact}
 use Rattle.cal_value.specs.declared.record.Rec.{Rec}
 use Rattle.cal_context.specs.Lists.{Interns}
 use Rattle.cal_ql.specs.declared.query.Query.{Query}
-use Rattle.cal_engine.specs.FirstSeen.{firsts}
-use Rattle.cal_engine.specs.Groups.{is_group, group_of, groups_of, records_of}
-use Rattle.cal_engine.specs.Parts.{Gathered, merged_parts, parts_over}
-use Rattle.cal_engine.specs.Folding.{Grouped, Gathers, groups_over, put_parts}
+use Rattle.cal_keys.specs.FirstSeen.{firsts}
+use Rattle.cal_keys.specs.Groups.{is_group, group_of, groups_of, records_of}
+use Rattle.cal_parts.specs.Parts.{Gathered, merged_parts, parts_over}
+use Rattle.cal_engine.specs.Folding.{Grouped, Gathers, groups_over}
+use Rattle.cal_parts.specs.PartLists.{put_parts}
 use Rattle.cal_engine.proofs.Firsts.{firsts-Adds, list_any-firsts}
-use Rattle.cal_engine.proofs.Merging.{parts_over-append}
+use Rattle.cal_parts.proofs.Merging.{parts_over-append}
 use Rattle.cal_engine.proofs.Places.{IsPlaced, placed, map-slice_set, map-push, number_within, truncated}
 
 pub group_laws : IsEquivalence is_group

@@ -13,12 +13,12 @@ use Rattle.cal_ql.specs.declared.query.Query.{Query}
 use Rattle.cal_value.specs.declared.record.Rec.{Rec}
 use Rattle.cal_engine.specs.Finishing.{AreGroupParts, AreKept, GroupLists, entries_of_results, is_inclusive, lists_at, looks_beyond, parts_where, row_with, rows_by}
 use Rattle.cal_engine.specs.Folding.{Grouped, groups_over}
-use Rattle.cal_engine.specs.Groups.{group_of, groups_of, records_of}
-use Rattle.cal_engine.specs.Kernels.{contributed, result_of}
-use Rattle.cal_engine.specs.Parts.{Gathered, merged_parts, parts_over}
+use Rattle.cal_keys.specs.Groups.{group_of, groups_of, records_of}
+use Rattle.cal_parts.specs.Kernels.{contributed, result_of}
+use Rattle.cal_parts.specs.Parts.{Gathered, merged_parts, parts_over}
 use Rattle.cal_engine.specs.Rows.{is_below, records_below, row_of}
 use Rattle.cal_engine.proofs.Gathering.{group_laws, group_same}
-use Rattle.cal_engine.proofs.Merging.{parts_over-append, parts_over-swap}
+use Rattle.cal_parts.proofs.Merging.{parts_over-append, parts_over-swap}
 use Rattle.cal_engine.proofs.Partitions.{IsKept, groups_where}
 use Rattle.cal_engine.proofs.Results.{parts_where-map}
 

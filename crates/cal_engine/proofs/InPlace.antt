@@ -6,8 +6,8 @@ use Rattle.std.proofs.Math.ListN.{drop_of_length-le}
 use Rattle.std.proofs.Math.Seq.{set-append_seam, take-length}
 use Rattle.std.proofs.lemmas.List.{length-append, length-drop, length-take-le, take_more}
 use Rattle.std.proofs.lemmas.Option.{slice_get-get_or, slice_get_past}
-use Rattle.cal_engine.specs.Parts.{Gathered, behind, merged_part, merged_parts}
-use Rattle.cal_engine.proofs.Drops.{rest_at}
+use Rattle.cal_parts.specs.Parts.{Gathered, behind, merged_part, merged_parts}
+use Rattle.cal_parts.proofs.Drops.{rest_at}
 
 drop_get : (ones : List Gathered) (n : ℕ) → slice_get (drop 1 ones) n ≡ slice_get ones (suc n)
 drop_get [] n = refl

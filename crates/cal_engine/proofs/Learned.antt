@@ -13,11 +13,11 @@ use Rattle.cal_value.specs.Texts.{text_cmp}
 use Rattle.cal_value.specs.declared.attribute.Entry.{Entry}
 use Rattle.cal_value.specs.declared.record.Rec.{Rec}
 use Rattle.cal_engine.specs.Answers.{path_first, shown_names}
-use Rattle.cal_engine.specs.FirstSeen.{firsts}
-use Rattle.cal_engine.specs.Groups.{has_entries}
+use Rattle.cal_keys.specs.FirstSeen.{firsts}
+use Rattle.cal_keys.specs.Groups.{has_entries}
 use Rattle.cal_engine.specs.Learning.{learned, learned_one, names_beside}
 use Rattle.cal_engine.proofs.Firsts.{firsts-push, list_any-firsts}
-use Rattle.cal_engine.proofs.Takings.{same_texts}
+use Rattle.cal_parts.proofs.SameTexts.{same_texts}
 
 abbrev same_text : List ℕ → List ℕ → Bool
 same_text = eq_by_cmp text_cmp

@@ -35,19 +35,19 @@ use Rattle.cal_value.specs.declared.attribute.Entry.{Entry}
 use Rattle.cal_value.specs.declared.record.Rec.{Rec}
 use Rattle.cal_value.specs.declared.variant.Variant.{Variant}
 use Rattle.cal_engine.specs.Folding.{groups_over}
-use Rattle.cal_engine.specs.FirstSeen.{firsts}
-use Rattle.cal_engine.specs.Groups.{group_of, groups_of, is_group, records_of, taken, takes}
-use Rattle.cal_engine.specs.Kernels.{contributing, contributions_by, number_sought, weight}
-use Rattle.cal_engine.specs.Keys.{names_in}
+use Rattle.cal_keys.specs.FirstSeen.{firsts}
+use Rattle.cal_keys.specs.Groups.{group_of, groups_of, is_group, records_of, taken, takes}
+use Rattle.cal_parts.specs.Kernels.{contributing, contributions_by, number_sought, weight}
+use Rattle.cal_keys.specs.Keys.{names_in}
 use Rattle.cal_engine.specs.Looked.{has_name, has_some_name, in_conds, in_lets, in_readings, is_looked, looked_at, looks_at, speaks_of, IsLooked, IsLookedAt, LooksAll}
-use Rattle.cal_engine.specs.Parts.{merged_parts, part_over, parts_over}
-use Rattle.cal_engine.specs.Readings.{reading_of}
+use Rattle.cal_parts.specs.Parts.{merged_parts, part_over, parts_over}
+use Rattle.cal_parts.specs.Readings.{reading_of}
 use Rattle.cal_engine.specs.Rows.{is_aggregated}
 use Rattle.cal_engine.specs.Tallies.{Holds}
 use Rattle.cal_engine.specs.declared.looked.Looked.{Looked}
 use Rattle.cal_engine.specs.declared.tally.Tally.{Tally}
-use Rattle.cal_engine.proofs.Merging.{parts_over-append}
-use Rattle.cal_engine.proofs.Takings.{same_texts}
+use Rattle.cal_parts.proofs.Merging.{parts_over-append}
+use Rattle.cal_parts.proofs.SameTexts.{same_texts}
 
 or_first : (b c : Bool) → b ≡ true → (b || c) ≡ true
 or_first true c e = refl

@@ -10,12 +10,13 @@ use Rattle.cal_rowset.specs.Answers.{nth_row}
 use Rattle.cal_value.specs.declared.record.Rec.{Rec}
 use Rattle.cal_engine.specs.Answers.{answer_of}
 use Rattle.cal_engine.specs.Finishing.{AreGroupParts, AreKept, GroupLists, entries_of_results, lists_at, row_with, rows_by}
-use Rattle.cal_engine.specs.FoldGrows.{grouped_in-Grows, keys-Grows}
-use Rattle.cal_engine.specs.Groups.{groups_of}
-use Rattle.cal_engine.specs.Keys.{key_in}
+use Rattle.cal_engine.specs.FoldGrows.{grouped_in-Grows}
+use Rattle.cal_keys.specs.KeysGrow.{keys-Grows}
+use Rattle.cal_keys.specs.Groups.{groups_of}
+use Rattle.cal_keys.specs.Keys.{key_in}
 use Rattle.cal_engine.specs.Making.{MakesRows, group_count, key_at, room_in}
 use Rattle.cal_engine.specs.Numbered.{AreGroups, Numbered}
-use Rattle.cal_engine.specs.Parts.{Gathered, parts_over}
+use Rattle.cal_parts.specs.Parts.{Gathered, parts_over}
 use Rattle.cal_engine.specs.Rows.{is_aggregated, row_of, rows_of}
 use Rattle.cal_engine.specs.Sorting.{sorted_rows}
 use Rattle.cal_engine.specs.declared.grouped_rows.GroupedRows.{GroupedRows}

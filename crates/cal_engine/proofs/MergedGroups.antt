@@ -4,32 +4,30 @@ use Rattle.std.specs.Prelude.{is_some}
 use Rattle.std.specs.List.{filter_map}
 use Rattle.std.proofs.lemmas.List.{get_or-map, length-map, take_all}
 use Rattle.std.proofs.lemmas.List.Elements.{filter_map-append}
-use Rattle.cal_context.specs.Tree.{Grows, IsContext, Tree, path_at}
+use Rattle.cal_context.specs.Tree.{Grows, IsContext, Tree}
 use Rattle.cal_context.proofs.CallerLemmas.{Grows-refl}
 use Rattle.cal_filter.specs.Kept.{kept}
 use Rattle.cal_ql.specs.declared.query.Query.{Query}
 use Rattle.cal_rowset.specs.NumberedRows.{NumberedRow}
 use Rattle.cal_value.specs.declared.record.Rec.{Rec}
-use Rattle.cal_engine.specs.FoldGrows.{counters-Grows, grouped_in-Grows, keys-Grows, sieve-Grows}
+use Rattle.cal_engine.specs.FoldGrows.{counters-Grows, grouped_in-Grows}
+use Rattle.cal_keys.specs.KeysGrow.{keys-Grows, sieve-Grows}
 use Rattle.cal_engine.specs.Folding.{Gathers, groups_over}
-use Rattle.cal_engine.specs.Groups.{groups_of, records_of}
-use Rattle.cal_engine.specs.Keys.{IsKeyOf, key_in, nth_key, room_of}
-use Rattle.cal_engine.specs.Moves.{IsMovedKey}
+use Rattle.cal_keys.specs.Groups.{groups_of, records_of}
+use Rattle.cal_keys.specs.Keys.{IsKeyOf, key_in, nth_key, room_of}
+use Rattle.cal_keys.specs.Moves.{IsMovedKey}
 use Rattle.cal_engine.specs.Numbered.{AreGroups, GathersKey, Numbered, grouped_in}
-use Rattle.cal_engine.specs.Parts.{Gathered, parts_over}
+use Rattle.cal_parts.specs.Parts.{Gathered, parts_over}
 use Rattle.cal_engine.specs.Rows.{is_aggregated}
-use Rattle.cal_engine.specs.Sieves.{IsSieve, shares_at}
-use Rattle.cal_engine.specs.Takers.{taken_at}
-use Rattle.cal_engine.specs.SnapshotRows.{AreRows}
+use Rattle.cal_keys.specs.SnapshotRows.{AreRows}
 use Rattle.cal_engine.specs.Tallies.{Holds, IsTally}
-use Rattle.cal_engine.specs.declared.key.GroupKey.{GroupKey}
-use Rattle.cal_engine.specs.declared.sieve.Sieve.{Sieve}
+use Rattle.cal_keys.specs.declared.key.GroupKey.{GroupKey}
 use Rattle.cal_engine.specs.declared.tally.Tally.{Tally}
-use Rattle.cal_engine.proofs.KeyLemmas.{gathered_within, gathers_in}
-use Rattle.cal_engine.proofs.MovedKeys.{moved_key_is}
+use Rattle.cal_engine.proofs.GatheredKeys.{gathered_within, gathers_in}
+use Rattle.cal_keys.proofs.MovedKeys.{moved_key_is}
 use Rattle.cal_engine.proofs.Regroups.{groups_over-regrouped, regrouped, regrouped_more}
-use Rattle.cal_engine.proofs.ShareLemmas.{AreShares-Grows}
 use Rattle.cal_engine.proofs.Tallying.{room_by_name, room_by_nodes}
+use Rattle.cal_keys.proofs.SieveLemmas.{sieve_own}
 
 -- ---- the groups so far
 
@@ -115,15 +113,6 @@ InRoom room q rs y = AreGroups room q rs y.groups
 
 pub tally_groups : (t room : Tree) (q : Query) (rs : List Rec) (y : Tally) → room_of q.group t y.own ≡ room → IsTally t q rs y → InRoom room q rs y
 tally_groups t room q rs y is h = subst (λ r. InRoom r q rs y) is (record { keys = h.keys; groups = h.groups })
-
-pub sieve_own : (t : Tree) {own new : Tree} → Grows own new → (names : List (List ℕ)) (s : Sieve) → IsSieve t own names s → IsSieve t new names s
-sieve_own t grows names s h = record {
-  takers = h.takers;
-  shares = λ n l. let old = h.shares n l in record {
-    within = old.within;
-    are = AreShares-Grows grows (length names) (λ place. taken_at true names place (path_at t n)) (shares_at s n) old.are;
-  };
-}
 
 -- a tally with these groups in grown trees
 with_groups : (t u : Tree) → Grows t u → (q : Query) (rs more : List Rec) (y : Tally) (own : Tree) → Grows y.own own → (g : Numbered)

@@ -3,7 +3,7 @@ use Rattle.std.proofs.Common.{◌≡◌, Bool, true, false, not, ◌&&◌, ◌||
 use Rattle.std.specs.Cmp.{IsEquivalence}
 use Rattle.std.specs.List.{flat_map, list_any}
 use Rattle.std.proofs.lemmas.Grind.{common_steps}
-use Rattle.cal_engine.specs.FirstSeen.{firsts}
+use Rattle.cal_keys.specs.FirstSeen.{firsts}
 use Rattle.cal_engine.proofs.Firsts.{without, list_any-firsts}
 
 module _ {A : Type 0} (eq : A → A → Bool) where

@@ -21,7 +21,7 @@ use Rattle.std.specs.Fn.{Called, Mut}
 use Rattle.std.specs.Prelude.{option_and_then}
 use Rattle.std.proofs.Common.{Bor}
 use Rattle.std.proofs.lemmas.Fn.{always_returns_same}
-use Rattle.cal_engine.proofs.Drops.{drop_one, first_of_drop, rest_at}
+use Rattle.cal_parts.proofs.Drops.{drop_one, first_of_drop, rest_at}
 use Rattle.cal_engine.proofs.Sorts.{sorted-unique}
 
 -- ---- the order of values is total

@@ -9,13 +9,13 @@ use Rattle.std.proofs.lemmas.Map.Views.{Contains-from_any}
 use Rattle.indexmap.specs.IndexSet.{insert_key}
 use Rattle.cal_ql.specs.declared.query.Query.{Query}
 use Rattle.cal_value.specs.declared.record.Rec.{Rec}
-use Rattle.cal_engine.specs.FirstSeen.{firsts}
+use Rattle.cal_keys.specs.FirstSeen.{firsts}
 use Rattle.cal_engine.specs.Folding.{Gathers, Grouped, groups_over}
-use Rattle.cal_engine.specs.Groups.{group_of, groups_of, is_group, records_of}
-use Rattle.cal_engine.specs.Parts.{Gathered, merged_parts, parts_over}
+use Rattle.cal_keys.specs.Groups.{group_of, groups_of, is_group, records_of}
+use Rattle.cal_parts.specs.Parts.{Gathered, merged_parts, parts_over}
 use Rattle.cal_engine.proofs.Firsts.{firsts-Adds, firsts-push, list_any-firsts}
 use Rattle.cal_engine.proofs.Gathering.{group_laws, group_same, map_read, put_parts_end, put_parts_set}
-use Rattle.cal_engine.proofs.Merging.{parts_over-append}
+use Rattle.cal_parts.proofs.Merging.{parts_over-append}
 use Rattle.cal_engine.proofs.Partitions.{AreOnce, AreOnce-firsts}
 use Rattle.cal_engine.proofs.Places.{IsPlaced, map-push, map-slice_set, placed}
 

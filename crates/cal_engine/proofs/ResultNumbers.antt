@@ -7,32 +7,25 @@ use Rattle.std.proofs.lemmas.List.{map-append}
 use Rattle.cal_agg.specs.declared.num.Num.{Num}
 use Rattle.cal_context.specs.Snapshots.{entry_of}
 use Rattle.cal_context.specs.Tree.{Tree, Grows}
-use Rattle.cal_context.specs.declared.numbers.AttributeNumber.{AttributeNumber}
 use Rattle.cal_context.specs.declared.snapshot.Immediate.{Immediate}
-use Rattle.cal_context.proofs.CallerLemmas.{attribute_at-Grows, within_attributes}
 use Rattle.cal_filter.specs.Kept.{result_attribute, result_entry}
 use Rattle.cal_filter.specs.Numbers.{value_of_number}
-use Rattle.cal_filter.specs.Results.{IsNumbered}
 use Rattle.cal_filter.proofs.Zips.{zip_weaker}
 use Rattle.cal_ql.specs.declared.names.KernelName as kernels
 use Rattle.cal_ql.specs.declared.query.Agg.{Agg}
 use Rattle.cal_value.specs.Values.{kind_of}
 use Rattle.cal_value.specs.declared.attribute.Attribute.{Attribute}
 use Rattle.cal_value.specs.declared.variant.Variant.{Variant}
-use Rattle.cal_engine.specs.Finishing.{AreKept, Lists, TakesWhole, entries_of_results, entry_of_result}
-use Rattle.cal_engine.specs.Kernels.{contributed, result_of}
-use Rattle.cal_engine.specs.Parts.{Gathered, part_over}
+use Rattle.cal_engine.specs.Finishing.{AreKept, Lists, entries_of_results, entry_of_result}
+use Rattle.cal_parts.specs.Shown.{TakesWhole}
+use Rattle.cal_parts.specs.Kernels.{contributed, result_of}
+use Rattle.cal_parts.specs.Parts.{Gathered, part_over}
 use Rattle.cal_engine.specs.Results.{AddsResults, IsResultOf}
 use Rattle.cal_engine.specs.declared.kernel_results.ResultAttributes.{ResultAttributes}
 use Rattle.cal_engine.proofs.Results.{part_at, results_more, takes_whole}
+use Rattle.cal_keys.proofs.Reaching.{numbered-Grows}
 
 -- ---- they stay while the context grows
-
-pub numbered-Grows : {t u : Tree} → Grows t u → (a : Attribute) (n : AttributeNumber) → IsNumbered t a n → IsNumbered u a n
-numbered-Grows grows a n h = record {
-  within = within_attributes grows n.0 h.within;
-  is = attribute_at-Grows grows n h.within ∙ h.is;
-}
 
 result-Grows : {t u : Tree} → Grows t u → (agg : Agg) (a : ResultAttributes) → IsResultOf t agg a → IsResultOf u agg a
 result-Grows grows agg a h = record {

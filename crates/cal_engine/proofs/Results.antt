@@ -1,11 +1,9 @@
 -- What the results of a group are made of.
 use Rattle.std.proofs.Common.{◌≡◌, ℕ, zero, suc, ◌+◌, ◌<◌, Bool, true, false, List, [], ◌∷◌, ◌++◌, Option, None, Some, if◌then◌else◌, length, map, take, filter, get_or, refl, sym, ap, ◌∙◌, arith, slice_get, append_assoc}
-use Rattle.std.specs.Prelude.{ℤ, ◌+ℤ◌, codes, option_and_then, option_map, unwrap_or, pos}
+use Rattle.std.specs.Prelude.{codes, option_and_then, unwrap_or, pos}
 use Rattle.std.specs.List.{cons_option, filter_map, flat_map, last_or}
 use Rattle.std.specs.Option.{option_to_list}
-use Rattle.std.proofs.Math.IntN.{+ℤ_idr}
-use Rattle.cal_agg.specs.Numbers.{is_fixed, measure, number, some_fixed}
-use Rattle.cal_agg.specs.Results.{both, count_of, kept, sum_of, together}
+use Rattle.cal_agg.specs.Numbers.{is_fixed, some_fixed}
 use Rattle.cal_agg.specs.declared.num.Num.{Num}
 use Rattle.cal_agg.specs.declared.num.Num.TheVariants.{Whole, Fixed}
 use Rattle.cal_filter.specs.Named.{is_named}
@@ -16,10 +14,11 @@ use Rattle.cal_ql.specs.declared.query.Agg.{Agg}
 use Rattle.cal_value.specs.Flat.{flat}
 use Rattle.cal_value.specs.declared.attribute.Entry.{Entry}
 use Rattle.cal_value.specs.declared.record.Rec.{Rec}
-use Rattle.cal_engine.specs.Finishing.{Lists, TakesWhole, entries_of_results, entry_of_result, parts_where}
-use Rattle.cal_engine.specs.Kernels.{contributed, contributions, last_whole, number_sought, weight}
-use Rattle.cal_engine.specs.Parts.{Gathered, part_over, parts_over}
-use Rattle.cal_engine.proofs.Drops.{filter_map_more}
+use Rattle.cal_engine.specs.Finishing.{Lists, entries_of_results, entry_of_result, parts_where}
+use Rattle.cal_parts.specs.Shown.{TakesWhole}
+use Rattle.cal_parts.specs.Kernels.{contributed, contributions, last_whole, number_sought, weight}
+use Rattle.cal_parts.specs.Parts.{Gathered, part_over, parts_over}
+use Rattle.cal_parts.proofs.Drops.{filter_map_more}
 
 -- ---- only whole numbers contribute to `count`
 
@@ -102,24 +101,3 @@ parts_where-map test f (key ∷ keys) = by (test key) refl (parts_where-map test
         → parts_where test (key ∷ keys) (map f (key ∷ keys)) ≡ map f (filter test (key ∷ keys))
     by true e rest = rw e (ap (λ ps. f key ∷ ps) rest)
     by false e rest = rw e rest
-
--- ---- a sum of whole numbers is their count
-
-together_counts : (ns : List Num) → unwrap_or (together ◌+ℤ◌ (map number ns)) (pos 0) ≡ count_of ns
-together_counts [] = refl
-together_counts (n ∷ ns) = by (together ◌+ℤ◌ (map number ns)) (together_counts ns)
-  where
-    by : (t : Option ℤ) → unwrap_or t (pos 0) ≡ count_of ns
-        → unwrap_or (both ◌+ℤ◌ (Some (number n)) t) (pos 0) ≡ number n +ℤ count_of ns
-    by None h = sym (+ℤ_idr (number n)) ∙ ap (λ z. number n +ℤ z) h
-    by (Some y) h = ap (λ z. number n +ℤ z) h
-
-whole_kept : (t : Option ℤ) → unwrap_or (option_and_then kept (option_map Whole t)) (Whole (pos 0)) ≡ Whole (unwrap_or t (pos 0))
-whole_kept None = refl
-whole_kept (Some z) = refl
-
-pub count_is : (ns : List Num) → some_fixed ns ≡ false → unwrap_or (sum_of ns) (Whole (pos 0)) ≡ Whole (count_of ns)
-count_is ns whole =
-    ap (λ b. unwrap_or (option_and_then kept (if b then option_map Fixed (together ◌+ℤ◌ (map measure ns)) else option_map Whole (together ◌+ℤ◌ (map number ns)))) (Whole (pos 0))) whole
-    ∙ whole_kept (together ◌+ℤ◌ (map number ns))
-    ∙ ap Whole (together_counts ns)

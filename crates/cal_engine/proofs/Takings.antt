@@ -1,18 +1,8 @@
 -- What names of GROUP BY take, name by name.
 use Rattle.std.proofs.Common.{◌≡◌, ◌≢◌, ℕ, suc, ◌+◌, ◌<◌, Bool, not, List, [], ◌∷◌, ◌++◌, filter, length, drop, get_or, refl, sym, ap, ◌∙◌, arith, add-one, append_assoc, drop-cons}
-use Rattle.std.specs.Cmp.Lexicographic.{bytes_decides, pointwise}
-use Rattle.std.specs.Ordering.{eq_by_cmp}
-use Rattle.std.specs.Prelude.{nat_eq}
-use Rattle.std.proofs.lemmas.Bool.Decides.{same_from_decides}
-use Rattle.cal_value.specs.ExactOrder.{exact_decides, text_exact}
 use Rattle.cal_value.specs.Flat.{joined}
-use Rattle.cal_value.specs.Texts.{text_cmp}
 use Rattle.cal_value.specs.declared.attribute.Entry.{Entry}
-use Rattle.cal_engine.specs.Groups.{has_entries, taken, takes}
-
--- both tests of texts answer whether they are the same
-pub same_texts : (a b : List ℕ) → pointwise nat_eq a b ≡ eq_by_cmp text_cmp a b
-same_texts a b = same_from_decides (pointwise nat_eq a b) (eq_by_cmp text_cmp a b) (bytes_decides a b) (exact_decides text_exact a b)
+use Rattle.cal_keys.specs.Groups.{has_entries, taken, takes}
 
 -- the next name takes what it takes, and leaves the others to those behind it
 pub taken_next : (in_path : Bool) (names : List (List ℕ)) (n : ℕ) (name : List ℕ) (left : List Entry)

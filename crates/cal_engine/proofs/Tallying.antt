@@ -12,25 +12,27 @@ use Rattle.cal_filter.specs.Known.{Covers}
 use Rattle.cal_ql.specs.declared.query.Query.{Query}
 use Rattle.cal_rowset.specs.NumberedRows.{IsWithin, NumberedRow, meant, numbered}
 use Rattle.cal_value.specs.declared.record.Rec.{Rec}
-use Rattle.cal_engine.specs.Counters.{AreReadyCounters}
+use Rattle.cal_parts.specs.Counters.{AreReadyCounters}
 use Rattle.cal_engine.specs.Folding.{Gathers, groups_over}
-use Rattle.cal_engine.specs.Groups.{group_of, groups_of}
-use Rattle.cal_engine.specs.Keys.{IsKeyIn, IsKeyOf, key_in, names_in, room_of}
+use Rattle.cal_keys.specs.Groups.{group_of, groups_of}
+use Rattle.cal_keys.specs.Keys.{IsKeyIn, IsKeyOf, key_in, names_in, room_of}
 use Rattle.cal_engine.specs.Numbered.{AreGroups, GathersKey, Numbered, grouped_in}
-use Rattle.cal_engine.specs.Parts.{Gathered, parts_over}
-use Rattle.cal_engine.specs.Readings.{parts_of, reading_of}
+use Rattle.cal_parts.specs.Parts.{Gathered, parts_over}
+use Rattle.cal_parts.specs.Readings.{parts_of, reading_of}
 use Rattle.cal_engine.specs.Rows.{is_aggregated, row_of, rows_of}
-use Rattle.cal_engine.specs.Sieves.{IsReadySieve, IsSieve}
-use Rattle.cal_engine.specs.SnapshotRows.{AreRows}
+use Rattle.cal_keys.specs.Sieves.{IsReadySieve, IsSieve}
+use Rattle.cal_keys.specs.SnapshotRows.{AreRows}
 use Rattle.cal_engine.specs.Tallies.{AllKnowSoMany, Holds, HoldsIn, IsReadyTally, IsTally}
-use Rattle.cal_engine.specs.declared.key.GroupKey.{GroupKey}
-use Rattle.cal_engine.specs.declared.sieve.Sieve.{Sieve}
+use Rattle.cal_keys.specs.declared.key.GroupKey.{GroupKey}
+use Rattle.cal_keys.specs.declared.sieve.Sieve.{Sieve}
 use Rattle.cal_engine.specs.declared.tally.Tally.{Tally}
-use Rattle.cal_engine.specs.FoldGrows.{grouped_in-Grows, keys-Grows, room_grows}
-use Rattle.cal_engine.proofs.Counting.{counters_counted, counters_covered, ready_counters}
+use Rattle.cal_engine.specs.FoldGrows.{grouped_in-Grows}
+use Rattle.cal_keys.specs.KeysGrow.{keys-Grows, room_grows}
+use Rattle.cal_parts.proofs.Counting.{counters_counted, counters_covered, ready_counters}
 use Rattle.cal_engine.proofs.Folds.{parts_of_one}
 use Rattle.cal_engine.proofs.Gathering.{groups_over-Gathers}
-use Rattle.cal_engine.proofs.KeyLemmas.{gathered_within, gathers_in, room_context}
+use Rattle.cal_engine.proofs.GatheredKeys.{gathered_within, gathers_in}
+use Rattle.cal_keys.proofs.KeyLemmas.{room_context}
 
 pub tallied : (t : Tree) (q : Query) (rs : List Rec) (r : Rec) (old new : Tally) (parts : List Gathered) (key : GroupKey)
     → IsContext t → IsContext new.own → Grows old.own new.own → AreReadyCounters t (map reading_of q.aggs) new.counters

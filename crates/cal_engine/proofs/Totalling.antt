@@ -7,10 +7,11 @@ use Rattle.cal_context.proofs.ListLemmas.{map-alike}
 use Rattle.cal_value.specs.declared.attribute.Entry.{Entry}
 use Rattle.cal_value.specs.declared.record.Rec.{Rec}
 use Rattle.cal_engine.specs.Finishing.{parts_where}
-use Rattle.cal_engine.specs.Parts.{Gathered, merged_parts}
+use Rattle.cal_parts.specs.Parts.{Gathered, merged_parts}
 use Rattle.cal_engine.specs.Rows.{is_below}
-use Rattle.cal_engine.specs.Totals.{AreTotals, AreWays, AreWaysBehind, IsAddedAbove}
-use Rattle.cal_engine.specs.Trails.{begins, trail}
+use Rattle.cal_engine.specs.Totals.{AreTotals, IsAddedAbove}
+use Rattle.cal_keys.specs.Leading.{AreWays, AreWaysBehind}
+use Rattle.cal_keys.specs.Trails.{begins, trail}
 use Rattle.cal_engine.proofs.Trails.{begins-behind, begins-trail}
 
 -- ---- parts of those that pass a test

@@ -8,9 +8,8 @@ use Rattle.cal_value.specs.ExactOrder.{exact_decides, lists_decides, lists_exact
 use Rattle.cal_value.specs.OrderLaws.{entry_exact}
 use Rattle.cal_value.specs.declared.attribute.Entry.{Entry}
 use Rattle.cal_value.specs.declared.record.Rec.{Rec}
-use Rattle.cal_engine.specs.Rows as rows
 use Rattle.cal_engine.specs.Rows.{is_below}
-use Rattle.cal_engine.specs.Trails.{begins, mark, trail}
+use Rattle.cal_keys.specs.Trails.{begins, beside, mark, trail}
 
 module _ {A : Type 0} where
   split_equal : (xs us ys vs : List A) → length xs ≡ length us → xs ++ ys ≡ us ++ vs → (xs ≡ us) × (ys ≡ vs)
@@ -61,13 +60,13 @@ begins_decides front path =
 -- what it means that a group lies below another
 record LiesBelow (other group : Rec) : Type 0 where
   hierarchies : IsFront (whole.hierarchy other) (whole.hierarchy group)
-  besides : rows.beside group ≡ rows.beside other
+  besides : beside group ≡ beside other
   immediates : group.imms ≡ other.imms
 
 below_decides : (other group : Rec) → Decides (is_below other group) (LiesBelow other group)
 below_decides other group =
     let a = begins_decides (whole.hierarchy other) (whole.hierarchy group) in
-    let b = exact_decides (lists_exact entry_exact) (rows.beside group) (rows.beside other) in
+    let b = exact_decides (lists_exact entry_exact) (beside group) (beside other) in
     let c = exact_decides (lists_exact entry_exact) group.imms other.imms in
     Decides-like (is_below other group)
     (λ h. record { hierarchies = h.0.0; besides = h.0.1; immediates = h.1 })
@@ -77,7 +76,7 @@ below_decides other group =
 lies_from_front : (other group : Rec) → IsFront (trail other) (trail group) → LiesBelow other group
 lies_from_front other group f =
     let e = f.1 in
-    let bg = rows.beside group in let bo = rows.beside other in
+    let bg = beside group in let bo = beside other in
     let hg = whole.hierarchy group in let ho = whole.hierarchy other in
     let first : mark (length bg) ≡ mark (length bo) = cc in
     let second : mark (length group.imms) ≡ mark (length other.imms) = cc in
@@ -93,7 +92,7 @@ lies_from_front other group f =
 
 front_from_lies : (other group : Rec) → LiesBelow other group → IsFront (trail other) (trail group)
 front_from_lies other group h =
-    let bo = rows.beside other in
+    let bo = beside other in
     let ho = whole.hierarchy other in (
       h.hierarchies.0,
       (λ i. mark (length (h.besides i)) ∷ mark (length (h.immediates i)) ∷ (h.besides i ++ (h.immediates i ++ h.hierarchies.1 i)))

@@ -10,7 +10,7 @@ use Rattle.cal_rowset.specs.Texts.{first_seen}
 use Rattle.cal_rowset.specs.declared.rowset.Column.{Column}
 use Rattle.cal_rowset.specs.declared.rowset.Rowset.{Rowset}
 use Rattle.cal_value.specs.declared.record.Rec.{Rec}
-use Rattle.cal_engine.specs.Groups.{has_entries}
+use Rattle.cal_keys.specs.Groups.{has_entries}
 use Rattle.cal_engine.specs.Rows.{rows_of}
 use Rattle.cal_engine.specs.Sorting.{sorted_rows}
 

@@ -1,9 +1,7 @@
 -- What the parts of a fold come to.
 use Rattle.std.specs.Prelude.{◌≡◌, Bool, true, false, List, [], ◌∷◌, ◌++◌, Option}
-use Rattle.std.specs.Prelude.{map, option_map, if◌then◌else◌, ⊤}
+use Rattle.std.specs.Prelude.{map, option_map, if◌then◌else◌}
 use Rattle.std.specs.List.{filter_map}
-use Rattle.cal_agg.specs.Numbers.{some_fixed}
-use Rattle.cal_agg.specs.declared.num.Num.{Num}
 use Rattle.cal_filter.specs.Kept.{result_entry}
 use Rattle.cal_filter.specs.Numbers.{value_of_number}
 use Rattle.cal_ql.specs.declared.names.KernelName as kernels
@@ -11,13 +9,8 @@ use Rattle.cal_ql.specs.declared.names.KernelName.TheVariants as kernel
 use Rattle.cal_ql.specs.declared.query.Agg.{Agg}
 use Rattle.cal_value.specs.declared.attribute.Entry.{Entry}
 use Rattle.cal_value.specs.declared.record.Rec.{Rec}
-use Rattle.cal_engine.specs.Kernels.{contributed, result_of}
-use Rattle.cal_engine.specs.Parts.{Gathered, part_over, parts_over}
-
--- only whole numbers contribute to `count`
-abbrev pub TakesWhole : kernels.KernelName → List Num → Type 0
-TakesWhole kernel.Count ns = some_fixed ns ≡ false
-TakesWhole _ ns = ⊤
+use Rattle.cal_parts.specs.Kernels.{contributed, result_of}
+use Rattle.cal_parts.specs.Parts.{Gathered, parts_over}
 
 -- `inclusive_sum` alone looks at the groups below a group
 abbrev pub is_inclusive : kernels.KernelName → Bool
@@ -29,14 +22,6 @@ abbrev pub looks_beyond : kernels.KernelName → Bool
 looks_beyond kernel.Inclusive = true
 looks_beyond kernel.Percent = true
 looks_beyond _ = false
-
--- the parts of a kernel over a group's numbers, over all numbers, and over those below
-pub record ArePartsOf (k : kernels.KernelName) (ns ms bs : List Num)
-    (one other third : Gathered) : Type 0 where
-  pub own : one ≡ part_over k ns
-  pub all : other ≡ part_over k ms
-  pub below : third ≡ part_over k bs
-  pub whole : TakesWhole k ns
 
 -- the records of a group, all records, and those below the group
 pub record Lists : Type 0 where

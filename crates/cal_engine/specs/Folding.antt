@@ -1,13 +1,14 @@
 -- What a fold holds of the records that were added to it.
-use Rattle.std.specs.Prelude.{◌≡◌, ℕ, suc, zero, List, [], ◌∷◌, map, if◌then◌else◌}
+use Rattle.std.specs.Prelude.{◌≡◌, ℕ, List, [], map, if◌then◌else◌}
 use Rattle.std.specs.List.{filter_map}
 use Rattle.cal_context.specs.Lists.{AreApart, Interns}
 use Rattle.cal_filter.specs.Kept.{kept}
 use Rattle.cal_ql.specs.declared.query.Query.{Query}
 use Rattle.cal_value.specs.declared.record.Rec.{Rec}
-use Rattle.cal_engine.specs.Groups.{groups_of, records_of}
-use Rattle.cal_engine.specs.Parts.{Gathered, merged_parts, parts_over}
+use Rattle.cal_keys.specs.Groups.{groups_of, records_of}
+use Rattle.cal_parts.specs.Parts.{Gathered, parts_over}
 use Rattle.cal_engine.specs.Rows.{is_aggregated}
+use Rattle.cal_parts.specs.PartLists.{put_parts}
 
 -- groups by their numbers, and what is kept of each one's records
 pub record Grouped : Type 0 where
@@ -23,12 +24,6 @@ groups_over q rs = record {
   keys = groups_of q.group rs;
   parts = map (λ group. parts_over q.aggs (records_of q.group group rs)) (groups_of q.group rs);
 }
-
--- what is kept of a group gets more behind it; a new group's stands at the end
-abbrev pub put_parts : List (List Gathered) → ℕ → List Gathered → List (List Gathered)
-put_parts [] number fresh = fresh ∷ []
-put_parts (parts ∷ rest) zero fresh = merged_parts parts fresh ∷ rest
-put_parts (parts ∷ rest) (suc number) fresh = parts ∷ put_parts rest number fresh
 
 -- Something goes to its group, which is added where it is new.
 pub record Gathers (old : Grouped) (key : Rec) (fresh : List Gathered) (new : Grouped)

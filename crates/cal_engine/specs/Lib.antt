@@ -1,10 +1,3 @@
-pub mod FirstSeen
-pub mod Groups
-pub mod Kernels
-pub mod KeyTables
-pub mod Parts
-pub mod PartLists
-pub mod Readings
 pub mod Sorting
 pub mod Ranks
 pub mod Rows
@@ -12,17 +5,9 @@ pub mod Answers
 pub mod Folding
 pub mod Learning
 pub mod Visiting
-pub mod Trails
 pub mod Totals
 pub mod Finishing
-pub mod Takers
-pub mod Shares
-pub mod TakenImms
-pub mod Sieves
-pub mod Keys
 pub mod Numbered
-pub mod Counters
-pub mod SnapshotRows
 pub mod Tallies
 pub mod Looked
 pub mod Gates
@@ -30,7 +15,4 @@ pub mod Standing
 pub mod FoldGrows
 pub mod Results
 pub mod SnapshotRanks
-pub mod Moves
-pub mod NodePlaces
-pub mod OwnWays
 pub mod Making

@@ -13,11 +13,11 @@ use Rattle.cal_rowset.specs.Texts.{is_same}
 use Rattle.cal_value.specs.Texts.{text_cmp}
 use Rattle.cal_value.specs.declared.attribute.Attribute.{Attribute}
 use Rattle.cal_value.specs.declared.record.Rec.{Rec}
-use Rattle.cal_engine.specs.Keys.{names_in}
-use Rattle.cal_engine.specs.Readings.{reading_of}
+use Rattle.cal_keys.specs.Keys.{names_in}
+use Rattle.cal_parts.specs.Readings.{reading_of}
 use Rattle.cal_engine.specs.Rows.{is_aggregated}
 use Rattle.cal_engine.specs.declared.looked.Looked.{Looked}
-use Rattle.cal_engine.specs.declared.reading.Reading.{Reading}
+use Rattle.cal_parts.specs.declared.reading.Reading.{Reading}
 
 abbrev pub has_name : List ℕ → Attribute → Bool
 has_name name a = eq_by_cmp text_cmp a.name name

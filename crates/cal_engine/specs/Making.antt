@@ -7,17 +7,17 @@ use Rattle.cal_ql.specs.declared.query.Agg.{Agg}
 use Rattle.cal_ql.specs.declared.query.Query.{Query}
 use Rattle.cal_value.specs.declared.record.Rec.{Rec}
 use Rattle.cal_engine.specs.Finishing.{AreGroupParts, GroupLists, rows_by}
-use Rattle.cal_engine.specs.Groups.{groups_of}
-use Rattle.cal_engine.specs.Keys.{IsKeyIn, key_in}
-use Rattle.cal_engine.specs.Moves.{AreMovedAttributes, AreMovedNodes}
+use Rattle.cal_keys.specs.Groups.{groups_of}
+use Rattle.cal_keys.specs.Keys.{IsKeyIn, key_in}
 use Rattle.cal_engine.specs.Numbered.{Numbered}
-use Rattle.cal_engine.specs.Parts.{Gathered}
+use Rattle.cal_parts.specs.Parts.{Gathered}
 use Rattle.cal_engine.specs.Results.{IsResultOf}
 use Rattle.cal_engine.specs.Rows.{row_of}
 use Rattle.cal_engine.specs.declared.grouped_rows.GroupedRows.{GroupedRows}
-use Rattle.cal_engine.specs.declared.key.GroupKey.{GroupKey}
-use Rattle.cal_engine.specs.declared.moving.Moved.{Moved}
+use Rattle.cal_keys.specs.declared.key.GroupKey.{GroupKey}
+use Rattle.cal_keys.specs.declared.moving.Moved.{Moved}
 use Rattle.cal_engine.specs.declared.other_parts.OtherParts.{OtherParts}
+use Rattle.cal_keys.specs.Moves.{IsMoved}
 
 -- the parts below each group; their own where no kernel looks below
 abbrev pub below_of : OtherParts → List (List Gathered) → List (List Gathered)
@@ -30,11 +30,6 @@ pub record AreOthers (room : Tree) (q : Query) (rs : List Rec) (g : Numbered) (a
   pub parts : AreGroupParts q.aggs lists (map (key_in room) g.keys) g.parts all below
   pub rows : rows_by q.aggs lists (map (key_in room) g.keys)
       ≡ map (row_of q rs) (groups_of q.group rs)
-
--- what was put of a context into another
-pub record IsMoved (t : Tree) (m : Moved) : Type 0 where
-  pub attributes : AreMovedAttributes m.from t m.attributes.items
-  pub nodes : AreMovedNodes m.from t m.nodes.items
 
 abbrev pub AreMoved : Tree → Option Moved → Type 0
 AreMoved t None = ⊤

@@ -5,10 +5,11 @@ use Rattle.cal_context.specs.Lists.{AreApart, Interns}
 use Rattle.cal_context.specs.Tree.{Tree}
 use Rattle.cal_ql.specs.declared.query.Query.{Query}
 use Rattle.cal_value.specs.declared.record.Rec.{Rec}
-use Rattle.cal_engine.specs.Folding.{Grouped, groups_over, put_parts}
-use Rattle.cal_engine.specs.Keys.{IsKeyIn, key_in}
-use Rattle.cal_engine.specs.Parts.{Gathered}
-use Rattle.cal_engine.specs.declared.key.GroupKey.{GroupKey}
+use Rattle.cal_engine.specs.Folding.{Grouped, groups_over}
+use Rattle.cal_parts.specs.PartLists.{put_parts}
+use Rattle.cal_keys.specs.Keys.{IsKeyIn, key_in}
+use Rattle.cal_parts.specs.Parts.{Gathered}
+use Rattle.cal_keys.specs.declared.key.GroupKey.{GroupKey}
 
 pub record Numbered : Type 0 where
   pub keys : List GroupKey

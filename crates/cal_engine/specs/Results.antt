@@ -1,21 +1,17 @@
--- The results of kernels as immediates of a context, and whole ones as they are held.
-use Rattle.std.specs.Prelude.{◌≡◌, ℕ, ℤ, Bool, true, false, List, ◌++◌, map, Option, Some}
+-- The results of kernels as immediates of a context.
+use Rattle.std.specs.Prelude.{◌≡◌, ℕ, List, ◌++◌, map, Some}
 use Rattle.std.specs.Prelude.{slice_get}
-use Rattle.cal_agg.specs.declared.num.Num.{Num}
-use Rattle.cal_agg.specs.declared.num.Num.TheVariants.{Whole}
 use Rattle.cal_context.specs.Snapshots.{entry_of}
 use Rattle.cal_context.specs.Tree.{Tree}
 use Rattle.cal_context.specs.declared.snapshot.Immediate.{Immediate}
 use Rattle.cal_filter.specs.Kept.{result_attribute}
 use Rattle.cal_filter.specs.Results.{IsNumbered}
-use Rattle.cal_ql.specs.declared.names.KernelName as kernels
-use Rattle.cal_ql.specs.declared.names.KernelName.TheVariants as kernel_name
 use Rattle.cal_ql.specs.declared.query.Agg.{Agg}
 use Rattle.cal_value.specs.declared.attribute.Entry.{Entry}
 use Rattle.cal_value.specs.declared.kind.Kind.TheVariants as kind
-use Rattle.cal_engine.specs.Finishing.{Lists, TakesWhole}
-use Rattle.cal_engine.specs.Kernels.{contributed, result_of}
-use Rattle.cal_engine.specs.Parts.{Gathered, part_over}
+use Rattle.cal_engine.specs.Finishing.{Lists}
+use Rattle.cal_parts.specs.Kernels.{contributed}
+use Rattle.cal_parts.specs.Parts.{Gathered, part_over}
 use Rattle.cal_engine.specs.declared.kernel_results.ResultAttributes.{ResultAttributes}
 
 -- the attributes that a kernel's results have, by the kinds of numbers
@@ -27,19 +23,6 @@ pub record IsResultOf (t : Tree) (agg : Agg) (a : ResultAttributes) : Type 0 whe
 -- immediates that mean these entries were added
 abbrev pub AddsResults : Tree → List Entry → List Immediate → List Immediate → Type 0
 AddsResults t entries old new = map (entry_of t) new ≡ map (entry_of t) old ++ entries
-
--- a kernel's result is what is held of the group's own numbers, where they are whole
-abbrev pub shows_held : kernels.KernelName → Bool
-shows_held kernel_name.Count = true
-shows_held kernel_name.Sum = true
-shows_held kernel_name.Min = true
-shows_held kernel_name.Max = true
-shows_held _ = false
-
--- of what is kept of a group a kernel comes to this whole number, whatever other groups there are
-abbrev pub ComesTo : kernels.KernelName → Option Gathered → ℤ → Type 0
-ComesTo k own n = (ns ms bs : List Num) → own ≡ Some (part_over k ns) → TakesWhole k ns
-    → result_of k ns ms bs ≡ Some (Whole n)
 
 -- the parts of the kernel at a place
 pub record AreKeptAt (agg : Agg) (lists : Lists) (place : ℕ) (one other third : List Gathered)

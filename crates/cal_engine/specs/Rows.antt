@@ -8,17 +8,13 @@ use Rattle.cal_filter.specs.Kept.{result_entry}
 use Rattle.cal_filter.specs.Numbers.{value_of_number}
 use Rattle.cal_ql.specs.declared.query.Agg.{Agg}
 use Rattle.cal_ql.specs.declared.query.Query.{Query}
-use Rattle.cal_rowset.specs.Hierarchy.{hierarchy, is_of_hierarchy}
-use Rattle.cal_value.specs.Flat.{joined}
+use Rattle.cal_rowset.specs.Hierarchy.{hierarchy}
 use Rattle.cal_value.specs.Order.{entry_cmp, path_cmp}
 use Rattle.cal_value.specs.declared.attribute.Entry.{Entry}
 use Rattle.cal_value.specs.declared.record.Rec.{Rec}
-use Rattle.cal_engine.specs.Groups.{group_of, groups_of, records_of}
-use Rattle.cal_engine.specs.Kernels.{contributed, result_of}
-
--- the entries of a record's paths that aren't of the hierarchy, as one list
-abbrev pub beside : Rec → List Entry
-beside r = filter (λ e. not (is_of_hierarchy e.attr)) (joined r.paths)
+use Rattle.cal_keys.specs.Groups.{group_of, groups_of, records_of}
+use Rattle.cal_parts.specs.Kernels.{contributed, result_of}
+use Rattle.cal_keys.specs.Trails.{beside}
 
 -- Whether a group lies at or below another: its hierarchy begins with the other's, and its other
 -- entries, those in paths and those in immediates, are the other's (Giltmoth's rule).

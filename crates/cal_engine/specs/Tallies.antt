@@ -7,16 +7,16 @@ use Rattle.cal_filter.specs.declared.counts.Counts.{Counts}
 use Rattle.cal_ql.specs.declared.query.Query.{Query}
 use Rattle.cal_rowset.specs.NumberedRows.{NumberedRow}
 use Rattle.cal_value.specs.declared.record.Rec.{Rec}
-use Rattle.cal_engine.specs.Counters.{AreCounters, AreReadyCounters}
+use Rattle.cal_parts.specs.Counters.{AreCounters, AreReadyCounters}
 use Rattle.cal_engine.specs.Folding.{groups_over}
-use Rattle.cal_engine.specs.Keys.{IsKeyIn, names_in, room_of}
+use Rattle.cal_keys.specs.Keys.{IsKeyIn, names_in, room_of}
 use Rattle.cal_engine.specs.Numbered.{AreGroups, Numbered, grouped_in}
-use Rattle.cal_engine.specs.Readings.{reading_of}
+use Rattle.cal_parts.specs.Readings.{reading_of}
 use Rattle.cal_engine.specs.Rows.{is_aggregated}
-use Rattle.cal_engine.specs.Sieves.{IsReadySieve, IsSieve, SiftsSoMany}
-use Rattle.cal_engine.specs.SnapshotRows.{AreRows}
-use Rattle.cal_engine.specs.declared.counters.Counters.{Counters}
-use Rattle.cal_engine.specs.declared.sieve.Sieve.{Sieve}
+use Rattle.cal_keys.specs.Sieves.{IsReadySieve, IsSieve, SiftsSoMany}
+use Rattle.cal_keys.specs.SnapshotRows.{AreRows}
+use Rattle.cal_parts.specs.declared.counters.Counters.{Counters}
+use Rattle.cal_keys.specs.declared.sieve.Sieve.{Sieve}
 use Rattle.cal_engine.specs.declared.tally.Tally.{Tally}
 
 -- all that counters seek by, and the sieve, know at least so many attributes and nodes

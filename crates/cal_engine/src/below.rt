@@ -3,18 +3,16 @@ ghost use Rattle.std.specs.Prelude.{slice_index_or, All, IfOk};
 ghost use Rattle.cal_value.specs.declared.attribute.Entry.{Entry as AnEntry};
 ghost use Rattle.cal_value.specs.declared.record.Rec.{Rec as ARecord};
 ghost use Rattle.cal_engine.specs.Finishing.{parts_where};
-ghost use Rattle.cal_engine.specs.Keys.{key_in};
-ghost use Rattle.cal_engine.specs.Parts.{merged_parts as merged_by_place};
+ghost use Rattle.cal_keys.specs.Keys.{key_in};
+ghost use Rattle.cal_parts.specs.Parts.{merged_parts as merged_by_place};
 ghost use Rattle.cal_engine.specs.Rows.{is_below};
-ghost use Rattle.cal_engine.specs.Totals.{AreTotals, AreWaysBehind};
+ghost use Rattle.cal_engine.specs.Totals.{AreTotals};
+ghost use Rattle.cal_keys.specs.Leading.{AreWaysBehind};
 
-use crate::key_table::KeyTable;
-use crate::own_ways::own_ways;
-use crate::part::Part;
-use crate::part_table::PartTable;
 use crate::upwards::add_upwards;
-use crate::ways::{ways_to, ways_to_keys};
 use cal_context::{Context, NodeNumber};
+use cal_keys::{KeyTable, own_ways, ways_to, ways_to_keys};
+use cal_parts::{Part, PartTable};
 use cal_value::{OutOfMemory, Rec, Seq, TryCopy};
 use std::alloc::Global;
 

@@ -5,7 +5,7 @@ ghost use Rattle.cal_rowset.specs.Hierarchy.{hierarchy, is_of_hierarchy as is_ne
 ghost use Rattle.cal_rowset.specs.Hierarchy.{other_entries};
 ghost use Rattle.cal_engine.specs.Answers.{columns_of as columns_by, plain_column};
 ghost use Rattle.cal_engine.specs.Answers.{shown_names};
-ghost use Rattle.cal_engine.specs.Groups.{has_entries};
+ghost use Rattle.cal_keys.specs.Groups.{has_entries};
 ghost use Rattle.cal_engine.specs.Learning.{learned, learned_one, names_beside};
 
 use cal_ql::{Agg, Item, Query};

@@ -10,8 +10,8 @@ use crate::columns::columns_of;
 use crate::filtering::made;
 use crate::grouping::group_of;
 use crate::groups::Groups;
-use crate::reading::{Reading, parts_of, readings_of};
 use crate::sorting::sorted_rows;
+use cal_parts::{Reading, parts_of, readings_of};
 use cal_ql::Query;
 use cal_rowset::Rowset;
 use cal_value::{OutOfMemory, Rec, Records, Seq, TryCopy};
@@ -34,7 +34,7 @@ impl Model for Fold {
     ghost use Rattle.std.specs.Prelude.{◌≡◌, map};
     ghost use Rattle.cal_ql.specs.Valid.{IsValidQuery};
     ghost use Rattle.cal_engine.specs.Folding.{Folded};
-    ghost use Rattle.cal_engine.specs.Readings.{reading_of};
+    ghost use Rattle.cal_parts.specs.Readings.{reading_of};
 
     ghost Value = { Folded };
 

@@ -1,7 +1,7 @@
 ghost use Rattle.std.specs.Prelude.{◌≡◌, not, filter, codes, IfOk, true, false};
 ghost use Rattle.cal_value.specs.Flat.{joined};
-ghost use Rattle.cal_engine.specs.Groups.{group_of as group_by, has_entries, taken};
-ghost use Rattle.cal_engine.specs.Groups.{takes as name_takes, takes_attribute};
+ghost use Rattle.cal_keys.specs.Groups.{group_of as group_by, has_entries, taken};
+ghost use Rattle.cal_keys.specs.Groups.{takes as name_takes, takes_attribute};
 
 use cal_rowset::is_of_hierarchy;
 use cal_value::{Attribute, Entry, OutOfMemory, Rec, Seq, Text};

@@ -1,16 +1,16 @@
 ghost use Rattle.std.specs.Prelude.{◌≡◌, ◌≤◌, ◌++◌, List, fold, length, map, IfOk, OnOk, OnErr};
 ghost use Rattle.cal_ql.specs.declared.query.Query.{Query as AQuery};
 ghost use Rattle.cal_value.specs.declared.record.Rec.{Rec as ARecord};
-ghost use Rattle.cal_engine.specs.Groups.{groups_of};
+ghost use Rattle.cal_keys.specs.Groups.{groups_of};
 ghost use Rattle.cal_engine.specs.Rows.{row_of as row_by};
-ghost use Rattle.cal_engine.specs.Folding.{groups_over, no_groups, put_parts, Gathers};
+ghost use Rattle.cal_engine.specs.Folding.{groups_over, no_groups, Gathers};
+ghost use Rattle.cal_parts.specs.PartLists.{put_parts};
 ghost use Rattle.std.specs.Option.{option_copied};
-ghost use Rattle.cal_engine.specs.Parts.{behind, merged_parts as merged_by_place};
+ghost use Rattle.cal_parts.specs.Parts.{behind, merged_parts as merged_by_place};
 
 use crate::finishing::group_rows;
-use crate::part::Part;
-use crate::part_table::PartTable;
 use cal_context::Interner;
+use cal_parts::{Part, PartTable};
 use cal_ql::Query;
 use cal_value::{OutOfMemory, Rec, Seq, TryCopy};
 use std::alloc::Global;

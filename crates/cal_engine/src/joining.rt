@@ -2,15 +2,13 @@ ghost use Rattle.std.specs.Prelude.{◌++◌, List, IfOk, OnOk};
 ghost use Rattle.cal_context.specs.Tree.{Grows, Tree};
 ghost use Rattle.cal_ql.specs.declared.query.Query.{Query as AQuery};
 ghost use Rattle.cal_value.specs.declared.record.Rec.{Rec as ARecord};
-ghost use Rattle.cal_engine.specs.Keys.{nth_key};
-ghost use Rattle.cal_engine.specs.Moves.{AreMovedNodes, IsMovedKey};
+ghost use Rattle.cal_keys.specs.Keys.{nth_key};
+ghost use Rattle.cal_keys.specs.Moves.{AreMovedNodes, IsMovedKey};
 ghost use Rattle.cal_engine.specs.Numbered.{AreGroups};
 
-use crate::key::GroupKey;
-use crate::key_table::KeyTable;
-use crate::moving::{find_way, move_way, moved_nodes, number_in, renumbered_nodes};
 use crate::numbered::NumberedGroups;
 use cal_context::{Context, NodeNumber};
+use cal_keys::{GroupKey, KeyTable, find_way, move_way, moved_nodes, number_in, renumbered_nodes};
 use cal_value::OutOfMemory;
 use std::alloc::Global;
 

@@ -1,19 +1,19 @@
 ghost use Rattle.std.specs.Prelude.{◌≡◌, ◌||◌, IfOk, OnOk, codes, map};
 ghost use Rattle.cal_context.specs.Tree.{Tree};
 ghost use Rattle.cal_rowset.specs.Texts.{is_same};
-ghost use Rattle.cal_engine.specs.Keys.{names_in};
+ghost use Rattle.cal_keys.specs.Keys.{names_in};
 ghost use Rattle.cal_engine.specs.Looked.{IsLooked, LooksAll, has_name as has_name_so};
 ghost use Rattle.cal_engine.specs.Looked.{has_some_name as has_some_name_so};
 ghost use Rattle.cal_engine.specs.Looked.{in_conds as in_conds_so};
 ghost use Rattle.cal_engine.specs.Looked.{in_lets as in_lets_so, in_readings as in_readings_so};
 ghost use Rattle.cal_engine.specs.Looked.{is_looked, is_read as is_read_so};
 ghost use Rattle.cal_engine.specs.Looked.{looks_at as looks_at_so};
-ghost use Rattle.cal_engine.specs.Readings.{reading_of};
+ghost use Rattle.cal_parts.specs.Readings.{reading_of};
 
 use crate::fold::is_aggregated;
-use crate::reading::{Reading, readings_of};
 use cal_context::{AttributeNumber, Context};
 use cal_filter::AttributeMemo;
+use cal_parts::{Reading, readings_of};
 use cal_ql::{Cond, Let, Query};
 use cal_value::{Attribute, OutOfMemory, Seq, Text};
 use std::alloc::Global;

@@ -2,19 +2,16 @@ ghost use Rattle.std.specs.Prelude.{◌≡◌, ◌+◌, ◌≤◌, [], List, Som
 ghost use Rattle.std.specs.Prelude.{IfOk, IsTrue, OnOk, OnErr};
 ghost use Rattle.cal_context.specs.Lists.{Interns};
 ghost use Rattle.cal_context.specs.Snapshots.{IsIn, meaning};
-ghost use Rattle.cal_engine.specs.Counters.{AreReadyCounters};
-ghost use Rattle.cal_engine.specs.Folding.{put_parts};
-ghost use Rattle.cal_engine.specs.Parts.{Gathered, merged_parts, part_over};
+ghost use Rattle.cal_parts.specs.Counters.{AreReadyCounters};
+ghost use Rattle.cal_parts.specs.PartLists.{put_parts};
+ghost use Rattle.cal_parts.specs.Parts.{Gathered, merged_parts, part_over};
 ghost use Rattle.cal_engine.specs.Numbered.{GathersKey};
-ghost use Rattle.cal_engine.specs.Readings.{parts_of as parts_by};
-ghost use Rattle.cal_engine.specs.declared.reading.Reading.{Reading as AReading};
+ghost use Rattle.cal_parts.specs.Readings.{parts_of as parts_by};
+ghost use Rattle.cal_parts.specs.declared.reading.Reading.{Reading as AReading};
 
-use crate::counters::Counters;
-use crate::key::GroupKey;
-use crate::key_table::KeyTable;
-use crate::part::Part;
-use crate::part_table::PartTable;
 use cal_context::{Context, NodeNumber, Snapshot};
+use cal_keys::{GroupKey, KeyTable};
+use cal_parts::{Counters, Part, PartTable};
 use cal_seeds::Seeds;
 use cal_value::OutOfMemory;
 use std::alloc::Global;

@@ -3,14 +3,14 @@ ghost use Rattle.std.specs.Option.{option_copied};
 ghost use Rattle.cal_value.specs.declared.record.Rec.{Rec as ARecord};
 ghost use Rattle.cal_engine.specs.Making.{AreOthers, below_of};
 ghost use Rattle.cal_engine.specs.Numbered.{AreGroups};
-ghost use Rattle.cal_engine.specs.Parts.{Gathered};
+ghost use Rattle.cal_parts.specs.Parts.{Gathered};
 
 use crate::below::parts_below_keys;
 use crate::finishing::{no_parts, some_beyond, some_inclusive};
 use crate::groups::total;
 use crate::numbered::NumberedGroups;
-use crate::part::Part;
 use cal_context::Context;
+use cal_parts::Part;
 use cal_ql::Query;
 use cal_value::{OutOfMemory, Seq};
 use std::alloc::Global;

@@ -8,7 +8,7 @@ ghost use Rattle.cal_rowset.specs.NumberedRows.{IsWithin, in_order, meant, nth_n
 ghost use Rattle.cal_value.specs.Flat.{joined};
 ghost use Rattle.cal_engine.specs.Answers.{columns_of as columns_by, plain_column};
 ghost use Rattle.cal_engine.specs.Answers.{shown_names};
-ghost use Rattle.cal_engine.specs.Groups.{has_entries};
+ghost use Rattle.cal_keys.specs.Groups.{has_entries};
 ghost use Rattle.cal_engine.specs.Learning.{learned, names_beside};
 ghost use Rattle.cal_engine.specs.Visiting.{IsLearned, IsPlain, KnowsNames, MetWith};
 

@@ -6,7 +6,7 @@ ghost use Rattle.cal_engine.specs.Ranks.{rank, value_in, values_cmp, values_of};
 ghost use Rattle.cal_engine.specs.Sorting.{directed as directed_by, sorted_rows as sorted_by};
 ghost use Rattle.cal_engine.specs.Sorting.{value_named};
 
-use crate::reading::is_named;
+use cal_parts::is_named;
 use cal_ql::OrderKey;
 use cal_value::{Entry, OutOfMemory, Rec, Seq, Text, TryCopy, Variant};
 use std::alloc::Global;

@@ -2,8 +2,8 @@ ghost use Rattle.std.specs.Prelude.{◌≡◌, ◌<◌, length, OnOk};
 ghost use Rattle.cal_engine.specs.Totals.{IsAddedAbove};
 
 use crate::groups::merge_into;
-use crate::part::Part;
 use cal_context::{Context, NodeNumber};
+use cal_parts::Part;
 use cal_value::{OutOfMemory, Seq};
 use std::alloc::Global;
 

@@ -3,7 +3,7 @@ use Rattle.std.proofs.Common.{◌≡◌, ℕ, true, false, not, ◌&&◌, List, 
 use Rattle.std.proofs.Common.{refl, sym, ap, ◌∙◌, Option, None, Some}
 use Rattle.std.specs.Prelude.{if◌then◌else◌, Bool}
 use Rattle.std.specs.List.{AllByRecursion, list_any}
-use Rattle.cal_engine.specs.Groups.{group_of, has_entries, taken, takes}
+use Rattle.cal_keys.specs.Groups.{group_of, has_entries, taken, takes}
 use Rattle.cal_filter.specs.Conditions.{cond_holds, test_holds, where_holds}
 use Rattle.cal_filter.specs.Named.{entries_named}
 use Rattle.cal_profile.specs.Coarser.{GroupsByKept, IsCoarser, is_kept, keeps_group}

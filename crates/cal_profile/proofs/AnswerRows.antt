@@ -6,7 +6,7 @@ use Rattle.std.specs.List.{filter_map}
 use Rattle.std.specs.Ordering.{is_lt}
 use Rattle.std.specs.declared.cmp.Ordering.{Ordering}
 use Rattle.cal_engine.specs.Answers.{answer_of}
-use Rattle.cal_engine.specs.Groups.{groups_of}
+use Rattle.cal_keys.specs.Groups.{groups_of}
 use Rattle.cal_engine.specs.Rows.{is_aggregated, row_of, rows_of}
 use Rattle.cal_engine.specs.Sorting.{put_in, row_cmp, sorted}
 use Rattle.cal_filter.specs.Kept.{kept}

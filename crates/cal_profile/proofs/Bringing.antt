@@ -12,7 +12,7 @@ use Rattle.cal_agg.specs.Results.{both, count_of, found, kept, percent_of, toget
 use Rattle.cal_agg.specs.Shown.{found-together, value_at, value_by}
 use Rattle.cal_agg.specs.declared.num.Num.{Num}
 use Rattle.cal_agg.specs.declared.num.Num.TheVariants.{Whole, Fixed}
-use Rattle.cal_engine.specs.Kernels.{result_of}
+use Rattle.cal_parts.specs.Kernels.{result_of}
 use Rattle.cal_profile.specs.StandIns.{brought}
 use Rattle.cal_ql.specs.declared.names.KernelName as kernels
 use Rattle.cal_ql.specs.declared.names.KernelName.TheVariants as kernel

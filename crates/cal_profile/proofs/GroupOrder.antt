@@ -14,7 +14,7 @@ use Rattle.std.proofs.lemmas.List.Sorted.{ranks_by}
 use Rattle.std.proofs.lemmas.Map.Views.{Contains-from_any, list_any-from_Contains}
 use Rattle.cal_agg.specs.declared.num.Num.{Num}
 use Rattle.cal_engine.specs.Answers.{answer_of}
-use Rattle.cal_engine.specs.Groups.{group_of, groups_of, is_group}
+use Rattle.cal_keys.specs.Groups.{group_of, groups_of, is_group}
 use Rattle.cal_engine.specs.Rows.{is_aggregated, kernel_result, results, row_of, rows_of}
 use Rattle.cal_engine.specs.Sorting.{put_in, row_cmp, sorted}
 use Rattle.cal_engine.proofs.Gathering.{group_laws, group_same}

@@ -7,7 +7,7 @@ use Rattle.std.specs.Cmp.Lexicographic.{bytes_decides}
 use Rattle.std.specs.List.{AllByRecursion, list_any}
 use Rattle.std.specs.Option.{option_map_or}
 use Rattle.std.proofs.lemmas.Bool.{and_parts, or_cases, or_left, or_right}
-use Rattle.cal_engine.specs.Groups.{takes}
+use Rattle.cal_keys.specs.Groups.{takes}
 use Rattle.cal_profile.specs.Coarser.{is_kept, is_of, keeps_path}
 use Rattle.cal_profile.specs.Declared.{AreKeys, IsDeclared, IsImmediate, IsInPath, props_of}
 use Rattle.cal_profile.proofs.Taking.{Excludes, Implies, IsWhole}

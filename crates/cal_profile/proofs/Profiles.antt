@@ -11,8 +11,8 @@ use Rattle.std.proofs.lemmas.Bool.Decides.{nat_tests}
 use Rattle.cal_agg.specs.Results.{is_kept, kept, sum_of}
 use Rattle.cal_agg.specs.declared.num.Num.{Num}
 use Rattle.cal_agg.specs.declared.num.Num.TheVariants.{Whole, Fixed}
-use Rattle.cal_engine.specs.Groups.{group_of, groups_of, is_group, records_of}
-use Rattle.cal_engine.specs.Kernels.{contributed, contributions, number_sought}
+use Rattle.cal_keys.specs.Groups.{group_of, groups_of, is_group, records_of}
+use Rattle.cal_parts.specs.Kernels.{contributed, contributions, number_sought}
 use Rattle.cal_engine.specs.Rows.{kernel_result, rows_of}
 use Rattle.cal_engine.specs.Sorting.{sorted}
 use Rattle.cal_engine.proofs.Gathering.{group_same}

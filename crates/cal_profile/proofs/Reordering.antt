@@ -7,13 +7,13 @@ use Rattle.std.specs.Prelude.{if◌then◌else◌}
 use Rattle.std.specs.declared.cmp.Ordering.{Ordering}
 use Rattle.std.proofs.lemmas.List.Elements.{filter-append}
 use Rattle.std.proofs.lemmas.Map.Views.{list_any-from_Contains}
-use Rattle.cal_engine.specs.Groups.{group_of, groups_of, is_group, records_of}
-use Rattle.cal_engine.specs.Kernels.{contributed}
+use Rattle.cal_keys.specs.Groups.{group_of, groups_of, is_group, records_of}
+use Rattle.cal_parts.specs.Kernels.{contributed}
 use Rattle.cal_engine.specs.Rows.{is_below}
 use Rattle.cal_engine.specs.Sorting.{put_in, sorted}
 use Rattle.cal_engine.proofs.Firsts.{list_any-firsts}
 use Rattle.cal_engine.proofs.Gathering.{group_laws, group_same}
-use Rattle.cal_engine.proofs.Merging.{contributed-append}
+use Rattle.cal_parts.proofs.Merging.{contributed-append}
 use Rattle.cal_engine.proofs.Partitions.{AreOnce, AreOnce-firsts, IsKept, by_group}
 use Rattle.cal_filter.specs.Conditions.{where_holds}
 use Rattle.cal_profile.specs.Answers.{AnswerAlike}

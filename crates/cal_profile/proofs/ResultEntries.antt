@@ -9,7 +9,7 @@ use Rattle.std.specs.Option.{option_to_list}
 use Rattle.std.proofs.lemmas.Bool.{or_parts}
 use Rattle.cal_agg.specs.declared.num.Num.{Num}
 use Rattle.cal_agg.specs.declared.num.Num.TheVariants.{Whole, Fixed}
-use Rattle.cal_engine.proofs.Takings.{same_texts}
+use Rattle.cal_parts.proofs.SameTexts.{same_texts}
 use Rattle.cal_filter.specs.Kept.{result_entry}
 use Rattle.cal_filter.specs.Named.{is_named}
 use Rattle.cal_filter.specs.Numbers.{number_in, value_of_number}

@@ -8,8 +8,8 @@ use Rattle.std.specs.List.{AllByRecursion, filter_map, list_any}
 use Rattle.std.proofs.lemmas.Bool.{and_parts}
 use Rattle.std.proofs.lemmas.List.Elements.{filter-append, filter_agree}
 use Rattle.cal_agg.specs.declared.num.Num.{Num}
-use Rattle.cal_engine.specs.Groups.{group_of, taken, takes}
-use Rattle.cal_engine.proofs.Takings.{same_texts}
+use Rattle.cal_keys.specs.Groups.{group_of, taken, takes}
+use Rattle.cal_parts.proofs.SameTexts.{same_texts}
 use Rattle.cal_filter.specs.Named.{entries_named, is_named}
 use Rattle.cal_profile.specs.Coarser.{is_kept, keeps_group, keeps_path}
 use Rattle.cal_profile.specs.Declared.{AreKeys, IsDeclared, IsImmediate, IsInPath, IsNamed}

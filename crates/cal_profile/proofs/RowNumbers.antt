@@ -7,8 +7,8 @@ use Rattle.std.specs.Option.{option_to_list}
 use Rattle.std.proofs.lemmas.Bool.{or_parts}
 use Rattle.std.proofs.lemmas.List.Elements.{filter-append}
 use Rattle.cal_agg.specs.declared.num.Num.{Num}
-use Rattle.cal_engine.specs.Groups.{group_of, taken, takes}
-use Rattle.cal_engine.proofs.Takings.{same_texts}
+use Rattle.cal_keys.specs.Groups.{group_of, taken, takes}
+use Rattle.cal_parts.proofs.SameTexts.{same_texts}
 use Rattle.cal_filter.specs.Named.{entries_named, is_named, last_number}
 use Rattle.cal_filter.specs.Numbers.{number_in}
 use Rattle.cal_profile.specs.Coarser.{is_kept}

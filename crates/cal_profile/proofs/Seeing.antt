@@ -6,8 +6,8 @@ use Rattle.std.specs.List.{cons_option, filter_map, list_any}
 use Rattle.std.proofs.lemmas.List.{map-append}
 use Rattle.std.proofs.lemmas.List.Folds.{list_any-append}
 use Rattle.std.proofs.lemmas.Map.Views.{Contains-from_any, list_any-from_Contains}
-use Rattle.cal_engine.specs.Groups.{group_of, groups_of, is_group, records_of}
-use Rattle.cal_engine.specs.Kernels.{contributed}
+use Rattle.cal_keys.specs.Groups.{group_of, groups_of, is_group, records_of}
+use Rattle.cal_parts.specs.Kernels.{contributed}
 use Rattle.cal_engine.specs.Rows.{kernel_result, records_below, results}
 use Rattle.cal_engine.proofs.Firsts.{list_any-firsts}
 use Rattle.cal_engine.proofs.Gathering.{group_laws, group_same}

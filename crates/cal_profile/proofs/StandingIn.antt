@@ -5,10 +5,10 @@ use Rattle.std.specs.Prelude.{if◌then◌else◌}
 use Rattle.std.specs.List.{AllByRecursion, AllZip}
 use Rattle.std.proofs.Math.Bool.{or-false}
 use Rattle.std.proofs.lemmas.List.Elements.{filter-append}
-use Rattle.cal_engine.specs.Groups.{group_of, is_group}
-use Rattle.cal_engine.specs.Kernels.{contributed, contributions}
+use Rattle.cal_keys.specs.Groups.{group_of, is_group}
+use Rattle.cal_parts.specs.Kernels.{contributed, contributions}
 use Rattle.cal_engine.specs.Rows.{is_below, results}
-use Rattle.cal_engine.proofs.Merging.{contributed-append}
+use Rattle.cal_parts.proofs.Merging.{contributed-append}
 use Rattle.cal_filter.specs.Conditions.{where_holds}
 use Rattle.cal_profile.specs.Answers.{AnswerAlike, SameGroups}
 use Rattle.cal_profile.specs.StandIns.{IsAddable, IsAlike, StandsFor, all_of, brought}

@@ -7,8 +7,8 @@ use Rattle.std.proofs.lemmas.Bool.{or_right}
 use Rattle.std.proofs.lemmas.Bool.Decides.{nat_tests}
 use Rattle.std.specs.List.{AllByRecursion, AllZip, IsDistinct, filter_map, list_any}
 use Rattle.std.proofs.lemmas.List.Elements.{filter-append}
-use Rattle.cal_engine.specs.FirstSeen.{firsts}
-use Rattle.cal_engine.specs.Groups.{group_of, groups_of, has_entries, is_group, taken, takes}
+use Rattle.cal_keys.specs.FirstSeen.{firsts}
+use Rattle.cal_keys.specs.Groups.{group_of, groups_of, has_entries, is_group, taken, takes}
 use Rattle.cal_engine.specs.Rows.{is_aggregated}
 use Rattle.cal_engine.proofs.Gathering.{group_same}
 use Rattle.cal_engine.proofs.Partitions.{AreOnce}

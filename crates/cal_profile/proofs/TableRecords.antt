@@ -16,7 +16,7 @@ use Rattle.cal_agg.specs.declared.cell.Cell.{Cell}
 use Rattle.cal_agg.specs.declared.num.Num.{Num}
 use Rattle.cal_agg.specs.declared.num.Num.TheVariants.{Whole, Fixed}
 use Rattle.cal_agg.specs.declared.row.AggRow.{AggRow}
-use Rattle.cal_engine.specs.Kernels.{contributed, contributions, number_sought, weight}
+use Rattle.cal_parts.specs.Kernels.{contributed, contributions, number_sought, weight}
 use Rattle.cal_filter.specs.Named.{entries_named, is_named, last_number}
 use Rattle.cal_filter.specs.Numbers.{number_in}
 use Rattle.cal_profile.specs.Declared.{IsDeclared, IsNamed, IsSnapshot, props_of}

@@ -4,7 +4,7 @@ use Rattle.std.proofs.Common.{inl, inr, refl, sym, ap, ◌∙◌, true≢false, 
 use Rattle.std.specs.Prelude.{◌⊎◌}
 use Rattle.std.specs.List.{AllByRecursion}
 use Rattle.std.proofs.lemmas.List.Elements.{filter-append}
-use Rattle.cal_engine.specs.Groups.{has_entries, taken, takes}
+use Rattle.cal_keys.specs.Groups.{has_entries, taken, takes}
 use Rattle.cal_profile.proofs.Lists.{all-filter, filter-swap}
 use Rattle.cal_value.specs.Flat.{joined}
 use Rattle.cal_value.specs.declared.attribute.Entry.{Entry}

@@ -2,7 +2,7 @@
 use Rattle.std.specs.Prelude.{◌≡◌, ◌↔◌, List, Contains}
 use Rattle.std.specs.List.{filter_map}
 use Rattle.cal_engine.specs.Answers.{answer_of}
-use Rattle.cal_engine.specs.Groups.{groups_of}
+use Rattle.cal_keys.specs.Groups.{groups_of}
 use Rattle.cal_engine.specs.Rows.{results}
 use Rattle.cal_filter.specs.Kept.{kept}
 use Rattle.cal_ql.specs.declared.query.Query.{Query}

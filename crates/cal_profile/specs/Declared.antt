@@ -4,7 +4,7 @@ use Rattle.std.specs.Prelude.{codes, filter, is_some, nat_eq, option_map, ‚ä§, ‚
 use Rattle.std.specs.Cmp.Lexicographic.{pointwise}
 use Rattle.std.specs.List.{AllByRecursion, IsDistinct, find}
 use Rattle.cal_agg.specs.Results.{sum_of}
-use Rattle.cal_engine.specs.Kernels.{contributed}
+use Rattle.cal_parts.specs.Kernels.{contributed}
 use Rattle.cal_profile.specs.Groups.{agg_of, channel_query, keys_of}
 use Rattle.cal_ql.specs.declared.names.KernelName.TheVariants as kernel
 use Rattle.cal_ql.specs.declared.query.Agg.{Agg}

@@ -5,7 +5,7 @@ use Rattle.std.specs.List.{AllByRecursion, list_any}
 use Rattle.std.specs.Ordering.{on}
 use Rattle.std.specs.declared.cmp.Ordering.{Ordering}
 use Rattle.cal_engine.specs.Answers.{answer_of}
-use Rattle.cal_engine.specs.Groups.{groups_of}
+use Rattle.cal_keys.specs.Groups.{groups_of}
 use Rattle.cal_engine.specs.Sorting.{sorted}
 use Rattle.cal_ql.specs.Kernels.{first_of_each, result_name}
 use Rattle.cal_ql.specs.declared.names.Format.TheVariants as format

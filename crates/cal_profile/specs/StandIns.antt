@@ -4,8 +4,8 @@ use Rattle.std.specs.List.{AllByRecursion, flat_map}
 use Rattle.cal_agg.specs.Results.{count_of, found, greatest_of, least_of, together}
 use Rattle.cal_agg.specs.declared.num.Num.{Num}
 use Rattle.cal_agg.specs.declared.num.Num.TheVariants.{Whole}
-use Rattle.cal_engine.specs.Groups.{group_of}
-use Rattle.cal_engine.specs.Kernels.{contributed, contributions}
+use Rattle.cal_keys.specs.Groups.{group_of}
+use Rattle.cal_parts.specs.Kernels.{contributed, contributions}
 use Rattle.cal_filter.specs.Conditions.{where_holds}
 use Rattle.cal_ql.specs.declared.names.KernelName as kernels
 use Rattle.cal_ql.specs.declared.names.KernelName.TheVariants as kernel

@@ -9,7 +9,7 @@ use Rattle.cal_agg.specs.declared.cell.Cell.{Cell}
 use Rattle.cal_agg.specs.declared.num.Num.{Num}
 use Rattle.cal_agg.specs.declared.num.Num.TheVariants.{Whole, Fixed}
 use Rattle.cal_agg.specs.declared.row.AggRow.{AggRow}
-use Rattle.cal_engine.specs.Groups.{is_group}
+use Rattle.cal_keys.specs.Groups.{is_group}
 use Rattle.cal_filter.specs.Kept.{result_entry}
 use Rattle.cal_filter.specs.Named.{is_named, last_number}
 use Rattle.cal_filter.specs.Numbers.{number_in, value_of_number}

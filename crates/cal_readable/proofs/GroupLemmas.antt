@@ -7,7 +7,7 @@ use Rattle.std.specs.Prelude.{Option, None, Some, if◌then◌else◌}
 use Rattle.std.specs.List.{AllByRecursion}
 use Rattle.std.proofs.lemmas.List.Elements.{All-from_recursion, recursion_from_All}
 use Rattle.cal_board.specs.Blackboard.{slot_number}
-use Rattle.cal_engine.specs.Groups.{group_of, has_entries, taken, takes}
+use Rattle.cal_keys.specs.Groups.{group_of, has_entries, taken, takes}
 use Rattle.cal_profile.proofs.KeptKeys.{taken_name, takes_path}
 use Rattle.cal_profile.proofs.Lists.{all-filter, all_weaker, filter-swap}
 use Rattle.cal_rowset.specs.Cells.{is_path}

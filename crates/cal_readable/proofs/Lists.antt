@@ -4,7 +4,7 @@ use Rattle.std.specs.Prelude.{Option, None, Some, flat_map, if◌then◌else◌}
 use Rattle.std.specs.List.{AllByRecursion, cons_option, filter_map}
 use Rattle.std.specs.Ordering.{is_lt}
 use Rattle.std.specs.declared.cmp.Ordering.{Ordering}
-use Rattle.cal_engine.specs.FirstSeen.{firsts}
+use Rattle.cal_keys.specs.FirstSeen.{firsts}
 use Rattle.cal_engine.specs.Sorting.{put_in, sorted}
 use Rattle.cal_profile.proofs.Lists.{all-filter}
 

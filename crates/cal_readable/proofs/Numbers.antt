@@ -11,7 +11,7 @@ use Rattle.std.proofs.lemmas.List.Elements.{recursion_from_All}
 use Rattle.cal_agg.specs.Numbers.{is_fixed, number, some_fixed}
 use Rattle.cal_agg.specs.declared.num.Num.{Num}
 use Rattle.cal_agg.specs.declared.num.Num.TheVariants.{Whole, Fixed}
-use Rattle.cal_engine.specs.Kernels.{contributions, last_whole, number_sought, weight}
+use Rattle.cal_parts.specs.Kernels.{contributions, last_whole, number_sought, weight}
 use Rattle.cal_filter.specs.Named.{is_named, last_number}
 use Rattle.cal_filter.specs.Numbers.{number_in}
 use Rattle.cal_profile.proofs.Lists.{all_weaker}

@@ -5,7 +5,7 @@ use Rattle.std.specs.Prelude.{flat_map, if◌then◌else◌}
 use Rattle.std.specs.List.{AllByRecursion, filter_map}
 use Rattle.std.proofs.lemmas.List.Elements.{All-from_recursion, recursion_from_All}
 use Rattle.cal_engine.specs.Answers.{answer_of}
-use Rattle.cal_engine.specs.Groups.{group_of, groups_of, is_group}
+use Rattle.cal_keys.specs.Groups.{group_of, groups_of, is_group}
 use Rattle.cal_engine.specs.Rows.{is_aggregated, results, row_of, rows_of}
 use Rattle.cal_engine.specs.Sorting.{row_cmp}
 use Rattle.cal_filter.specs.Kept.{kept}

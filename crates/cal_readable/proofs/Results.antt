@@ -11,8 +11,8 @@ use Rattle.cal_agg.specs.Numbers.{number}
 use Rattle.cal_agg.specs.Results.{count_of, found, together}
 use Rattle.cal_agg.specs.declared.num.Num.{Num}
 use Rattle.cal_agg.specs.declared.num.Num.TheVariants.{Whole, Fixed}
-use Rattle.cal_engine.specs.Groups.{group_of, is_group, records_of}
-use Rattle.cal_engine.specs.Kernels.{contributed, contributions}
+use Rattle.cal_keys.specs.Groups.{group_of, is_group, records_of}
+use Rattle.cal_parts.specs.Kernels.{contributed, contributions}
 use Rattle.cal_engine.specs.Rows.{kernel_result, results}
 use Rattle.cal_filter.specs.Kept.{result_entry}
 use Rattle.cal_filter.specs.Numbers.{value_of_number}

@@ -23,8 +23,8 @@ use Rattle.cal_context.specs.Tree.{Tree, path_at}
 use Rattle.cal_engine.proofs.Making.{made-counted, made-row}
 use Rattle.cal_engine.proofs.Sorts.{sorted-unique}
 use Rattle.cal_engine.specs.Finishing.{Lists, entries_of_results, lists_at}
-use Rattle.cal_engine.specs.Kernels.{contributed, result_of}
-use Rattle.cal_engine.specs.Keys.{key_in}
+use Rattle.cal_parts.specs.Kernels.{contributed, result_of}
+use Rattle.cal_keys.specs.Keys.{key_in}
 use Rattle.cal_engine.specs.Making.{MakesRows, group_count, key_at, room_in}
 use Rattle.cal_engine.specs.Sorting.{put_in, sorted}
 use Rattle.cal_engine.specs.declared.grouped_rows.GroupedRows.{GroupedRows}

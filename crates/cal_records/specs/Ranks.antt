@@ -7,7 +7,7 @@ use Rattle.cal_context.specs.Tree.{Tree, path_at}
 use Rattle.cal_engine.specs.Making.{group_count, key_at}
 use Rattle.cal_engine.specs.Sorting.{sorted}
 use Rattle.cal_engine.specs.declared.grouped_rows.GroupedRows.{GroupedRows}
-use Rattle.cal_engine.specs.declared.key.GroupKey.{GroupKey}
+use Rattle.cal_keys.specs.declared.key.GroupKey.{GroupKey}
 use Rattle.cal_profile.specs.Groups.{is_result}
 use Rattle.cal_ql.specs.declared.query.Agg.{Agg}
 use Rattle.cal_records.specs.declared.group_keys.AllKeys.{AllKeys}

@@ -6,7 +6,7 @@ use Rattle.std.proofs.lemmas.Slice.Zip.{AllZip-long}
 use Rattle.std.specs.declared.random_state.RandomState.{RandomState}
 use Rattle.cal_agg.specs.declared.row.AggRow.{AggRow}
 use Rattle.cal_channel.specs.Channels.{Counts}
-use Rattle.cal_engine.specs.Groups.{is_group}
+use Rattle.cal_keys.specs.Groups.{is_group}
 use Rattle.cal_once.specs.declared.seat.RowSeat.{RowSeat}
 use Rattle.cal_profile.specs.TableRows.{IsRowOf, KeyedRow, table_key, with_key}
 use Rattle.cal_script.specs.declared.script.ChannelQuery.{ChannelQuery}

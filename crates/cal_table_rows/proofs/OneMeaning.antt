@@ -10,7 +10,7 @@ use Rattle.cal_board.specs.declared.opened.Opened.{Opened}
 use Rattle.cal_channel.specs.Channels.{IsPathShown, Means}
 use Rattle.cal_context.specs.Lists.{AreApart}
 use Rattle.cal_context.specs.Tree.{no_attribute}
-use Rattle.cal_engine.specs.Groups.{is_group}
+use Rattle.cal_keys.specs.Groups.{is_group}
 use Rattle.cal_hand.specs.Nodes.{node_entry}
 use Rattle.cal_once.specs.Seats.{view}
 use Rattle.cal_once.specs.declared.seat.RowSeat.{RowSeat}

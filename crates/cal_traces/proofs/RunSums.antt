@@ -13,7 +13,7 @@ use Rattle.cal_agg.specs.Results.{both, sum_of, together}
 use Rattle.cal_agg.specs.declared.num.Num.{Num}
 use Rattle.cal_agg.specs.declared.num.Num.TheVariants.{Whole, Fixed}
 use Rattle.cal_agg.proofs.Ends.{sum_absent}
-use Rattle.cal_engine.specs.Kernels.{contributed, contributions}
+use Rattle.cal_parts.specs.Kernels.{contributed, contributions}
 use Rattle.cal_filter.specs.Named.{is_named, last_number}
 use Rattle.cal_filter.specs.Numbers.{number_in}
 use Rattle.cal_profile.specs.Declared.{HasSums, IsImmediate, IsInPath, IsNamed, IsSnapshot}

@@ -1,6 +1,6 @@
 use Rattle.std.proofs.Common.{[], sym, subst}
 use Rattle.std.proofs.lemmas.Result.{IfOk-weaker}
-use Rattle.cal_engine.specs.Totals.{AreWaysBehind}
+use Rattle.cal_keys.specs.Leading.{AreWaysBehind}
 use Rattle.cal_engine.proofs.Totalling.{ways_behind}
 use Rattle.cal_engine.proofs.below.parts_below_in.Goals as goal
 

@@ -1,7 +1,7 @@
 use Rattle.std.proofs.Common.{map, sym, subst}
-use Rattle.cal_engine.specs.Keys.{key_in}
-use Rattle.cal_engine.specs.Totals.{AreWaysBehind}
-use Rattle.cal_engine.specs.Trails.{no_marks}
+use Rattle.cal_keys.specs.Keys.{key_in}
+use Rattle.cal_keys.specs.Leading.{AreWaysBehind}
+use Rattle.cal_keys.specs.Trails.{no_marks}
 use Rattle.cal_engine.proofs.below.parts_below_keys.Goals as goal
 
 pub returns-in-Some : goal.returns-in-Some

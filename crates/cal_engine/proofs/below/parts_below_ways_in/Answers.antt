@@ -1,7 +1,7 @@
 use Rattle.std.proofs.Common.{[], map, sym, subst}
 use Rattle.std.proofs.lemmas.Result.{IfOk-weaker}
-use Rattle.cal_engine.specs.Keys.{key_in}
-use Rattle.cal_engine.specs.Totals.{AreWaysBehind}
+use Rattle.cal_keys.specs.Keys.{key_in}
+use Rattle.cal_keys.specs.Leading.{AreWaysBehind}
 use Rattle.cal_engine.proofs.Totalling.{ways_behind}
 use Rattle.cal_engine.proofs.below.parts_below_ways_in.Goals as goal
 

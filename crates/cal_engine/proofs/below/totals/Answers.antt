@@ -1,5 +1,5 @@
 use Rattle.std.proofs.Common.{arith, ◌∙◌}
-use Rattle.cal_engine.proofs.Ascents.{read_same}
+use Rattle.cal_keys.proofs.ReadSame.{read_same}
 use Rattle.cal_engine.proofs.Totalling.{totals_more}
 use Rattle.cal_engine.proofs.below.totals.Goals as goal
 

@@ -3,7 +3,7 @@ use Rattle.std.specs.List.{list_any}
 use Rattle.cal_value.specs.declared.record.Rec.{Rec}
 use Rattle.cal_engine.specs.Finishing.{AreGroupParts, is_inclusive, parts_where, rows_by}
 use Rattle.cal_engine.specs.Folding.{Grouped}
-use Rattle.cal_engine.specs.Parts.{merged_parts, parts_over}
+use Rattle.cal_parts.specs.Parts.{merged_parts, parts_over}
 use Rattle.cal_engine.specs.Rows.{is_below}
 use Rattle.cal_engine.proofs.GroupRows.{flat_lists, flat_parts, query_lists, query_parts, query_rows, rows_alike}
 use Rattle.cal_engine.proofs.finishing.group_rows.Goals as goal

@@ -2,7 +2,7 @@ use Rattle.std.proofs.Common.{Some, sym, ap, ◌∙◌}
 use Rattle.std.specs.Prelude.{option_map}
 use Rattle.cal_filter.specs.Kept.{result_entry}
 use Rattle.cal_filter.specs.Numbers.{value_of_number}
-use Rattle.cal_engine.specs.Kernels.{contributed}
+use Rattle.cal_parts.specs.Kernels.{contributed}
 use Rattle.cal_engine.proofs.Results.{takes_whole}
 use Rattle.cal_engine.proofs.finishing.result_at.Goals as goal
 

@@ -1,5 +1,5 @@
 use Rattle.std.proofs.Common.{◌≡◌, not, filter}
-use Rattle.cal_engine.specs.Groups.{takes}
+use Rattle.cal_keys.specs.Groups.{takes}
 use Rattle.cal_engine.proofs.grouping.pick.Given as goal
 
 abbrev pub invariant-loop-entry : goal.invariant-loop-entry

@@ -1,6 +1,6 @@
 use Rattle.std.proofs.Common.{◌++◌, false, not, filter, drop, sym, ap, ◌∙◌, arith, ◌+◌}
 use Rattle.cal_value.specs.Flat.{joined}
-use Rattle.cal_engine.specs.Groups.{taken, takes}
+use Rattle.cal_keys.specs.Groups.{taken, takes}
 use Rattle.cal_engine.proofs.Takings.{imms_next, taken_next}
 use Rattle.cal_engine.proofs.grouping.taken_imms.Goals as goal
 

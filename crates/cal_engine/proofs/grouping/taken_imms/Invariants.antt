@@ -1,6 +1,6 @@
 use Rattle.std.proofs.Common.{◌≡◌, ◌++◌, false, drop}
 use Rattle.cal_value.specs.Flat.{joined}
-use Rattle.cal_engine.specs.Groups.{taken}
+use Rattle.cal_keys.specs.Groups.{taken}
 use Rattle.cal_engine.proofs.grouping.taken_imms.Given as goal
 
 abbrev pub invariant-loop-name : goal.invariant-loop-name

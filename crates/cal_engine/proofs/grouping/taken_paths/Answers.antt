@@ -1,6 +1,6 @@
 use Rattle.std.proofs.Common.{◌++◌, true, not, filter, drop, sym, ap, ◌∙◌, arith, ◌+◌}
 use Rattle.std.proofs.lemmas.Grind.{common_steps}
-use Rattle.cal_engine.specs.Groups.{has_entries, taken, takes}
+use Rattle.cal_keys.specs.Groups.{has_entries, taken, takes}
 use Rattle.cal_engine.proofs.Takings.{paths_then, paths_else, taken_next}
 use Rattle.cal_engine.proofs.grouping.taken_paths.Goals as goal
 use Rattle.cal_engine.proofs.grouping.taken_paths.Goals.{then-not-is_empty+in_ok-push, else-not-is_empty}

@@ -1,5 +1,5 @@
 use Rattle.std.proofs.Common.{◌≡◌, ◌++◌, true, filter, drop}
-use Rattle.cal_engine.specs.Groups.{has_entries, taken}
+use Rattle.cal_keys.specs.Groups.{has_entries, taken}
 use Rattle.cal_engine.proofs.grouping.taken_paths.Given as goal
 
 abbrev pub invariant-loop-name : goal.invariant-loop-name

@@ -1,5 +1,5 @@
 use Rattle.std.proofs.Common.{◌≡◌, ◌++◌, drop, take}
-use Rattle.cal_engine.specs.Parts.{merged_parts}
+use Rattle.cal_parts.specs.Parts.{merged_parts}
 use Rattle.cal_engine.proofs.groups.merge_all.Given as goal
 
 -- those before this place are merged, and the others are as they were

@@ -1,6 +1,6 @@
 use Rattle.std.proofs.Common.{◌≡◌, ◌++◌, [], ◌∷◌, drop, get_or, length, sym, ap, ◌∙◌, arith, append_assoc, ◌+◌}
-use Rattle.cal_engine.specs.Parts.{behind, merged_parts}
-use Rattle.cal_engine.proofs.Drops.{merged_next}
+use Rattle.cal_parts.specs.Parts.{behind, merged_parts}
+use Rattle.cal_parts.proofs.Drops.{merged_next}
 use Rattle.cal_engine.proofs.groups.merged_parts.Goals as goal
 
 pub loop-place-preserved : goal.loop-place-preserved

@@ -1,5 +1,5 @@
 use Rattle.std.proofs.Common.{◌≡◌, ◌++◌, drop}
-use Rattle.cal_engine.specs.Parts.{merged_parts}
+use Rattle.cal_parts.specs.Parts.{merged_parts}
 use Rattle.cal_engine.proofs.groups.merged_parts.Given as goal
 
 abbrev pub invariant-loop-place : goal.invariant-loop-place

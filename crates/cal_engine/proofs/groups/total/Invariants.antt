@@ -1,5 +1,5 @@
 use Rattle.std.proofs.Common.{◌≡◌, fold, take}
-use Rattle.cal_engine.specs.Parts.{merged_parts}
+use Rattle.cal_parts.specs.Parts.{merged_parts}
 use Rattle.cal_engine.proofs.groups.total.Given as goal
 
 abbrev pub invariant-loop-number : goal.invariant-loop-number

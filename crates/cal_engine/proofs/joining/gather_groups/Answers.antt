@@ -1,6 +1,6 @@
 use Rattle.std.proofs.Common.{[], get_or, length, subst, ap, ◌∙◌, arith}
-use Rattle.cal_engine.specs.Keys.{nth_key}
-use Rattle.cal_engine.specs.Moves.{IsMovedKey}
+use Rattle.cal_keys.specs.Keys.{nth_key}
+use Rattle.cal_keys.specs.Moves.{IsMovedKey}
 use Rattle.cal_engine.proofs.MergedGroups.{groups_begin, groups_end, groups_next}
 use Rattle.cal_engine.proofs.joining.gather_groups.Goals as goal
 

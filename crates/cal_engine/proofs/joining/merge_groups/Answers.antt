@@ -1,6 +1,6 @@
 use Rattle.std.proofs.Common.{sym, subst}
 use Rattle.std.proofs.lemmas.Result.{on_ok_weaker}
-use Rattle.cal_engine.specs.Moves.{AreMovedNodes}
+use Rattle.cal_keys.specs.Moves.{AreMovedNodes}
 use Rattle.cal_engine.proofs.MergedGroups.{groups-Grows}
 use Rattle.cal_engine.proofs.joining.merge_groups.Goals as goal
 

@@ -1,5 +1,5 @@
 use Rattle.cal_context.specs.Tree.{Grows}
-use Rattle.cal_engine.specs.Moves.{AreMovedNodes}
+use Rattle.cal_keys.specs.Moves.{AreMovedNodes}
 use Rattle.cal_engine.proofs.joining.move_imms.Given as goal
 
 abbrev pub invariant-loop-number : goal.invariant-loop-number

@@ -1,8 +1,8 @@
 use Rattle.std.proofs.Common.{map, subst, sym, ap, ◌∙◌}
 use Rattle.cal_context.specs.Tree.{path_at}
-use Rattle.cal_engine.specs.Keys.{nth_key}
-use Rattle.cal_engine.specs.Moves.{IsMovedKey}
-use Rattle.cal_engine.specs.Totals.{Leads}
+use Rattle.cal_keys.specs.Keys.{nth_key}
+use Rattle.cal_keys.specs.Moves.{IsMovedKey}
+use Rattle.cal_keys.specs.Leading.{Leads}
 use Rattle.cal_engine.proofs.joining.moved_key.Goals as goal
 
 pub returns : goal.returns

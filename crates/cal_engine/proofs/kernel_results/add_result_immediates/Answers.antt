@@ -5,7 +5,7 @@ use Rattle.cal_filter.proofs.Zips.{zip_length}
 use Rattle.cal_engine.specs.Finishing.{entries_of_results}
 use Rattle.cal_engine.specs.Making.{below_of}
 use Rattle.cal_engine.specs.Results.{AddsResults, IsResultOf}
-use Rattle.cal_engine.proofs.Ascents.{read_same}
+use Rattle.cal_keys.proofs.ReadSame.{read_same}
 use Rattle.cal_engine.proofs.ResultNumbers.{results_next}
 use Rattle.cal_engine.proofs.kernel_results.add_result_immediates.Goals as goal
 

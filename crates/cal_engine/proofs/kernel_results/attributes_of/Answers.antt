@@ -1,5 +1,5 @@
 use Rattle.std.proofs.Common.{refl}
-use Rattle.cal_engine.proofs.ResultNumbers.{numbered-Grows}
+use Rattle.cal_keys.proofs.Reaching.{numbered-Grows}
 use Rattle.cal_engine.proofs.kernel_results.attributes_of.Goals as goal
 
 pub returns-clause-attributes : goal.returns-clause-attributes

@@ -4,7 +4,7 @@ use Rattle.std.proofs.lemmas.Int.{to_z-of_z}
 use Rattle.cal_agg.specs.declared.num.Num.TheVariants.{Whole}
 use Rattle.cal_filter.specs.Kept.{result_entry}
 use Rattle.cal_filter.specs.Numbers.{value_of_number}
-use Rattle.cal_engine.proofs.Shown.{shown-entry}
+use Rattle.cal_engine.proofs.ShownEntries.{shown-entry}
 use Rattle.cal_engine.proofs.kernel_results.found_at.Goals as goal
 use mir.Syntax.{w64, w128}
 

@@ -1,8 +1,8 @@
 use Rattle.std.proofs.Common.{[], map, ap, ◌∙◌, arith}
 use Rattle.std.proofs.lemmas.Result.{on_ok_weaker}
-use Rattle.cal_engine.specs.Folding.{put_parts}
-use Rattle.cal_engine.specs.Parts.{part_over}
-use Rattle.cal_engine.specs.declared.counter.Counter.{Counter}
+use Rattle.cal_parts.specs.PartLists.{put_parts}
+use Rattle.cal_parts.specs.Parts.{part_over}
+use Rattle.cal_parts.specs.declared.counter.Counter.{Counter}
 use Rattle.cal_engine.proofs.Gathering.{put_parts_none}
 use Rattle.cal_engine.proofs.numbered.make_room.Goals as goal
 

@@ -5,7 +5,7 @@ use Rattle.std.proofs.lemmas.List.Elements.{All-append}
 use Rattle.cal_value.specs.Flat.{joined}
 use Rattle.cal_value.specs.Reading.{IsSmall}
 use Rattle.cal_value.specs.declared.attribute.Entry.{Entry}
-use Rattle.cal_engine.proofs.Lasts.{joined-more}
+use Rattle.cal_parts.proofs.Lasts.{joined-more}
 use Rattle.cal_engine.proofs.small.has_small_numbers.Goals as goal
 
 pub loop-path-preserved : goal.loop-path-preserved

@@ -8,7 +8,7 @@ use Rattle.cal_rowset.specs.Hierarchy.{hierarchy, is_of_hierarchy}
 use Rattle.cal_rowset.specs.NumberedRows.{in_order, meant, nth_numbered}
 use Rattle.cal_rowset.proofs.NumberedLemmas.{meant_more, nth_within}
 use Rattle.cal_value.specs.declared.record.Rec.{Rec}
-use Rattle.cal_engine.specs.Groups.{has_entries}
+use Rattle.cal_keys.specs.Groups.{has_entries}
 use Rattle.cal_engine.proofs.Learned.{any_at, nested_any, none_both}
 use Rattle.cal_engine.proofs.snapshot_columns.some_hierarchy.Goals as goal
 

@@ -2,7 +2,7 @@ use Rattle.std.proofs.Common.{◌≡◌, false, map, take}
 use Rattle.std.specs.List.{list_any}
 use Rattle.cal_rowset.specs.NumberedRows.{in_order, meant}
 use Rattle.cal_rowset.specs.Hierarchy.{hierarchy}
-use Rattle.cal_engine.specs.Groups.{has_entries}
+use Rattle.cal_keys.specs.Groups.{has_entries}
 use Rattle.cal_engine.specs.Visiting.{IsPlain, MetWith}
 use Rattle.cal_engine.proofs.snapshot_columns.some_hierarchy.Given as goal
 

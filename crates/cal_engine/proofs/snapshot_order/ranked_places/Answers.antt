@@ -1,5 +1,5 @@
 use Rattle.std.proofs.Common.{◌∷◌, arith}
-use Rattle.cal_engine.proofs.Ascents.{read_same}
+use Rattle.cal_keys.proofs.ReadSame.{read_same}
 use Rattle.cal_engine.proofs.SnapshotRanking.{ranked_next}
 use Rattle.cal_engine.proofs.snapshot_order.ranked_places.Goals as goal
 

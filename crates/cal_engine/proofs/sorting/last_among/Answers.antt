@@ -1,7 +1,7 @@
 use Rattle.std.proofs.Common.{sym, ap, ◌∙◌, arith}
 use Rattle.std.specs.Option.{option_copied}
 use Rattle.cal_filter.specs.Named.{is_named}
-use Rattle.cal_engine.proofs.Lasts.{values_pass, values_take}
+use Rattle.cal_engine.proofs.LastValues.{values_pass, values_take}
 use Rattle.cal_engine.proofs.sorting.last_among.Goals as goal
 use Rattle.cal_engine.proofs.sorting.last_among.Goals.{then-is_named, else-is_named}
 

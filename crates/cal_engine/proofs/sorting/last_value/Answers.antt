@@ -4,7 +4,7 @@ use Rattle.std.specs.Option.{option_copied}
 use Rattle.std.proofs.lemmas.Grind.{common_steps}
 use Rattle.cal_value.specs.Flat.{joined}
 use Rattle.cal_engine.specs.Ranks.{values_of}
-use Rattle.cal_engine.proofs.Lasts.{last_value_is, values_all, values_more}
+use Rattle.cal_engine.proofs.LastValues.{last_value_is, values_all, values_more}
 use Rattle.cal_engine.proofs.sorting.last_value.Goals as goal
 
 pub loop-path-preserved : goal.loop-path-preserved

@@ -2,7 +2,7 @@ use Rattle.std.proofs.Common.{List, sym, ap, subst, ◌∙◌, arith}
 use Rattle.std.proofs.lemmas.List.{length-set}
 use Rattle.std.specs.Prelude.{slice_set}
 use Rattle.cal_context.specs.Tree.{path_at}
-use Rattle.cal_engine.specs.Parts.{Gathered, merged_parts}
+use Rattle.cal_parts.specs.Parts.{Gathered, merged_parts}
 use Rattle.cal_engine.specs.Totals.{IsAddedAbove, IsAddedFrom}
 use Rattle.cal_engine.proofs.Ascents.{added_last, added_more, added_none, begins_itself, parent_begins}
 use Rattle.cal_engine.proofs.upwards.add_upwards.Goals as goal

@@ -1,7 +1,7 @@
 use Rattle.std.proofs.Common.{◌≡◌, ◌<◌, true, length}
 use Rattle.cal_context.specs.Tree.{path_at}
 use Rattle.cal_engine.specs.Totals.{IsAddedFrom}
-use Rattle.cal_engine.specs.Trails.{begins}
+use Rattle.cal_keys.specs.Trails.{begins}
 use Rattle.cal_engine.proofs.upwards.add_upwards.Given as goal
 
 abbrev pub invariant-loop-link : goal.invariant-loop-link

@@ -1,6 +1,6 @@
 use Rattle.std.proofs.Common.{sym, ap, subst, ◌∙◌}
 use Rattle.cal_engine.specs.Folding.{Gathers}
-use Rattle.cal_engine.specs.Readings.{parts_of}
+use Rattle.cal_parts.specs.Readings.{parts_of}
 use Rattle.cal_engine.proofs.Folds.{folded_grouped}
 use Rattle.cal_engine.proofs.fold.Fold.add_kept.Goals as goal
 

@@ -1,8 +1,8 @@
 use Rattle.std.proofs.Common.{◌<◌, ◌++◌, length, map, ap, ◌∙◌, arith}
 use Rattle.cal_engine.specs.Finishing.{entries_of_results, lists_at}
-use Rattle.cal_engine.specs.Keys.{key_in}
+use Rattle.cal_keys.specs.Keys.{key_in}
 use Rattle.cal_engine.specs.Making.{below_in, key_at, room_in}
-use Rattle.cal_engine.proofs.Ascents.{read_same}
+use Rattle.cal_keys.proofs.ReadSame.{read_same}
 use Rattle.cal_engine.proofs.GroupRows.{mapped_at}
 use Rattle.cal_engine.proofs.Making.{kept_there, row_there}
 use Rattle.cal_engine.proofs.grouped_rows.GroupedRows.fill.Goals as goal

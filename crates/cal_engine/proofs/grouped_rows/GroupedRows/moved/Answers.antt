@@ -2,8 +2,8 @@ use Rattle.std.proofs.Common.{◌≡◌, map, sym, subst, ◌∙◌}
 use Rattle.std.specs.List.{All}
 use Rattle.cal_context.specs.Tree.{Tree}
 use Rattle.cal_engine.specs.Finishing.{AreGroupParts, rows_by}
-use Rattle.cal_engine.specs.Groups.{groups_of}
-use Rattle.cal_engine.specs.Keys.{IsKeyIn, key_in}
+use Rattle.cal_keys.specs.Groups.{groups_of}
+use Rattle.cal_keys.specs.Keys.{IsKeyIn, key_in}
 use Rattle.cal_engine.specs.Making.{below_of}
 use Rattle.cal_engine.specs.Numbered.{AreGroups}
 use Rattle.cal_engine.specs.Rows.{row_of}

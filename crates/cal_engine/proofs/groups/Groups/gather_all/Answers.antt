@@ -1,8 +1,8 @@
 use Rattle.std.proofs.Common.{◌≡◌, ◌<◌, ◌++◌, length, take, get_or, subst, ap, ◌∙◌, arith}
 use Rattle.std.proofs.lemmas.Grind.{common_steps}
 use Rattle.cal_engine.specs.Folding.{Gathers, groups_over}
-use Rattle.cal_engine.specs.Groups.{groups_of, records_of}
-use Rattle.cal_engine.specs.Parts.{parts_over}
+use Rattle.cal_keys.specs.Groups.{groups_of, records_of}
+use Rattle.cal_parts.specs.Parts.{parts_over}
 use Rattle.cal_engine.proofs.GroupRows.{read_map}
 use Rattle.cal_engine.proofs.Regroups.{groups_over-regrouped, regrouped, regrouped_more}
 use Rattle.cal_engine.proofs.groups.Groups.gather_all.Goals as goal

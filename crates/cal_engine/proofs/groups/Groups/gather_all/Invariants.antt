@@ -2,7 +2,7 @@ use Rattle.std.proofs.Common.{◌≡◌, ◌++◌, List, take}
 use Rattle.cal_ql.specs.declared.query.Query.{Query}
 use Rattle.cal_value.specs.declared.record.Rec.{Rec}
 use Rattle.cal_engine.specs.Folding.{groups_over}
-use Rattle.cal_engine.specs.Groups.{groups_of}
+use Rattle.cal_keys.specs.Groups.{groups_of}
 use Rattle.cal_engine.proofs.Regroups.{regrouped}
 use Rattle.cal_engine.proofs.groups.Groups.gather_all.Given as goal
 

@@ -3,8 +3,8 @@ use Rattle.std.proofs.lemmas.Result.{on_ok_weaker}
 use Rattle.cal_context.specs.Snapshots.{meaning}
 use Rattle.cal_filter.specs.Known.{sought}
 use Rattle.cal_engine.specs.Numbered.{GathersKey, Numbered}
-use Rattle.cal_engine.specs.Readings.{parts_of}
-use Rattle.cal_engine.proofs.Adding.{first_merged}
+use Rattle.cal_parts.specs.Readings.{parts_of}
+use Rattle.cal_parts.proofs.Adding.{first_merged}
 use Rattle.cal_engine.proofs.Gathering.{when_ok}
 use Rattle.cal_engine.proofs.numbered.NumberedGroups.gather.Goals as goal
 

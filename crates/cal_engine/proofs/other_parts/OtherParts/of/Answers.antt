@@ -2,9 +2,9 @@ use Rattle.std.proofs.Common.{[], fold, length, map, refl, sym, ap, ◌∙◌}
 use Rattle.std.specs.List.{list_any}
 use Rattle.cal_engine.specs.Finishing.{is_inclusive, looks_beyond, parts_where, rows_by}
 use Rattle.cal_engine.specs.Folding.{Grouped}
-use Rattle.cal_engine.specs.Keys.{key_in}
+use Rattle.cal_keys.specs.Keys.{key_in}
 use Rattle.cal_engine.specs.Numbered.{grouped_in}
-use Rattle.cal_engine.specs.Parts.{merged_parts, parts_over}
+use Rattle.cal_parts.specs.Parts.{merged_parts, parts_over}
 use Rattle.cal_engine.specs.Rows.{is_below}
 use Rattle.cal_engine.proofs.GroupRows.{flat_lists, flat_parts, lone_lists, lone_parts, query_lists, query_parts, query_rows, rows_alike, rows_alone}
 use Rattle.cal_engine.proofs.other_parts.OtherParts.of.Goals as goal

@@ -2,7 +2,7 @@ use Rattle.std.proofs.Common.{ap, ◌∙◌}
 use Rattle.std.specs.List.{filter_map}
 use Rattle.std.proofs.lemmas.Result.{IfOk-weaker}
 use Rattle.cal_filter.specs.Kept.{kept}
-use Rattle.cal_engine.specs.Keys.{room_of}
+use Rattle.cal_keys.specs.Keys.{room_of}
 use Rattle.cal_engine.proofs.Tallying.{holds_in}
 use Rattle.cal_engine.proofs.snapshot_fold.SnapshotFold.finish.Goals as goal
 

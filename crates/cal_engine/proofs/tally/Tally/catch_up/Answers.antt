@@ -1,6 +1,6 @@
 use Rattle.std.proofs.Common.{map, refl}
-use Rattle.cal_engine.specs.Keys.{names_in}
-use Rattle.cal_engine.specs.Readings.{reading_of}
+use Rattle.cal_keys.specs.Keys.{names_in}
+use Rattle.cal_parts.specs.Readings.{reading_of}
 use Rattle.cal_engine.specs.declared.tally.Tally.{Tally}
 use Rattle.cal_engine.proofs.Tallying.{tally_caught_up, tally_covered}
 use Rattle.cal_engine.proofs.tally.Tally.catch_up.Goals as goal

@@ -1,7 +1,7 @@
 use Rattle.std.proofs.Common.{map, subst, ap, ◌∙◌, arith}
-use Rattle.cal_engine.specs.Counters.{AreCounters}
-use Rattle.cal_engine.specs.Keys.{room_of}
-use Rattle.cal_engine.specs.Readings.{reading_of}
+use Rattle.cal_parts.specs.Counters.{AreCounters}
+use Rattle.cal_keys.specs.Keys.{room_of}
+use Rattle.cal_parts.specs.Readings.{reading_of}
 use Rattle.cal_engine.proofs.Tallying.{no_groups_in, no_keys}
 use Rattle.cal_engine.proofs.tally.Tally.new.Goals as goal
 

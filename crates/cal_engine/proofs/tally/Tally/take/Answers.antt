@@ -1,9 +1,9 @@
 use Rattle.std.proofs.Common.{map, refl}
 use Rattle.cal_context.specs.Snapshots.{meaning}
-use Rattle.cal_engine.specs.Keys.{names_in}
-use Rattle.cal_engine.specs.Readings.{parts_of, reading_of}
+use Rattle.cal_keys.specs.Keys.{names_in}
+use Rattle.cal_parts.specs.Readings.{parts_of, reading_of}
 use Rattle.cal_engine.specs.declared.tally.Tally.{Tally}
-use Rattle.cal_engine.proofs.MergedGroups.{sieve_own}
+use Rattle.cal_keys.proofs.SieveLemmas.{sieve_own}
 use Rattle.cal_engine.proofs.Tallying.{tallied}
 use Rattle.cal_engine.proofs.tally.Tally.take.Goals as goal
 

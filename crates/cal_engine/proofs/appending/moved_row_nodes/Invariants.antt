@@ -1,9 +1,0 @@
-use Rattle.cal_context.specs.Tree.{Grows}
-use Rattle.cal_engine.specs.Moves.{AreMovedNodes}
-use Rattle.cal_engine.proofs.appending.moved_row_nodes.Given as goal
-
-abbrev pub invariant-loop-place : goal.invariant-loop-place
-invariant-loop-place l = record {
-  grows : Grows l.fn.to l.to;
-  moved : AreMovedNodes l.from l.to l.moved.items;
-}

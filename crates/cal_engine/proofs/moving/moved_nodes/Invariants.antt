@@ -1,9 +1,0 @@
-use Rattle.cal_context.specs.Tree.{Grows}
-use Rattle.cal_engine.specs.Moves.{AreMovedNodes}
-use Rattle.cal_engine.proofs.moving.moved_nodes.Given as goal
-
-abbrev pub invariant-loop-number : goal.invariant-loop-number
-invariant-loop-number l = record {
-  grows : Grows l.fn.to l.to;
-  moved : AreMovedNodes l.from l.to l.moved.items;
-}

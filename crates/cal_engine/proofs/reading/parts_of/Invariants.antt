@@ -1,6 +1,0 @@
-use Rattle.std.proofs.Common.{◌≡◌, take}
-use Rattle.cal_engine.specs.Readings.{parts_of}
-use Rattle.cal_engine.proofs.reading.parts_of.Given as goal
-
-abbrev pub invariant-loop-reading : goal.invariant-loop-reading
-invariant-loop-reading l = l.parts.items ≡ parts_of (take l.reading-index l.readings) l.rec

@@ -1,6 +1,0 @@
-use Rattle.std.proofs.Common.{◌≡◌, map, take}
-use Rattle.cal_engine.specs.Readings.{reading_of}
-use Rattle.cal_engine.proofs.reading.readings_of.Given as goal
-
-abbrev pub invariant-loop-agg : goal.invariant-loop-agg
-invariant-loop-agg l = l.readings.items ≡ map reading_of (take l.agg-index l.aggs)

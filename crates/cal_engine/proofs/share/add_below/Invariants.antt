@@ -1,9 +1,0 @@
-use Rattle.std.proofs.Common.{◌≡◌, ◌++◌, filter}
-use Rattle.std.specs.Prelude.{slice_range}
-use Rattle.cal_engine.specs.Shares.{is_below}
-use Rattle.cal_engine.proofs.share.add_below.Given as goal
-
-abbrev pub invariant-loop-at : goal.invariant-loop-at
-invariant-loop-at l = record {
-  added : l.list.items ≡ l.fn.list.items ++ filter (is_below l.place) (slice_range l.fn.list.items l.from l.at);
-}

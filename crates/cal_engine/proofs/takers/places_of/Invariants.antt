@@ -1,6 +1,0 @@
-use Rattle.std.proofs.Common.{take}
-use Rattle.cal_engine.specs.Takers.{IsPlaced}
-use Rattle.cal_engine.proofs.takers.places_of.Given as goal
-
-abbrev pub invariant-loop-place : goal.invariant-loop-place
-invariant-loop-place l = record { placed : IsPlaced (take l.place l.names) l.places }

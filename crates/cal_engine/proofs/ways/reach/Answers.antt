@@ -1,6 +1,0 @@
-use Rattle.std.proofs.Common.{[]}
-use Rattle.cal_engine.proofs.Reaching.{leads-none}
-use Rattle.cal_engine.proofs.ways.reach.Goals as goal
-
-pub returns-clause-leads : goal.returns-clause-leads
-returns-clause-leads c = c.in_ok-node.ensures.leads [] (leads-none c.args.context.now c.has_each_once.ensures)

@@ -1,0 +1,13 @@
+pub mod Reaching
+pub mod TakerLemmas
+pub mod ShareLemmas
+pub mod ImmLemmas
+pub mod KeyLemmas
+pub mod MovedNumbers
+pub mod MovedKeys
+pub mod SieveLemmas
+pub mod KeyWays
+pub mod SingleKeys
+pub mod OwnNodes
+pub mod NodePlaces
+pub mod ReadSame

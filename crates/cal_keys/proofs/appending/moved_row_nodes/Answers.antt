@@ -1,0 +1,24 @@
+use Rattle.std.proofs.Common.{◌<◌, length}
+use Rattle.std.proofs.lemmas.List.Elements.{All-weaker}
+use Rattle.cal_context.specs.Snapshots.{IsBelowRoot}
+use Rattle.cal_context.proofs.CallerLemmas.{Grows-refl, Grows-trans}
+use Rattle.cal_keys.proofs.MovedNumbers.{nodes_none}
+use Rattle.cal_keys.proofs.appending.moved_row_nodes.Goals as goal
+
+pub move_nodes-requires : goal.move_nodes-requires
+move_nodes-requires c =
+    let t = c.args.from.now in
+    All-weaker (IsBelowRoot t) (λ n. n.0 < length t.paths) (λ n b. b.within) _
+    (c.are_below_root.ensures c.if-not-are_below_root.false)
+
+pub loop-place-init : goal.loop-place-init
+loop-place-init c = record {
+  grows = Grows-refl c.args.to.now;
+  moved = nodes_none c.args.from.now c.args.to.now _ c.in_ok-moved.moved.items c.in_ok-moved.ensures;
+}
+
+pub loop-place-preserved : goal.loop-place-preserved
+loop-place-preserved c = record {
+  grows = Grows-trans c.args.to.now c.loop-place.to c.move_nodes.new.to c.loop-place.invariant.grows c.in_ok-move_nodes.ensures.grows;
+  moved = c.in_ok-move_nodes.ensures.moved c.loop-place.invariant.moved;
+}

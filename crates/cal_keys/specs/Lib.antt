@@ -1,0 +1,15 @@
+pub mod FirstSeen
+pub mod Groups
+pub mod KeyTables
+pub mod Trails
+pub mod Takers
+pub mod Shares
+pub mod TakenImms
+pub mod Sieves
+pub mod Keys
+pub mod SnapshotRows
+pub mod Moves
+pub mod NodePlaces
+pub mod OwnWays
+pub mod KeysGrow
+pub mod Leading

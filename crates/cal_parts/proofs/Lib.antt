@@ -1,0 +1,12 @@
+pub mod Rooms
+pub mod Merging
+pub mod Adding
+pub mod Lasts
+pub mod Drops
+pub mod Counting
+pub mod Seekers
+pub mod PartTables
+pub mod PartLists
+pub mod Shown
+pub mod CountSums
+pub mod SameTexts

@@ -1,0 +1,21 @@
+use Rattle.std.proofs.Common.{[], ◌∷◌, length, sym, ap, ◌∙◌, arith}
+use Rattle.std.proofs.lemmas.Result.{on_ok_weaker}
+use Rattle.cal_parts.specs.PartLists.{merged_at, parts_in}
+use Rattle.cal_parts.specs.Parts.{part_over}
+use Rattle.cal_parts.proofs.PartLists.{at_set}
+use Rattle.cal_parts.proofs.part_list.PartList.add_wide.Goals as goal
+use Rattle.cal_parts.proofs.part_list.PartList.add_wide.Goals.{in-Wide, in-Narrow}
+
+pub returns-clause-added : goal.returns-clause-added
+returns-clause-added c =
+    let fresh = part_over c.args.kernel (c.args.number.now ∷ []) in
+    elim c.match-self.branch [
+      | in-Wide w ↦
+          let held = sym (ap parts_in w.in-Wide.is) ∙ c.self.view_is ∙ c.in_ok-widen.ensures in
+          rw (w.result-is, w.self-inside-is) (on_ok_weaker w.add.result
+          (λ added. at_set w.in-Wide.parts.items c.args.place w.index_mut.result.now w.add.new.self fresh
+          (omega (arith, c.requires, ap length held)) w.index_mut.ensures.value added
+          ∙ ap (λ ps. merged_at ps c.args.place fresh) held)
+          w.add.ensures)
+      | in-Narrow w ↦ rw w.result-is tt
+    ]
