@@ -1,5 +1,5 @@
 -- The words of `live [--clock=script|real] [--room=N]` (ours).
-use Rattle.std.specs.Prelude.{ℕ, ◌+◌, Bool, false, List, [], ◌∷◌, codes, map}
+use Rattle.std.specs.Prelude.{ℕ, ◌+◌, ◌≤◌, Bool, false, List, [], ◌∷◌, codes, map}
 use Rattle.std.specs.Prelude.{Option, None, Some, Result, Ok, Err, String, string_bytes}
 use Rattle.std.specs.Prelude.{is_some, unwrap_or, if◌then◌else◌}
 use Rattle.std.specs.Global.{Global}
@@ -12,6 +12,10 @@ use Rattle.cal_call_live.specs.declared.words.LiveOptions.{LiveOptions}
 
 abbrev pub no_options : LiveOptions
 no_options = record { real = None; room = None }
+
+-- a mailbox may have room for so many parts
+abbrev pub IsRoom : ℕ → Type 0
+IsRoom room = (1 ≤ room) × (room ≤ 1024)
 
 -- the room that a decimal of at most four digits writes, from 1 to 1024
 abbrev pub room_in : List ℕ → Option ℕ
@@ -31,11 +35,14 @@ with_word options word =
     (option_map_or (λ text. with_room options (number_once options.room (room_in text)))
     (value_behind (codes "--room=") word) None)
 
--- the command of these options and of the words from this place on: by default the script's clock
--- and room for 16 parts
+-- the command of these options: by default the script's clock, and room for 16 parts
+abbrev pub command_from : LiveOptions → LiveCommand
+command_from options =
+    record { real = unwrap_or options.real false; room = unwrap_or options.room 16 }
+
+-- the command of these options and of the words from this place on
 abbrev pub live_of : ℕ → LiveOptions → List (List ℕ) → Result LiveCommand ℕ
-live_of place options [] =
-    Ok (record { real = unwrap_or options.real false; room = unwrap_or options.room 16 })
+live_of place options [] = Ok (command_from options)
 live_of place options (word ∷ words) =
     option_map_or (λ next. live_of (place + 1) next words) (with_word options word) (Err place)
 

@@ -1,5 +1,5 @@
 //! The top call: it does what the words of `live` ask for.
-ghost use Rattle.std.specs.Prelude.{◌≡◌, ◌≤◌, ◌×◌, false, length, IfErr, IfNone, IfOk, IsErr, Ok};
+ghost use Rattle.std.specs.Prelude.{◌≡◌, ◌≤◌, false, length, IfErr, IfNone, IfOk, IsErr, Ok};
 ghost use Rattle.std.specs.Prelude.{Some};
 ghost use Rattle.cal_base.specs.Change.{Change, change_of};
 ghost use Rattle.cal_call.specs.Causes.{Answers, BytesDecide, Causes, ReadsInput};
@@ -12,6 +12,7 @@ ghost use Rattle.cal_call.specs.Tasks.{ThreadsTask};
 ghost use Rattle.cal_call.specs.declared.words.RunText.TheVariants as run_text;
 ghost use Rattle.cal_call_live.specs.Quiet.{IsQuiet};
 ghost use Rattle.cal_call_live.specs.Tasks.{tasked};
+ghost use Rattle.cal_call_live.specs.Words.{IsRoom};
 ghost use Rattle.cal_ran.specs.Told.{HaveToldAll};
 ghost use Rattle.cal_run.specs.Lawful.{Lawful};
 ghost use Rattle.cal_script.specs.Reading.{IsValidScript};
@@ -32,15 +33,16 @@ use std::hash::RandomState;
 use std::sync::Wait;
 use std::thread::Threads;
 
-/// Does what the words of `live` ask for: as `replay` it reads the input, a script, to its end, runs
-/// its threads, and writes the text of the run's records; but what the threads flush goes into a
-/// mailbox with the room that the words name, and one thread more collects it while they run, so
+/// Does what the words of `live` ask for: as `replay` it reads the input, a script, to its end,
+/// runs its threads, and writes the text of the run's records; but what the threads flush goes into
+/// a mailbox with the room that the words name, and one thread more collects it while they run, so
 /// that no flush meets another thread's turn. Where it does less, or a line was refused, the fault
 /// says why, and its line is put on `errors`. What is asked first is refused first, as by `replay`.
 ///
-/// That it returns isn't promised, least of all where a thread can't be made: the threads wait under
-/// `wait` for room in the mailbox, and the collector for what they send. What else is lent serves as
-/// it does in `run`; it takes the time of `replay`, and memory for the parts in the mailbox.
+/// That it returns isn't promised, least of all where a thread can't be made: the threads wait
+/// under `wait` for room in the mailbox, and the collector for what they send. What else is lent
+/// serves as it does in `run`; it takes the time of `replay`, and memory for the parts in the
+/// mailbox.
 pub fn run_live<
     R: Threads + Sync,
     Q: Wait + Sync,
@@ -157,7 +159,7 @@ fn live_by<
     probes: &P,
 ) -> Ended
     requires clocks { 64 ≤ length clocks.old.items }
-    requires room { (1 ≤ command.room) × (command.room ≤ 1024) }
+    requires room { IsRoom command.room }
     ensures answers { Answers (Ok (ThreadsTask run_text.Records command.real))
         (change_of S.left S.faults input.old input.new)
         (change_of W.written W.faults output.old output.new) result.journal result.fault }
@@ -201,7 +203,7 @@ fn made_run<
     probes: &P,
 ) -> Result<Made, Fault>
     requires clocks { 64 ≤ length clocks.old.items }
-    requires room { (1 ≤ command.room) × (command.room ≤ 1024) }
+    requires room { IsRoom command.room }
     ensures read { IfOk result (λ made. ReadsInput (change_of S.left S.faults input.old input.new)
         (λ bytes. Makes (ThreadsTask run_text.Records command.real) bytes made.text made.journal)) }
     ensures refused { IfOk result (λ made. made.refused ≡ refused_lines made.journal) }
@@ -248,7 +250,7 @@ fn run_to_text<
 ) -> Result<Made, OutOfMemory>
     requires script { IsValidScript script.now }
     requires clocks { 64 ≤ length clocks.old.items }
-    requires room { (1 ≤ command.room) × (command.room ≤ 1024) }
+    requires room { IsRoom command.room }
     ensures lawful { IfOk result (λ made. Lawful script.now made.journal) }
     ensures real { IfOk result (λ made. made.journal.real ≡ command.real) }
     ensures quiet { IfOk result (λ made. IsQuiet made.journal) }
@@ -261,7 +263,16 @@ fn run_to_text<
     valid_script_law();
     let real = command.real;
     let ended = run_live_script(
-        rt, wait, alloc, hashers, script, real, clocks, gate, probes, command.room,
+        rt,
+        wait,
+        alloc,
+        hashers,
+        script,
+        real,
+        clocks,
+        gate,
+        probes,
+        command.room,
     )?;
     let replayed = write_ended(alloc, script, ended)?;
     Ok(made_of(script, replayed))

@@ -1,9 +1,10 @@
 //! The words of `live`, and what they ask for.
-ghost use Rattle.std.specs.Prelude.{◌≡◌, ◌+◌, ◌≤◌, ◌×◌, IfOk, IfSome, map, string_bytes};
+ghost use Rattle.std.specs.Prelude.{◌≡◌, ◌+◌, IfOk, IfSome, map, string_bytes};
 ghost use Rattle.cal_call.specs.GenWords.{number_once};
 ghost use Rattle.cal_call.specs.Words.{given_once};
-ghost use Rattle.cal_call_live.specs.Words.{asked, begins_live, given, live_of, no_options};
-ghost use Rattle.cal_call_live.specs.Words.{room_in, with_clock, with_room, with_word};
+ghost use Rattle.cal_call_live.specs.Words.{IsRoom, asked, begins_live, command_from, given};
+ghost use Rattle.cal_call_live.specs.Words.{live_of, no_options, room_in, with_clock, with_room};
+ghost use Rattle.cal_call_live.specs.Words.{with_word};
 
 use cal_call::{clock_named, number_of, number_once};
 
@@ -80,7 +81,7 @@ impl LiveOptions {
 
     /// The command of these options.
     fn command(self) -> LiveCommand
-        ensures { Ok result ≡ live_of 1 self [] }
+        ensures { result ≡ command_from self }
     {
         LiveCommand {
             real: self.real.unwrap_or(false),
@@ -103,7 +104,7 @@ pub fn asks_to_live(words: &[String]) -> bool
 /// the word rule. It takes no memory.
 pub fn read_live_words(words: &[String]) -> Result<LiveCommand, u32>
     ensures asked { result ≡ asked words.now }
-    ensures room { IfOk result (λ command. (1 ≤ command.room) × (command.room ≤ 1024)) }
+    ensures room { IfOk result (λ command. IsRoom command.room) }
 {
     let Some((command, others)) = words.split_first() else {
         return Err(0);
@@ -116,8 +117,7 @@ pub fn read_live_words(words: &[String]) -> Result<LiveCommand, u32>
 
 /// The command of the words behind `live`.
 fn read_options(words: &[String]) -> Result<LiveCommand, u32>
-    ensures asked { result ≡ live_of 1 no_options (map string_bytes words.now) }
-    ensures room { IfOk result (λ command. (1 ≤ command.room) × (command.room ≤ 1024)) }
+    ensures { result ≡ live_of 1 no_options (map string_bytes words.now) }
 {
     let mut options = LiveOptions::new();
     for (index, word) in words.iter().enumerate() {
