@@ -1,7 +1,7 @@
 -- Where no flush of a channel of the script was answered busy, no line of a lawful journal was.
 use Rattle.std.proofs.Common.{◌≡◌, ℕ, ◌+◌, ◌<◌, List, [], ◌∷◌, length, get_or, refl, sym, ap}
 use Rattle.std.proofs.Common.{◌∙◌, subst, arith}
-use Rattle.std.specs.Prelude.{false, Some, None, Option, IfSome, slice_get, zip}
+use Rattle.std.specs.Prelude.{false, Some, None, Option, IfSome, zip}
 use Rattle.std.specs.List.{All, Contains}
 use Rattle.std.proofs.lemmas.List.Elements.{All-contains, All-nil}
 use Rattle.std.proofs.lemmas.Option.{get_or_from_slice_get, slice_get-get_or, slice_get_within}
