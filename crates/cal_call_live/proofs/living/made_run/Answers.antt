@@ -32,7 +32,7 @@ returns-in-Ok-clause-read g c =
     c.in-Ok.ensures.text
 
 -- memory ran out behind the reading
-pub returns-in-Err-clause-caused : goal.returns-in-Err-clause-caused
-returns-in-Err-clause-caused g c = λ output.
+pub returns-clause-caused : goal.returns-clause-caused
+returns-clause-caused g c = λ output.
     ran_out_behind run_text.Records c.args.command.real _ output no_journal _
     c.in_ok-script.ensures.read

@@ -45,6 +45,7 @@ returns-clause-text g c =
 
 pub returns-clause-told : goal.returns-clause-told
 returns-clause-told g c =
-    subst (λ (j : Journal). HaveToldAll g.K.Clock.given j c.args.clocks.now.items _)
+    subst (λ (j : Journal). HaveToldAll g.K.Clock.given j c.args.clocks.now.items
+    c.run_live_script.new.clocks.items)
     (sym (c.made_of.ensures.journal ∙ c.in_ok-replayed.ensures.journal))
     c.in_ok-ended.ensures.told
