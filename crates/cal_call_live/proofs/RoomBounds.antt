@@ -1,9 +1,9 @@
 -- The room that words ask for is within the limits of a mailbox.
 use Rattle.std.proofs.Common.{◌≡◌, ℕ, ◌+◌, ◌≤◌, Bool, true, false, List, [], ◌∷◌, Option, Some}
-use Rattle.std.proofs.Common.{None, Result, Ok, Err, lit≤}
+use Rattle.std.proofs.Common.{None, Result, Err, lit≤}
 use Rattle.std.specs.Prelude.{◌&&◌, IfOk, IfSome, codes, if◌then◌else◌, length, nat_le, refl}
 use Rattle.std.specs.Prelude.{unwrap_or}
-use Rattle.std.specs.Option.{option_map, option_map_or}
+use Rattle.std.specs.Option.{option_map_or}
 use Rattle.std.proofs.lemmas.Bool.{leb-true}
 use Rattle.cal_value.specs.Reading.{uint_of}
 use Rattle.cal_call.specs.GenWords.{in_range, number_once, value_behind}

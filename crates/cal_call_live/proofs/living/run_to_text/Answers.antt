@@ -1,4 +1,4 @@
-use Rattle.std.proofs.Common.{◌≡◌, ◌∙◌, ap, subst, sym}
+use Rattle.std.proofs.Common.{◌∙◌, ap, subst, sym}
 use Rattle.cal_ran.specs.Told.{HaveToldAll}
 use Rattle.cal_records.specs.Records.{records_of}
 use Rattle.cal_run.specs.Lawful.{Lawful}
