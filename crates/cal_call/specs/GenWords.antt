@@ -26,10 +26,14 @@ abbrev pub in_range : ℕ → ℕ → Option ℕ → Option ℕ
 in_range least most None = None
 in_range least most (Some n) = if nat_le least n && nat_le n most then Some n else None
 
--- what a decimal of at most ten digits writes, in a range
+-- what a decimal of at most so many digits writes, in a range
+abbrev pub number_of : ℕ → ℕ → ℕ → List ℕ → Option ℕ
+number_of digits least most text =
+    if nat_le (length text) digits then in_range least most (uint_of text) else None
+
+-- the same of ten digits
 abbrev pub number_in : ℕ → ℕ → List ℕ → Option ℕ
-number_in least most text =
-    if nat_le (length text) 10 then in_range least most (uint_of text) else None
+number_in least most text = number_of 10 least most text
 
 -- a number, unless a word gave one before
 abbrev pub number_once : Option ℕ → Option ℕ → Option (Option ℕ)

@@ -2,9 +2,9 @@
 ghost use Rattle.std.specs.Prelude.{◌≡◌, ◌+◌, false, true, is_some, map, string_bytes, IfSome};
 ghost use Rattle.cal_value.specs.Reading.{uint_of};
 ghost use Rattle.cal_call.specs.GenWords.{all_lines, count_given, gen_from, gen_of, no_gen_options};
-ghost use Rattle.cal_call.specs.GenWords.{number_in, number_once, with_gen_word, with_lines};
+ghost use Rattle.cal_call.specs.GenWords.{number_in, number_of, number_once, with_gen_word};
 ghost use Rattle.cal_call.specs.GenWords.{with_next_word, with_other_word, with_print};
-ghost use Rattle.cal_call.specs.GenWords.{with_seed, with_threads};
+ghost use Rattle.cal_call.specs.GenWords.{with_lines, with_seed, with_threads};
 
 use crate::{Command, Print};
 
@@ -157,7 +157,14 @@ fn read_decimal(text: &str) -> Option<u64>
 fn number_in(least: u32, most: u32, text: &str) -> Option<u32>
     ensures { result ≡ number_in least most text.now }
 {
-    if text.len() > 10 {
+    number_of(10, least, most, text)
+}
+
+/// The number that a decimal of at most so many digits writes, in a range. No sign stands before it.
+pub fn number_of(digits: usize, least: u32, most: u32, text: &str) -> Option<u32>
+    ensures { result ≡ number_of digits least most text.now }
+{
+    if text.len() > digits {
         return None;
     }
     match read_decimal(text) {
@@ -169,7 +176,7 @@ fn number_in(least: u32, most: u32, text: &str) -> Option<u32>
 }
 
 /// A number, unless a word gave one before.
-fn number_once(before: Option<u32>, number: Option<u32>) -> Option<Option<u32>>
+pub fn number_once(before: Option<u32>, number: Option<u32>) -> Option<Option<u32>>
     ensures number { result ≡ number_once before number }
     ensures fresh { IfSome result (λ now. is_some before ≡ false) }
     ensures given { IfSome result (λ now. is_some now ≡ true) }

@@ -74,12 +74,25 @@ fn run_to_records<R: Threads + Sync, P: Prober + Sync, K: Clock + Send + Drop, G
 {
     valid_script_law();
     match replay_text(rt, alloc, hashers, script, real, clocks, gate, probes) {
-        Ok(Replayed { text, journal }) => Ok(Made {
-            text,
-            refused: lawful_refused(script, &journal),
-            journal: UsedJournal::given(journal),
-        }),
+        Ok(replayed) => Ok(made_of(script, replayed)),
         Err(OutOfMemory) => Err(OutOfMemory),
+    }
+}
+
+/// What was made of a run in threads: the text of its records, its journal, and how many of its
+/// lines were refused.
+pub fn made_of(script: &Script, replayed: Replayed) -> Made
+    requires runnable { IsRunnable script.now }
+    requires lawful { Lawful script.now replayed.journal }
+    ensures text { result.text ≡ replayed.text }
+    ensures journal { result.journal ≡ replayed.journal }
+    ensures refused { result.refused ≡ refused_lines replayed.journal }
+{
+    let Replayed { text, journal } = replayed;
+    Made {
+        text,
+        refused: lawful_refused(script, &journal),
+        journal: UsedJournal::given(journal),
     }
 }
 

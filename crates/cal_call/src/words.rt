@@ -171,7 +171,7 @@ fn clock_of(words: &[String]) -> Result<bool, u32>
 }
 
 /// Whether the clock that a word names is a real one.
-fn clock_named(word: &str) -> Option<bool>
+pub fn clock_named(word: &str) -> Option<bool>
     ensures { result ≡ clock_named word.now }
 {
     match word {

@@ -8,4 +8,4 @@
 
 mod replaying;
 
-pub use replaying::{Replayed, replay_text};
+pub use replaying::{Replayed, replay_text, write_ended};

@@ -56,8 +56,9 @@ pub fn replay_text<R: Threads + Sync, P: Prober + Sync, K: Clock + Send + Drop, 
     write_ended(alloc, script, ended)
 }
 
-/// The text of the records of a run that has ended, and its journal.
-fn write_ended(
+/// The text of the records of a run that has ended, and its journal. An `Err` is want of memory, and
+/// drops all that the run has left.
+pub fn write_ended(
     alloc: Global,
     script: &Script,
     mut ended: EndedRun<'_>,

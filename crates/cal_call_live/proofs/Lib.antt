@@ -1,0 +1,2 @@
+mod RoomBounds
+mod Unbusy
