@@ -54,13 +54,16 @@ fn main(rt: HostRuntime) -> ExitCode {
     if let Ok(words) = &words
         && asks_to_live(words.as_slice())
     {
-        return live(&rt, hashers, words.as_slice(), &mut input, &mut output, &mut errors);
+        let words = words.as_slice();
+        return live(&rt, hashers, words, &mut input, &mut output, &mut errors);
     }
     if let Ok(words) = &words
         && asks_to_watch(words.as_slice())
     {
         let seeds = Seeds::of(&hashers);
-        return watch(rt.alloc(), seeds, words.as_slice(), &mut input, &mut output, &mut errors);
+        let alloc = rt.alloc();
+        let words = words.as_slice();
+        return watch(alloc, seeds, words, &mut input, &mut output, &mut errors);
     }
     if let Ok(words) = &words
         && asks_for_files(words.as_slice())

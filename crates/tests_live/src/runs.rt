@@ -62,11 +62,7 @@ fn rows_of(
 }
 
 /// What a run that has ended leaves.
-fn left_of(
-    alloc: Global,
-    script: &Script,
-    ended: &mut EndedRun<'_>,
-) -> Result<Left, OutOfMemory>
+fn left_of(alloc: Global, script: &Script, ended: &mut EndedRun<'_>) -> Result<Left, OutOfMemory>
     requires { IsEnded script.now ended.old }
 {
     let flushes = flushes_of(&ended.journal);
