@@ -45,7 +45,7 @@ _caliper() {
     [ "$before" = = ] && option=${COMP_WORDS[COMP_CWORD - 2]}
     COMPREPLY=()
     if [ "$COMP_CWORD" -eq 1 ]; then
-        _cali_words 'serial replay journal query watch files names gen --help --version' "$at"
+        _cali_words 'serial replay journal live query watch files names gen --help --version' "$at"
         return
     fi
     case $option in
@@ -61,10 +61,11 @@ _caliper() {
     --print) _cali_words 'script summary' "$at"; return ;;
     --trigger) _cali_words 'main slow' "$at"; return ;;
     --in) _cali_files cali "$at"; return ;;
-    --q | --seed | --threads | --lines) return ;;
+    --q | --room | --seed | --threads | --lines) return ;;
     esac
     case ${COMP_WORDS[1]} in
     replay | journal) _cali_words '--clock=script --clock=real' "$at" ;;
+    live) _cali_words '--clock=script --clock=real --room=' "$at" ;;
     query) _cali_words '--q= --globals=off --globals=join' "$at" ;;
     watch) _cali_words '--q= --trigger=main --trigger=slow' "$at" ;;
     files) _cali_words '--in= --q=' "$at" ;;

@@ -17,6 +17,10 @@ usage: caliper COMMAND < INPUT > OUTPUT
                 what the script's tick lines say, or with real what the machine's clock shows
     journal [--clock=script|real]
                 the same, and writes the run's journal, by which serial writes that run again
+    live [--clock=script|real] [--room=N]
+                as replay, but what a thread flushes goes through a mailbox with room for N parts (1
+                to 1024, else 16) to one thread more, which merges them while the others run. So no
+                flush is busy. Where no thread can be made it may wait without end
     query [--q=TEXT] [--globals=off|join]
                 reads a .cali stream, and writes the answer of the query TEXT over its rows, a line
                 for each; with join the globals stand at the end of each row that the query sees

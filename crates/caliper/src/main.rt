@@ -1,13 +1,14 @@
 //! The program `caliper`: it lends its runtime, its words, its clocks, its probes, its triggers and
 //! its standard streams to the top call that the first word picks.
 //!
-//! What is promised of a run stands in `cal_call`, `cal_call_watch`, `cal_call_names` and
-//! `cal_call_files`, which are handed on here. What standard input and files hold, where standard
-//! output leads and what the machine's clock shows, no contract can say.
+//! What is promised of a run stands in `cal_call`, `cal_call_live`, `cal_call_watch`,
+//! `cal_call_names` and `cal_call_files`, which are handed on here. What standard input and files
+//! hold, where standard output leads and what the machine's clock shows, no contract can say.
 #![tactic(auto)]
 
 mod clocks;
 mod filing;
+mod living;
 mod naming;
 mod probes;
 mod serving;
@@ -15,6 +16,7 @@ mod watching;
 mod words;
 
 use crate::filing::file;
+use crate::living::live;
 use crate::naming::name;
 use crate::serving::serve_words;
 use crate::watching::watch;
@@ -28,6 +30,7 @@ pub use cal_call_files::{
     FilesCommand, FilesFault, FilesOutcome, asks_for_files, put_files_fault, read_files_words,
     run_files,
 };
+pub use cal_call_live::{LiveCommand, asks_to_live, read_live_words, run_live};
 pub use cal_call_names::{NameReply, NamesOutcome, asks_for_names, read_names_words, run_names};
 pub use cal_call_watch::{TriggerName, WatchCommand, asks_to_watch, read_watch_words, run_watch};
 use cal_seeds::Seeds;
@@ -49,16 +52,18 @@ fn main(rt: HostRuntime) -> ExitCode {
         return out_of_memory(&mut errors);
     };
     if let Ok(words) = &words
+        && asks_to_live(words.as_slice())
+    {
+        let words = words.as_slice();
+        return live(&rt, hashers, words, &mut input, &mut output, &mut errors);
+    }
+    if let Ok(words) = &words
         && asks_to_watch(words.as_slice())
     {
-        return watch(
-            rt.alloc(),
-            Seeds::of(&hashers),
-            words.as_slice(),
-            &mut input,
-            &mut output,
-            &mut errors,
-        );
+        let seeds = Seeds::of(&hashers);
+        let alloc = rt.alloc();
+        let words = words.as_slice();
+        return watch(alloc, seeds, words, &mut input, &mut output, &mut errors);
     }
     if let Ok(words) = &words
         && asks_for_files(words.as_slice())
