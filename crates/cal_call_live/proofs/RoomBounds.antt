@@ -1,5 +1,5 @@
 -- The room that words ask for is within the limits of a mailbox.
-use Rattle.std.proofs.Common.{◌≡◌, ℕ, ◌+◌, ◌≤◌, Bool, true, false, List, [], ◌∷◌, Option, Some}
+use Rattle.std.proofs.Common.{◌≡◌, ℕ, ◌+◌, Bool, true, false, List, [], ◌∷◌, Option, Some}
 use Rattle.std.proofs.Common.{None, Result, Err, lit≤}
 use Rattle.std.specs.Prelude.{◌&&◌, IfOk, IfSome, codes, if◌then◌else◌, length, nat_le, refl}
 use Rattle.std.specs.Prelude.{unwrap_or}

@@ -1,5 +1,4 @@
 use Rattle.std.proofs.Common.{◌∙◌, ap, subst, sym}
-use Rattle.cal_ran.specs.Told.{HaveToldAll}
 use Rattle.cal_records.specs.Records.{records_of}
 use Rattle.cal_run.specs.Lawful.{Lawful}
 use Rattle.cal_script.specs.declared.journal.Journal.{Journal}
@@ -19,17 +18,6 @@ made_of-requires-clause-lawful g c =
     c.in_ok-ended.ensures.ended.lawful
 
 -- and it is the one that is given
-pub returns-clause-lawful : goal.returns-clause-lawful
-returns-clause-lawful g c =
-    subst (Lawful c.args.script.now)
-    (sym (c.made_of.ensures.journal ∙ c.in_ok-replayed.ensures.journal))
-    c.in_ok-ended.ensures.ended.lawful
-
-pub returns-clause-real : goal.returns-clause-real
-returns-clause-real g c =
-    ap (λ (j : Journal). j.real) (c.made_of.ensures.journal ∙ c.in_ok-replayed.ensures.journal)
-    ∙ c.in_ok-ended.ensures.real
-
 pub returns-clause-quiet : goal.returns-clause-quiet
 returns-clause-quiet g c =
     subst IsQuiet (sym (c.made_of.ensures.journal ∙ c.in_ok-replayed.ensures.journal))
@@ -42,10 +30,3 @@ returns-clause-text g c =
     c.made_of.ensures.text ∙ c.in_ok-replayed.ensures.text
     ∙ ap (λ (j : Journal). canonical_text (records_of c.args.script.now j))
     (sym (c.made_of.ensures.journal ∙ c.in_ok-replayed.ensures.journal))
-
-pub returns-clause-told : goal.returns-clause-told
-returns-clause-told g c =
-    subst (λ (j : Journal). HaveToldAll g.K.Clock.given j c.args.clocks.now.items
-    c.run_live_script.new.clocks.items)
-    (sym (c.made_of.ensures.journal ∙ c.in_ok-replayed.ensures.journal))
-    c.in_ok-ended.ensures.told
