@@ -1,5 +1,5 @@
 //! Runs whose text no schedule changes.
-ghost use Rattle.std.specs.Prelude.{◌≤◌, ◌×◌};
+ghost use Rattle.std.specs.Prelude.{◌≤◌};
 
 use crate::flushes::Flushes;
 use crate::runs::{Left, run, script_of};

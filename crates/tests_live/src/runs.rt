@@ -1,5 +1,5 @@
 //! A run of a script beside a collector, by the script's clock: its flushes, and its rows' text.
-ghost use Rattle.std.specs.Prelude.{◌≤◌, ◌×◌, IfOk};
+ghost use Rattle.std.specs.Prelude.{◌≤◌, IfOk};
 ghost use Rattle.cal_ran.specs.Ended.{IsEnded};
 ghost use Rattle.cal_script.specs.Reading.{IsValidScript};
 
