@@ -1,5 +1,7 @@
 //! The text of a run in threads: that of its records, or that of its journal.
-ghost use Rattle.std.specs.Prelude.{◌≡◌, ◌≤◌, IfOk, length};
+ghost use Rattle.std.specs.Prelude.{◌≡◌, ◌≤◌, IfOk, OnOk, length};
+ghost use Rattle.cal_journal.specs.Printing.{journal_text};
+ghost use Rattle.cal_journal.specs.ReadBack.{HoldsJournal};
 ghost use Rattle.cal_ran.specs.Told.{HaveToldAll};
 ghost use Rattle.cal_run.specs.Lawful.{Lawful};
 ghost use Rattle.cal_script.specs.Reading.{IsValidScript};
@@ -18,10 +20,10 @@ use cal_replayed::{Replayed, replay_text};
 use cal_run::{Prober, lawful_journal_law};
 use cal_script::{Journal, Script};
 use cal_valid::valid_script_law;
-use cal_value::OutOfMemory;
+use cal_value::{OutOfMemory, Text};
 use std::alloc::Global;
 use std::hash::RandomState;
-use std::thread::Threads;
+use std::thread::{Threads, join};
 
 /// Runs a script, each of its threads as a thread with the clock at its place, and makes this text
 /// of the run. An `Err` is want of memory: some lines may have run, and clocks may be lost.
@@ -119,8 +121,7 @@ fn run_to_journal<R: Threads + Sync, P: Prober + Sync, K: Clock + Send + Drop, G
 {
     valid_script_law();
     let ended = run_script(rt, alloc, hashers, script, real, clocks, gate, probes)?;
-    let journal = journal_of(ended);
-    let text = print_journal(alloc, &journal)?;
+    let (text, journal) = print_ended(rt, alloc, ended)?;
     Ok(Made {
         text,
         refused: lawful_refused(script, &journal),
@@ -128,11 +129,39 @@ fn run_to_journal<R: Threads + Sync, P: Prober + Sync, K: Clock + Send + Drop, G
     })
 }
 
-/// The journal of a run that has ended. What else it left is dropped.
-fn journal_of(ended: EndedRun<'_>) -> Journal
-    ensures { result ≡ ended.entry.journal }
+/// The text of the journal of a run that has ended, and the journal. What the run's channels and
+/// tables hold is dropped in a thread of its own while the text is made, or in this one where none
+/// can be made.
+fn print_ended<R: Threads + Sync>(
+    rt: &R,
+    alloc: Global,
+    ended: EndedRun<'_>,
+) -> Result<(Text, Journal), OutOfMemory>
+    ensures text { IfOk result (λ printed. printed.0 ≡ journal_text printed.1) }
+    ensures held { IfOk result (λ printed. HoldsJournal printed.1) }
+    ensures journal { IfOk result (λ printed. printed.1 ≡ ended.entry.journal) }
 {
-    ended.journal
+    let EndedRun {
+        channels,
+        tables,
+        journal,
+        ..
+    } = ended;
+    let ((), text) = join(
+        rt,
+        || {
+            drop(channels);
+            drop(tables);
+        },
+        || -> Result<Text, OutOfMemory>
+            ensures { IfOk result (λ text. text ≡ journal_text journal)
+                × OnOk result (HoldsJournal journal) }
+        { print_journal(alloc, &journal) },
+    );
+    match text {
+        Ok(text) => Ok((text, journal)),
+        Err(error) => Err(error),
+    }
 }
 
 /// How many lines of a lawful journal were refused.

@@ -274,6 +274,6 @@ fn run_to_text<
         probes,
         command.room,
     )?;
-    let replayed = write_ended(alloc, script, ended)?;
+    let replayed = write_ended(rt, alloc, script, ended)?;
     Ok(made_of(script, replayed))
 }

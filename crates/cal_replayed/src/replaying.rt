@@ -1,5 +1,6 @@
 //! A run in threads, to its text.
 ghost use Rattle.std.specs.Prelude.{◌≡◌, ◌≤◌, [], IfOk, OnOk, length};
+ghost use Rattle.cal_context.specs.Snapshots.{IsIn, meaning};
 ghost use Rattle.cal_context.specs.Tree.{Grows};
 ghost use Rattle.cal_ran.specs.Ended.{IsEnded};
 ghost use Rattle.cal_ran.specs.Told.{HaveToldAll};
@@ -8,19 +9,21 @@ ghost use Rattle.cal_records.specs.Records.{globals_of, records_of, run_rows};
 ghost use Rattle.cal_run.specs.Lawful.{Lawful};
 ghost use Rattle.cal_script.specs.Reading.{IsValidScript};
 ghost use Rattle.cal_write.specs.CanonicalText.{canonical_text};
-ghost use Rattle.cal_write.specs.Writer.{HasTaken};
+ghost use Rattle.cal_write.specs.Writer.{EndsWith, HasTaken};
 
 use cal_base::{Clock, Gate};
-use cal_context::Snapshot;
+use cal_context::{Context, Snapshot};
 use cal_ran::{EndedRun, run_script};
 use cal_records::put_globals;
 use cal_run::Prober;
 use cal_script::{Journal, Script};
+use cal_table::Table;
 use cal_value::{OutOfMemory, Text};
 use cal_write::Writer;
 use std::alloc::Global;
 use std::hash::RandomState;
-use std::thread::Threads;
+use std::mem::replace;
+use std::thread::{Threads, join};
 
 /// The text of the records of a run, and its journal.
 #[derive(Drop)]
@@ -53,12 +56,14 @@ pub fn replay_text<R: Threads + Sync, P: Prober + Sync, K: Clock + Send + Drop, 
         (λ r. HaveToldAll K.given r.journal clocks.old.items clocks.new.items) }
 {
     let ended = run_script(rt, alloc, hashers, script, real, clocks, gate, probes)?;
-    write_ended(alloc, script, ended)
+    write_ended(rt, alloc, script, ended)
 }
 
-/// The text of the records of a run that has ended, and its journal. An `Err` is want of memory, and
-/// drops all that the run has left.
-pub fn write_ended(
+/// The text of the records of a run that has ended, and its journal. The run's tables are dropped in
+/// a thread of their own while the text is ended, or in this one where none can be made. An `Err` is
+/// want of memory, and drops all that the run has left.
+pub fn write_ended<R: Threads + Sync>(
+    rt: &R,
     alloc: Global,
     script: &Script,
     mut ended: EndedRun<'_>,
@@ -68,7 +73,7 @@ pub fn write_ended(
     ensures text { IfOk result
         (λ r. r.text ≡ canonical_text (records_of script.now ended.entry.journal)) }
 {
-    match ended_text(alloc, script, &mut ended) {
+    match ended_text(rt, alloc, script, &mut ended) {
         Ok(text) => Ok(Replayed {
             text,
             journal: ended.journal,
@@ -77,8 +82,13 @@ pub fn write_ended(
     }
 }
 
-/// The text of the records of a run that has ended.
-fn ended_text(alloc: Global, script: &Script, ended: &mut EndedRun<'_>) -> Result<Text, OutOfMemory>
+/// The text of the records of a run that has ended, which loses its tables.
+fn ended_text<R: Threads + Sync>(
+    rt: &R,
+    alloc: Global,
+    script: &Script,
+    ended: &mut EndedRun<'_>,
+) -> Result<Text, OutOfMemory>
     requires { IsEnded script.now ended.old }
     ensures text { IfOk result
         (λ text. text ≡ canonical_text (records_of script.now ended.old.journal)) }
@@ -89,7 +99,32 @@ fn ended_text(alloc: Global, script: &Script, ended: &mut EndedRun<'_>) -> Resul
         drop(writer);
         return Err(OutOfMemory);
     };
-    writer.finish(&ended.context, &globals)
+    let tables = replace(&mut ended.tables, Vec::new(alloc));
+    finish_beside(rt, tables, writer, &ended.context, &globals)
+}
+
+/// The text of what a writer took, and of the globals behind it. Tables are dropped beside that.
+fn finish_beside<R: Threads + Sync>(
+    rt: &R,
+    tables: Vec<Table>,
+    writer: Writer,
+    context: &Context,
+    globals: &Snapshot,
+) -> Result<Text, OutOfMemory>
+    requires { IsIn context.now globals.now }
+    ensures { IfOk result
+        (EndsWith (HasTaken writer context.now) (meaning context.now globals.now)) }
+{
+    let ((), text) = join(
+        rt,
+        || drop(tables),
+        || -> Result<Text, OutOfMemory>
+            requires { IsIn context.now globals.now }
+            ensures { IfOk result (EndsWith (HasTaken writer context.entry.now)
+                (meaning context.entry.now globals.entry.now)) }
+        { writer.finish(context, globals) },
+    );
+    text
 }
 
 /// Hands the rows of a run that has ended to a writer that has taken none, and puts its globals

@@ -10,10 +10,10 @@ write_rows-requires-clause-none c = c.in_ok-writer.ensures c.args.ended.now.cont
 pub returns-clause-text : goal.returns-clause-text
 returns-clause-text c =
     let rows = run_rows c.args.script.now c.args.ended.now.journal in
-    IfOk-weaker c.finish.result _ _
+    IfOk-weaker c.finish_beside.result _ _
     (λ text is. is rows c.in-Ok.ensures.taken
     ∙ (λ j. canonical_text (record {
       rows = rows;
       globals = c.in-Ok.ensures.globals.means j;
     })))
-    c.finish.ensures.text
+    c.finish_beside.ensures
