@@ -5,10 +5,10 @@ use Rattle.cal_write.specs.CanonicalText.{canonical_text}
 use Rattle.cal_replayed.proofs.replaying.ended_text.Goals as goal
 
 pub write_rows-requires-clause-none : goal.write_rows-requires-clause-none
-write_rows-requires-clause-none c = c.in_ok-writer.ensures c.args.ended.now.context
+write_rows-requires-clause-none g c = c.in_ok-writer.ensures c.args.ended.now.context
 
 pub returns-clause-text : goal.returns-clause-text
-returns-clause-text c =
+returns-clause-text g c =
     let rows = run_rows c.args.script.now c.args.ended.now.journal in
     IfOk-weaker c.finish_beside.result _ _
     (λ text is. is rows c.in-Ok.ensures.taken
