@@ -2,9 +2,10 @@
 
 use crate::clocks::clocks_of;
 use crate::out_of_memory;
-use crate::probes::probes;
+use crate::probes::{count_of, depth_of};
 use cal_base::{OpenGate, Sink, Source};
 use cal_call_live::run_live;
+use cal_probe::{Probe, ProbeKind, Probes};
 use std::hash::RandomState;
 use std::process::ExitCode;
 use std::sync::Wait;
@@ -24,6 +25,8 @@ pub fn live<R: Threads + Wait + Sync + AllocGlobal + Clock, S: Source, W: Sink, 
     let Ok(mut clocks) = clocks_of(rt.alloc(), rt) else {
         return out_of_memory(errors);
     };
+    let depth = Probe::new(ProbeKind::Depth, depth_of);
+    let count = Probe::new(ProbeKind::Count, count_of);
     let outcome = run_live(
         rt,
         rt,
@@ -35,7 +38,7 @@ pub fn live<R: Threads + Wait + Sync + AllocGlobal + Clock, S: Source, W: Sink, 
         errors,
         &mut clocks,
         &OpenGate,
-        &probes(),
+        &Probes::new(depth, count),
     );
     ExitCode::from(outcome.status)
 }

@@ -3,17 +3,8 @@ ghost use Rattle.std.specs.Prelude.{◌≡◌};
 ghost use Rattle.cal_run.specs.Snapshots.{CanBeAsked, probe_value};
 ghost use Rattle.cal_script.specs.declared.script.ProbeKind.TheVariants as probe;
 
-use cal_probe::{Probe, ProbeKind, Probes};
-
-/// The probes of a run's channels: these two functions.
-pub fn probes() -> Probes {
-    let depth = Probe::new(ProbeKind::Depth, depth_of);
-    let count = Probe::new(ProbeKind::Count, count_of);
-    Probes::new(depth, count)
-}
-
 /// How many values a thread has open in the nested list, which is its first.
-fn depth_of(depths: &[u32], _reading: u64) -> u64
+pub fn depth_of(depths: &[u32], _reading: u64) -> u64
     requires { CanBeAsked depths.now }
     ensures { result ≡ probe_value probe.Depth depths.now }
 {
@@ -21,7 +12,7 @@ fn depth_of(depths: &[u32], _reading: u64) -> u64
 }
 
 /// How many it has open in all its lists.
-fn count_of(depths: &[u32], _reading: u64) -> u64
+pub fn count_of(depths: &[u32], _reading: u64) -> u64
     requires { CanBeAsked depths.now }
     ensures { result ≡ probe_value probe.Count depths.now }
 {

@@ -2,9 +2,10 @@
 
 use crate::clocks::clocks_of;
 use crate::out_of_memory;
-use crate::probes::probes;
+use crate::probes::{count_of, depth_of};
 use cal_base::{OpenGate, Sink, Source};
 use cal_call::{WordsEnd, serve};
+use cal_probe::{Probe, ProbeKind, Probes};
 use std::hash::RandomState;
 use std::process::ExitCode;
 use std::thread::Threads;
@@ -23,6 +24,8 @@ pub fn serve_words<R: Threads + Sync + AllocGlobal + Clock, S: Source, W: Sink, 
     let Ok(mut clocks) = clocks_of(rt.alloc(), rt) else {
         return out_of_memory(errors);
     };
+    let depth = Probe::new(ProbeKind::Depth, depth_of);
+    let count = Probe::new(ProbeKind::Count, count_of);
     serve(
         rt,
         rt.alloc(),
@@ -33,6 +36,6 @@ pub fn serve_words<R: Threads + Sync + AllocGlobal + Clock, S: Source, W: Sink, 
         errors,
         &mut clocks,
         &OpenGate,
-        &probes(),
+        &Probes::new(depth, count),
     )
 }
