@@ -10,16 +10,13 @@ mod clocks;
 mod filing;
 mod living;
 mod naming;
+mod picking;
 mod probes;
 mod serving;
 mod watching;
 mod words;
 
-use crate::filing::file;
-use crate::living::live;
-use crate::naming::name;
-use crate::serving::serve_words;
-use crate::watching::watch;
+use crate::picking::answer;
 use crate::words::words_of;
 use cal_base::{Sink, StdSink, StdSource};
 pub use cal_call::{
@@ -33,45 +30,14 @@ pub use cal_call_files::{
 pub use cal_call_live::{LiveCommand, asks_to_live, read_live_words, run_live};
 pub use cal_call_names::{NameReply, NamesOutcome, asks_for_names, read_names_words, run_names};
 pub use cal_call_watch::{TriggerName, WatchCommand, asks_to_watch, read_watch_words, run_watch};
-use cal_seeds::Seeds;
-use std::hash::RandomState;
 use std::process::ExitCode;
 
-/// Lends what a call needs; where memory or a seed for its maps is refused, it tells so.
+/// Lends the words and the standard streams to the call that the first word picks.
 fn main(rt: HostRuntime) -> ExitCode {
     let mut input = StdSource::new(rt.stdin());
     let mut output = StdSink::new(rt.stdout());
     let mut errors = StdSink::new(rt.stderr());
-    let words = words_of(&rt);
-    if let Ok(words) = &words
-        && asks_for_names(words.as_slice())
-    {
-        return name(&rt, words.as_slice(), &mut input, &mut output, &mut errors);
-    }
-    let Ok(hashers) = RandomState::new(&rt) else {
-        return out_of_memory(&mut errors);
-    };
-    if let Ok(words) = &words
-        && asks_to_live(words.as_slice())
-    {
-        let words = words.as_slice();
-        return live(&rt, hashers, words, &mut input, &mut output, &mut errors);
-    }
-    if let Ok(words) = &words
-        && asks_to_watch(words.as_slice())
-    {
-        let seeds = Seeds::of(&hashers);
-        let alloc = rt.alloc();
-        let words = words.as_slice();
-        return watch(alloc, seeds, words, &mut input, &mut output, &mut errors);
-    }
-    if let Ok(words) = &words
-        && asks_for_files(words.as_slice())
-    {
-        let seeds = Seeds::of(&hashers);
-        return file(&rt, seeds, words.as_slice(), &mut output, &mut errors);
-    }
-    serve_words(&rt, hashers, words, &mut input, &mut output, &mut errors)
+    answer(&rt, words_of(&rt), &mut input, &mut output, &mut errors)
 }
 
 /// Tells that memory ran out, and gives the status of that.
