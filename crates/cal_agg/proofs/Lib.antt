@@ -1,4 +1,5 @@
 mod Cells
 pub mod Ends
+mod FigureLemmas
 mod Lists
 mod Sums

@@ -1,6 +1,8 @@
 pub mod Numbers
 pub mod Results
 pub mod Parts
+pub mod Figures
+pub mod CellFields
 pub mod Joins
 pub mod Shown
 pub mod Limits

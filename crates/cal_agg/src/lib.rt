@@ -8,6 +8,7 @@
 
 mod cell;
 mod count;
+mod figures;
 mod formulas;
 mod greatest;
 mod kernel;
