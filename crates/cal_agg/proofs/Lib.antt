@@ -1,4 +1,4 @@
-mod Cells
+mod Merging
 pub mod Ends
 mod FigureLemmas
 mod Lists

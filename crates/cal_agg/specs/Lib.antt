@@ -3,6 +3,7 @@ pub mod Results
 pub mod Parts
 pub mod Figures
 pub mod CellFields
+pub mod CellLists
 pub mod Joins
 pub mod Shown
 pub mod Limits

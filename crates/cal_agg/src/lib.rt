@@ -7,6 +7,7 @@
 #![tactic(auto)]
 
 mod cell;
+mod cells;
 mod count;
 mod figures;
 mod formulas;
@@ -21,6 +22,7 @@ mod row;
 mod sum;
 
 pub use cell::Cell;
+pub use cells::Cells;
 pub use count::Count;
 pub use formulas::{average, percent_total};
 pub use greatest::Greatest;
