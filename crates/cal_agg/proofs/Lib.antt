@@ -1,4 +1,5 @@
-mod Cells
+mod Merging
 pub mod Ends
+mod FigureLemmas
 mod Lists
 mod Sums

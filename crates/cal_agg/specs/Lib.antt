@@ -1,6 +1,9 @@
 pub mod Numbers
 pub mod Results
 pub mod Parts
+pub mod Figures
+pub mod CellFields
+pub mod CellLists
 pub mod Joins
 pub mod Shown
 pub mod Limits

@@ -11,6 +11,12 @@ pub record Parts : Type 0 where
   pub whole : Option ℤ
   pub fixed : Option ℤ
 
+-- what a cell keeps of numbers
+pub record CellValue : Type 0 where
+  pub sum : Parts
+  pub least : Parts
+  pub greatest : Parts
+
 -- nothing was added
 abbrev pub no_parts : Parts
 no_parts = record { whole = None; fixed = None }

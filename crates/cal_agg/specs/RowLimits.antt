@@ -1,9 +1,8 @@
 -- How large the sums of a row are that so many snapshots make, each with numbers of 64 bits.
-use Rattle.std.specs.Prelude.{◌≡◌, ℕ, ◌+◌, ◌*◌, ◌^◌, ◌≤◌, pos, ◌+ℤ◌, ℤ, List, [], ◌∷◌}
-use Rattle.std.specs.Prelude.{All, Option, None, Some}
+use Rattle.std.specs.Prelude.{◌≡◌, ℕ, ◌+◌, ◌*◌, ◌^◌, ◌≤◌, pos, ◌+ℤ◌, List, [], ◌∷◌}
+use Rattle.std.specs.Prelude.{All}
 use Rattle.std.specs.List.{AllByRecursion}
 use Rattle.std.proofs.Common.{arith, subst, sym}
-use Rattle.std.proofs.lemmas.Int.{ints}
 use Rattle.std.proofs.lemmas.List.Elements.{All-from_recursion, recursion_from_All}
 use Rattle.cal_agg.specs.declared.cell.Cell.{Cell}
 use Rattle.cal_agg.specs.declared.num.Num.{Num}
@@ -11,7 +10,6 @@ use Rattle.cal_agg.specs.declared.num.Num.TheVariants.{Whole, Fixed}
 use Rattle.cal_agg.specs.declared.row.AggRow.{AggRow}
 use Rattle.cal_agg.specs.Limits.{magnitude, magnitude-both, magnitude_within}
 use Rattle.cal_agg.specs.Numbers.{IsWithin, number}
-use Rattle.cal_agg.specs.Parts.{AreWithin, Parts}
 use Rattle.cal_agg.specs.Rows.{CellHasRoom, RowHasRoom, cell_over, merged_cell, merged_cells}
 use Rattle.cal_agg.specs.Rows.{merged_row}
 

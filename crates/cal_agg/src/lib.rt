@@ -7,7 +7,9 @@
 #![tactic(auto)]
 
 mod cell;
+mod cells;
 mod count;
+mod figures;
 mod formulas;
 mod greatest;
 mod kernel;
@@ -20,6 +22,7 @@ mod row;
 mod sum;
 
 pub use cell::Cell;
+pub use cells::Cells;
 pub use count::Count;
 pub use formulas::{average, percent_total};
 pub use greatest::Greatest;

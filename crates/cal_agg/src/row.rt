@@ -1,15 +1,15 @@
-ghost use Rattle.std.specs.Prelude.{◌≡◌, length, All, IfOk};
-ghost use Rattle.cal_agg.specs.Rows.{CellHasRoom, RowHasRoom, empty_row, merged_cells, merged_row};
+ghost use Rattle.std.specs.Prelude.{◌≡◌, length, IfOk};
+ghost use Rattle.cal_agg.specs.Rows.{RowHasRoom, empty_row, merged_row};
 
-use crate::{Cell, Count, Kernel};
-use cal_value::{OutOfMemory, Seq, TryCopy};
+use crate::{Cells, Count, Kernel};
+use cal_value::{OutOfMemory, TryCopy};
 use std::alloc::Global;
 
 /// What is kept of a group: how many there are, and a cell for each attribute.
 #[derive(Debug, Drop)]
 pub struct AggRow {
     pub count: Count,
-    pub cells: Seq<Cell>,
+    pub cells: Cells,
 }
 
 impl AggRow {
@@ -19,7 +19,7 @@ impl AggRow {
     {
         Ok(AggRow {
             count: Count::start(),
-            cells: Seq::from_vec(vec![in alloc; Cell::start(); cells]?),
+            cells: Cells::start(alloc, cells)?,
         })
     }
 
@@ -30,19 +30,7 @@ impl AggRow {
         ensures { self.new ≡ merged_row self.old other.now }
     {
         self.count.merge(&other.count);
-        merge_cells(&mut self.cells, &other.cells);
-    }
-}
-
-/// Merges cells place by place.
-fn merge_cells(cells: &mut Seq<Cell>, others: &Seq<Cell>)
-    requires alike { length others.now ≡ length cells.old }
-    requires room { All CellHasRoom (merged_cells cells.old others.now) }
-    ensures { cells.new ≡ merged_cells cells.old others.now }
-{
-    for place in 0..others.len() {
-        let other = &others.as_slice()[place];
-        cells.get_mut(place).unwrap().merge(other);
+        self.cells.merge(&other.cells);
     }
 }
 

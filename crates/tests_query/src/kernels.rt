@@ -179,7 +179,7 @@ fn rows_merge(alloc: Global) -> Result<bool, OutOfMemory> {
     let other = AggRow::start(alloc, 2)?;
     let mut one = AggRow::start(alloc, 2)?;
     one.merge(&other);
-    Ok(one.cells.len() == 2 && one.count.value() == Some(Whole(0)))
+    Ok(one.cells.as_slice().len() == 2 && one.count.value() == Some(Whole(0)))
 }
 
 #[test]

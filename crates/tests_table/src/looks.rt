@@ -18,7 +18,7 @@ struct Figures {
 
 /// What a row of one cell shows.
 fn shown(held: &AggRow) -> Option<Figures> {
-    let cell = held.cells.get(0)?;
+    let cell = held.cells.as_slice().get(0)?;
     Some(Figures {
         count: held.count.value(),
         sum: cell.sum.value(),

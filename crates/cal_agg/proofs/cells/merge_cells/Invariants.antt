@@ -1,6 +1,6 @@
 use Rattle.std.proofs.Common.{◌≡◌}
-use Rattle.cal_agg.proofs.Cells.{merged_front}
-use Rattle.cal_agg.proofs.row.merge_cells.Given as goal
+use Rattle.cal_agg.proofs.Merging.{merged_front}
+use Rattle.cal_agg.proofs.cells.merge_cells.Given as goal
 
 -- the cells before this place are merged
 abbrev pub invariant-loop-place : goal.invariant-loop-place

@@ -1,7 +1,6 @@
 -- Merging cells place by place, from the front.
-use Rattle.std.proofs.Common.{◌≡◌, ℕ, zero, suc, ◌+◌, ◌<◌, List, [], ◌∷◌, length, Option, Some}
-use Rattle.std.proofs.Common.{refl, sym, ◌∙◌, ap, arith, add-one, slice_set, slice_index_or, MutBor}
-use Rattle.std.specs.Option.{option_copied_mut}
+use Rattle.std.proofs.Common.{◌≡◌, ℕ, zero, suc, ◌+◌, ◌<◌, List, [], ◌∷◌, length, Some}
+use Rattle.std.proofs.Common.{refl, sym, ◌∙◌, ap, arith, add-one, slice_set, slice_index_or}
 use Rattle.std.specs.List.{slice_get, All, AllByRecursion}
 use Rattle.std.proofs.lemmas.List.Elements.{recursion_from_All}
 use Rattle.std.proofs.lemmas.Option.{slice_get_read}
@@ -32,14 +31,6 @@ merged_front_next (suc n) [] others = refl
 merged_front_next (suc n) (cell ∷ cells) [] = refl
 merged_front_next (suc n) (cell ∷ cells) (other ∷ others) = merged_front_next n cells others
 
--- so it is what was found there
-pub cell_next : (n : ℕ) (cells others now : List Cell) (got : Option (MutBor Cell))
-    → (here : MutBor Cell) → now ≡ merged_front n cells others
-    → option_copied_mut got ≡ slice_get now n → got ≡ Some here → slice_get cells n ≡ Some here.now
-cell_next n cells others now got here e p q =
-    sym (merged_front_next n cells others) ∙ sym (ap (λ xs. slice_get xs n) e)
-    ∙ sym p ∙ ap option_copied_mut q
-
 -- a cell that was read by its place
 pub cell_read : (n : ℕ) (cells slice : List Cell) (read : Cell)
     → n < length cells → slice ≡ cells → read ≡ slice_index_or slice n read
@@ -47,6 +38,15 @@ pub cell_read : (n : ℕ) (cells slice : List Cell) (read : Cell)
 cell_read n cells slice read short e h =
     slice_get_read cells (length cells) n read refl short
     (h ∙ ap (λ xs. slice_index_or xs n read) e)
+
+-- so it is what was read there
+pub cell_next : (n : ℕ) (cells others now : List Cell) (read : Cell) → n < length cells
+    → now ≡ merged_front n cells others → read ≡ slice_index_or now n read
+    → slice_get cells n ≡ Some (slice_index_or now n read)
+cell_next n cells others now read short e h =
+    let long : length now ≡ length cells = ap length e ∙ length-merged_front n cells others in
+    sym (merged_front_next n cells others) ∙ sym (ap (λ xs. slice_get xs n) e)
+    ∙ cell_read n now now read (omega arith) refl h ∙ ap Some h
 
 -- the cells at one place of both lists
 pub record AreAt (n : ℕ) (cells others : List Cell) (c d : Cell) : Type 0 where
