@@ -48,8 +48,8 @@ module _ {old new : Tree} (grows : Grows old new) where
       names = h.defined.names;
       attributes = λ k. let numbered = h.defined.attributes k in
           record {
-            within = within_attributes grows (number_for d.attributes.items k).0 numbered.within;
-            is = attribute_at-Grows grows (number_for d.attributes.items k) numbered.within
+            within = within_attributes grows (number_for d.attributes k).0 numbered.within;
+            is = attribute_at-Grows grows (number_for d.attributes k) numbered.within
                 ∙ numbered.is;
           };
     };

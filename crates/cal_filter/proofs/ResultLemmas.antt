@@ -1,8 +1,9 @@
 -- The attributes of results, one kind more at a time.
-use Rattle.std.proofs.Common.{◌≡◌, ℕ, ◌+◌, ◌<◌, ◌≤◌, List, [], ◌∷◌, ◌++◌, ◌⊎◌, inl, inr, length}
+use Rattle.std.proofs.Common.{◌≡◌, ℕ, ◌+◌, ◌<◌, ◌≤◌, List, ◌⊎◌, inl, inr, length, slice_set}
 use Rattle.std.proofs.Common.{refl, sym, ◌∙◌, ap, subst, arith, get_or}
 use Rattle.std.proofs.lemmas.Bool.{cases_lt}
-use Rattle.std.proofs.lemmas.List.{get_or_append_left, get_or_push}
+use Rattle.std.proofs.lemmas.List.{get_or-set_other}
+use Rattle.std.proofs.lemmas.Grind.{get_or-set_at}
 use Rattle.cal_context.specs.Tree.{Tree, Grows}
 use Rattle.cal_context.proofs.CallerLemmas.{attribute_at-Grows, within_attributes}
 use Rattle.cal_context.specs.declared.numbers.AttributeNumber.{AttributeNumber}
@@ -24,18 +25,15 @@ kind_at kind.Bool d = refl
 kind_at kind.TypeName d = refl
 kind_at kind.Ptr d = refl
 
-none : AttributeNumber
-none = record { 0 = 0 }
-
 pub numbered_next : (t t' : Tree) (name : List ℕ) (ks : List kinds.Kind) (d : kinds.Kind)
     (numbers numbers' : List AttributeNumber) (i : ℕ) (n : AttributeNumber) → Grows t t'
-    → ks ≡ every_kind → length numbers ≡ i → numbers' ≡ numbers ++ n ∷ []
+    → ks ≡ every_kind → i < length numbers → numbers' ≡ slice_set numbers i n
     → IsNumbered t' (result_attribute name (get_or ks i d)) n
     → ((k : kinds.Kind) → kind_place k < i
     → IsNumbered t (result_attribute name k) (number_for numbers k))
     → (k : kinds.Kind) → kind_place k < i + 1
     → IsNumbered t' (result_attribute name k) (number_for numbers' k)
-numbered_next t t' name ks d numbers numbers' i n grows all counted more here before k below =
+numbered_next t t' name ks d numbers numbers' i n grows all short write here before k below =
     by (cases_lt (kind_place k) i)
   where
     by : ((kind_place k < i) ⊎ (i ≤ kind_place k))
@@ -43,8 +41,8 @@ numbered_next t t' name ks d numbers numbers' i n grows all counted more here be
     by (inl less) =
         let old = before k less in
         let same : number_for numbers k ≡ number_for numbers' k =
-        sym (ap (λ ns. get_or ns (kind_place k) (record { 0 = 0 })) more
-        ∙ get_or_append_left numbers (n ∷ []) (record { 0 = 0 }) (kind_place k) (omega arith)) in
+        sym (ap (λ ns. get_or ns (kind_place k) (record { 0 = 0 })) write
+        ∙ get_or-set_other numbers i (kind_place k) n (record { 0 = 0 }) (λ same. absurd (omega arith))) in
         subst (IsNumbered t' (result_attribute name k)) same
         (record {
           within = within_attributes grows (number_for numbers k).0 old.within;
@@ -55,7 +53,7 @@ numbered_next t t' name ks d numbers numbers' i n grows all counted more here be
         let kind_is : get_or ks i d ≡ k =
         ap (λ xs. get_or xs i d) all ∙ ap (λ j. get_or every_kind j d) (sym place) ∙ kind_at k d in
         let number_is : n ≡ number_for numbers' k =
-        sym (ap (λ ns. get_or ns (kind_place k) (record { 0 = 0 })) more
-        ∙ get_or_push numbers n (record { 0 = 0 }) (kind_place k) (counted ∙ sym place)) in
+        sym (ap (λ ns. get_or ns (kind_place k) (record { 0 = 0 })) write
+        ∙ get_or-set_at numbers i (kind_place k) n (record { 0 = 0 }) place short) in
         subst (IsNumbered t' (result_attribute name k)) number_is
         (subst (λ j. IsNumbered t' (result_attribute name j) n) kind_is here)

@@ -21,7 +21,7 @@ pub record IsDefined (t : Tree) (l : Let) (d : Definition) : Type 0 where
   pub op : d.operator.op ≡ l.op
   pub n : d.operator.n ≡ l.n
   pub names : map sought d.seekers.items ≡ map (sought_by l.op) l.args
-  pub attributes : AreNumbered t l.name d.attributes.items
+  pub attributes : AreNumbered t l.name d.attributes
 
 -- what its seekers keep is right
 pub record IsDefinition (t : Tree) (l : Let) (d : Definition) : Type 0 where

@@ -1,3 +1,4 @@
+//! The limit of a result, and the steps and quotients of operators.
 ghost use Rattle.std.specs.Prelude.{◌≡◌, ◌<ℤ◌, ◌*ℤ◌, ◌^◌, pos, unsigned_abs};
 ghost use Rattle.std.specs.Int.{int_div_euclid};
 ghost use Rattle.std.specs.Option.{ForSome};

@@ -1,3 +1,4 @@
+//! How much of a context is known.
 ghost use Rattle.std.specs.Prelude.{◌≡◌, length, IsTrue};
 ghost use Rattle.cal_filter.specs.Known.{Covers};
 

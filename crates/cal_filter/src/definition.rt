@@ -1,3 +1,4 @@
+//! A definition of LET, over snapshots by number.
 ghost use Rattle.std.specs.Prelude.{◌≡◌, Some, map, option_and_then, option_map, IfOk, OnOk};
 ghost use Rattle.std.specs.Option.{ForSome};
 ghost use Rattle.cal_agg.specs.Numbers.{IsSmall};
@@ -45,7 +46,7 @@ pub(crate) struct Definition {
     // the numbers of the names
     names: Vec<usize>,
     // of a result of each kind, by the kinds' places
-    attributes: Vec<AttributeNumber>,
+    attributes: [AttributeNumber; 9],
 }
 
 impl Definition {
@@ -208,7 +209,7 @@ impl Definition {
     }
 
     fn attribute(&self, kind: Kind) -> AttributeNumber
-        ensures { result ≡ number_for self.now.attributes.items kind }
+        ensures { result ≡ number_for self.now.attributes kind }
     {
         self.attributes
             .get(kind_place(kind))

@@ -1,3 +1,4 @@
+//! LET and WHERE of a query, over snapshots by number.
 ghost use Rattle.std.specs.Prelude.{◌≡◌, List, IfOk, OnOk};
 ghost use Rattle.std.specs.List.{All, AllZip, AllByRecursion};
 ghost use Rattle.cal_context.specs.Lists.{IsFront};

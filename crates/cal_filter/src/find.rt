@@ -1,3 +1,4 @@
+//! What a seeker finds in a record.
 ghost use Rattle.std.specs.Prelude.{◌≡◌, ◌<◌, ◌++◌, length, map, slice_get, None, IfSome, is_some};
 ghost use Rattle.std.specs.Prelude.{option_and_then, option_map};
 ghost use Rattle.std.specs.List.{All, last_or};

@@ -1,3 +1,4 @@
+//! All kinds by their places, and what a text writes as each.
 ghost use Rattle.std.specs.Prelude.{◌≡◌, map, IfOk};
 ghost use Rattle.cal_filter.specs.Sought.{kind_place as place_of};
 ghost use Rattle.cal_value.specs.Kinds.{every_kind};

@@ -191,7 +191,7 @@ pub(crate) fn number_names(
         AllZip (λ name n. slice_get names.new.keys n ≡ Some name) args.now numbers.items) }
     ensures front { OnOk result (IsFront names.old.keys names.new.keys) }
 {
-    let mut numbers = Vec::new(alloc);
+    let mut numbers = Vec::with_capacity(alloc, args.len())?;
     for name in args {
         let number = number_name(alloc, name, names)?;
         numbers.push(number)?;

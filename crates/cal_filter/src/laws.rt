@@ -1,3 +1,4 @@
+//! What stays so while the context grows, and while LET adds entries.
 ghost use Rattle.cal_context.specs.Tree.{Grows, Tree};
 ghost use Rattle.cal_filter.specs.Kept.{with_lets};
 ghost use Rattle.cal_filter.specs.Named.{HasSmallNumbers};

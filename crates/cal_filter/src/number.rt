@@ -1,3 +1,4 @@
+//! Values as numbers, and numbers as values.
 ghost use Rattle.std.specs.Prelude.{◌≡◌};
 ghost use Rattle.cal_filter.specs.Numbers.{number_in as number_in_value};
 ghost use Rattle.cal_filter.specs.Numbers.{value_of_number as value_of};

@@ -1,3 +1,4 @@
+//! What the names of a definition give in a record.
 ghost use Rattle.std.specs.Prelude.{◌≡◌, length, map, slice_get, slice_index_or, IfOk, OnOk};
 ghost use Rattle.std.specs.List.{All, AllZip, filter_map};
 ghost use Rattle.std.specs.Option.{ForSome};
@@ -29,7 +30,7 @@ pub(crate) fn seekers_of(alloc: Global, op: Op, names: &[Text]) -> Result<Vec<Se
         map sought seekers.items ≡ map (sought_by op) names.now) }
     ensures knows { IfOk result (λ seekers. (t : Tree) → All (Knows t) seekers.items) }
 {
-    let mut seekers = Vec::new(alloc);
+    let mut seekers = Vec::with_capacity(alloc, names.len())?;
     for name in names {
         let seeker = Seeker::new(alloc, name.copy(alloc)?, Wanted::of_op(op));
         seekers.push(seeker)?;

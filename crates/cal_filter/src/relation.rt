@@ -1,3 +1,4 @@
+//! How two values are to stand.
 ghost use Rattle.std.specs.Prelude.{◌≡◌};
 ghost use Rattle.cal_filter.specs.Sought.{stands};
 

@@ -1,3 +1,4 @@
+//! The attributes that the results of a definition of LET have.
 ghost use Rattle.std.specs.Prelude.{IfOk};
 ghost use Rattle.cal_context.specs.Tree.{Grows};
 ghost use Rattle.cal_filter.specs.Kept.{result_attribute as attribute_of};
@@ -14,15 +15,14 @@ pub(crate) fn result_attributes(
     alloc: Global,
     name: &Text,
     context: &mut Context,
-) -> Result<Vec<AttributeNumber>, OutOfMemory>
-    ensures numbered { IfOk result (λ numbers. AreNumbered context.new name.now numbers.items) }
+) -> Result<[AttributeNumber; 9], OutOfMemory>
+    ensures numbered { IfOk result (λ numbers. AreNumbered context.new name.now numbers) }
     ensures grows { Grows context.old context.new }
 {
     let kinds = all_kinds();
-    let mut numbers = Vec::new(alloc);
-    for kind in &kinds {
-        let number = result_attribute(alloc, name, *kind, context)?;
-        numbers.push(number)?;
+    let mut numbers = [AttributeNumber(0); 9];
+    for place in 0..kinds.len() {
+        numbers[place] = result_attribute(alloc, name, kinds[place], context)?;
     }
     Ok(numbers)
 }

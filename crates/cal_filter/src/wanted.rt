@@ -1,3 +1,4 @@
+//! What is wanted of an entry beside its name.
 ghost use Rattle.std.specs.Prelude.{◌≡◌, is_some, IfOk};
 ghost use Rattle.cal_filter.specs.Conditions.{compares, test_holds};
 ghost use Rattle.cal_filter.specs.Numbers.{whole_in};

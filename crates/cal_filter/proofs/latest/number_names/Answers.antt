@@ -7,7 +7,7 @@ use Rattle.cal_filter.proofs.latest.number_names.Goals as goal
 pub loop-name-init : goal.loop-name-init
 loop-name-init c = record {
   front = IsFront-refl c.args.names.now.keys;
-  numbers = rw c.new-numbers.ensures.items tt;
+  numbers = rw c.in_ok-numbers.ensures.items tt;
 }
 
 pub loop-name-preserved : goal.loop-name-preserved

@@ -7,10 +7,10 @@ use Rattle.cal_filter.specs.Sought.{kind_place}
 use Rattle.cal_filter.proofs.results.result_attributes.Given as goal
 
 -- the attributes of the kinds before this one are there
-abbrev pub invariant-loop-kind : goal.invariant-loop-kind
-invariant-loop-kind l = record {
+abbrev pub invariant-loop-place : goal.invariant-loop-place
+invariant-loop-place l = record {
   grows : Grows l.fn.context l.context;
-  counted : length l.numbers.items ≡ l.kind-index;
-  numbered : (k : Kind) → kind_place k < l.kind-index
-      → IsNumbered l.context (result_attribute l.name k) (number_for l.numbers.items k);
+  counted : length l.numbers ≡ 9;
+  numbered : (k : Kind) → kind_place k < l.place
+      → IsNumbered l.context (result_attribute l.name k) (number_for l.numbers k);
 }
