@@ -15,8 +15,8 @@ use cal_value::{OutOfMemory, Seq, Text};
 use indexmap::IndexSet;
 use std::alloc::Global;
 
-/// All names that a query speaks of, each once: those of LET, WHERE and GROUP BY, and those by which
-/// kernels read. They hash by these seeds.
+/// All names that a query speaks of, each once: those of LET, WHERE and GROUP BY, and those by
+/// which kernels read. They hash by these seeds.
 #[tactic(auto, using(crate::proofs::Speaking::learned_spoken))]
 pub(crate) fn spoken_names(
     alloc: Global,
