@@ -1,5 +1,6 @@
 -- All names that a query speaks of, as one list.
-use Rattle.std.proofs.Common.{◌≡◌, ℕ, Bool, ◌||◌, List, [], ◌∷◌, ◌++◌, codes, map, refl, sym, ap, ◌∙◌}
+use Rattle.std.proofs.Common.{◌≡◌, ℕ, Bool, ◌||◌, List, [], ◌∷◌, ◌++◌, codes, map}
+use Rattle.std.proofs.Common.{refl, sym, ap, ◌∙◌}
 use Rattle.std.specs.List.{flat_map, list_any}
 use Rattle.std.specs.Ordering.{eq_by_cmp}
 use Rattle.std.proofs.Math.Bool.{or_assoc}
@@ -12,7 +13,8 @@ use Rattle.cal_value.specs.declared.attribute.Attribute.{Attribute}
 use Rattle.cal_keys.specs.Keys.{names_in}
 use Rattle.cal_parts.specs.Readings.{reading_of}
 use Rattle.cal_engine.specs.Learning.{learned, learned_one}
-use Rattle.cal_engine.specs.Looked.{has_some_name, in_conds, in_lets, is_read, let_names, speaks_of, spoken_names}
+use Rattle.cal_engine.specs.Looked.{has_some_name, in_conds, in_lets, is_read, let_names}
+use Rattle.cal_engine.specs.Looked.{speaks_of, spoken_names}
 use Rattle.cal_engine.proofs.Learned.{any_first_seen, learned_alone}
 
 module _ {A B : Type 0} (p : B → Bool) where
