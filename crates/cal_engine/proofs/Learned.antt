@@ -41,6 +41,17 @@ first_seen-firsts (text ∷ texts) =
     ap (λ seen. text ∷ filter (λ other. not (same_text other text)) seen) (first_seen-firsts texts)
     ∙ (λ i. text ∷ filter (λ other. not (sym (same_texts other text) i)) (first_seen texts))
 
+-- names learned from none on are those names, each once
+pub learned_alone : (names : List (List ℕ)) → learned [] names ≡ first_seen names
+learned_alone names = learned_all [] names ∙ first_seen-firsts names
+
+-- a text is among them where it is among all
+pub any_first_seen : (name : List ℕ) (names : List (List ℕ))
+    → list_any (same_text name) (first_seen names) ≡ list_any (same_text name) names
+any_first_seen name names =
+    ap (list_any (same_text name)) (sym (first_seen-firsts names))
+    ∙ list_any-firsts (exact_equiv text_exact) (exact_tells text_exact) name names
+
 pub learned_shown : (rows : List Rec) (first now : List (List ℕ)) → first ≡ path_first rows
     → now ≡ learned first (flat_map (λ row. map (λ e. e.attr.name) (other_entries row)) rows)
     → now ≡ shown_names rows

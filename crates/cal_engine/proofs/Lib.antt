@@ -8,6 +8,7 @@ pub mod InPlace
 pub mod Ranking
 pub mod Folds
 pub mod Learned
+pub mod Speaking
 pub mod Visiting
 pub mod Trails
 pub mod Ascents

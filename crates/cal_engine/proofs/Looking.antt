@@ -400,11 +400,11 @@ module _ (q : Query) where
 
   -- one attribute more
   pub looked_more : (t : Tree) (k k' : Looked) (a : AttributeNumber) (b : Bool)
-      → k'.readings ≡ k.readings → k'.attributes ≡ k.attributes ++ b ∷ []
+      → k'.names ≡ k.names → k'.attributes ≡ k.attributes ++ b ∷ []
       → a.0 ≡ length k.attributes → a.0 < length t.attributes
       → b ≡ looks_at q (attribute_at t a) → IsLooked t q k → IsLooked t q k'
   looked_more t k k' a b same more next within is h = record {
-    readings = ap (λ rs. rs.items) same ∙ h.readings;
+    names = ap (λ ns. ns.keys) same ∙ h.names;
     attributes = λ x l. by x (cases_lt x.0 (length k.attributes)) l;
   }
     where

@@ -58,7 +58,7 @@ gate-Grows {old} {new} grows q g h = record {
         before.small;
   };
   looked = record {
-    readings = h.looked.readings;
+    names = h.looked.names;
     attributes = λ a l. let known = h.looked.attributes a l in record {
       within = within_attributes grows a.0 known.within;
       is = known.is ∙ ap (looks_at q) (sym (attribute_at-Grows grows a known.within));

@@ -1,15 +1,15 @@
 -- Which immediates of a record a query looks at: an aggregated one at those of the names that it
 -- speaks of, and another one at all, since its rows are the records.
-use Rattle.std.specs.Prelude.{◌≡◌, ℕ, Bool, false, ◌<◌, ◌≤◌, ◌||◌, not, List, codes, filter}
-use Rattle.std.specs.Prelude.{length, map, slice_index_or}
-use Rattle.std.specs.List.{list_any}
+use Rattle.std.specs.Prelude.{◌≡◌, ℕ, Bool, false, ◌<◌, ◌≤◌, ◌||◌, not, List, ◌∷◌, ◌++◌, codes}
+use Rattle.std.specs.Prelude.{filter, length, map, slice_index_or}
+use Rattle.std.specs.List.{flat_map, list_any}
 use Rattle.std.specs.Ordering.{eq_by_cmp}
 use Rattle.cal_context.specs.Tree.{Tree, attribute_at}
 use Rattle.cal_context.specs.declared.numbers.AttributeNumber.{AttributeNumber}
 use Rattle.cal_ql.specs.declared.query.Cond.{Cond}
 use Rattle.cal_ql.specs.declared.query.Let.{Let}
 use Rattle.cal_ql.specs.declared.query.Query.{Query}
-use Rattle.cal_rowset.specs.Texts.{is_same}
+use Rattle.cal_rowset.specs.Texts.{first_seen, is_same}
 use Rattle.cal_value.specs.Texts.{text_cmp}
 use Rattle.cal_value.specs.declared.attribute.Attribute.{Attribute}
 use Rattle.cal_value.specs.declared.record.Rec.{Rec}
@@ -47,6 +47,16 @@ speaks_of q a =
     (in_lets q.lets a || in_conds q.conds a)
     || (has_some_name (names_in q.group) a || in_readings (map reading_of q.aggs) a)
 
+-- the names that a definition of LET defines and reads
+abbrev pub let_names : Let → List (List ℕ)
+let_names l = l.name ∷ l.args
+
+-- all names that a query speaks of, `count` aside
+abbrev pub spoken_names : Query → List (List ℕ)
+spoken_names q =
+    (flat_map let_names q.lets ++ map (λ c. c.name) q.conds)
+    ++ (names_in q.group ++ flat_map (λ r. r.names) (map reading_of q.aggs))
+
 abbrev pub looks_at : Query → Attribute → Bool
 looks_at q a = not (is_aggregated q) || speaks_of q a
 
@@ -64,7 +74,7 @@ pub record IsLookedAt (t : Tree) (q : Query) (k : Looked) (a : AttributeNumber) 
 
 -- what is kept is right, as far as it goes
 pub record IsLooked (t : Tree) (q : Query) (k : Looked) : Type 0 where
-  pub readings : k.readings.items ≡ map reading_of q.aggs
+  pub names : k.names.keys ≡ first_seen (spoken_names q)
   pub attributes : (a : AttributeNumber) → a.0 < length k.attributes → IsLookedAt t q k a
 
 -- and it goes for the whole context

@@ -40,7 +40,7 @@ impl Gate {
         ensures grows { Grows context.old context.new }
     {
         let filter = Filter::new(alloc, query, context)?;
-        let looked = Looked::new(alloc, query)?;
+        let looked = Looked::new(alloc, context.seeds(), query)?;
         Ok(Gate {
             filter,
             small: 0,

@@ -28,6 +28,7 @@ mod snapshot_fold;
 mod snapshot_order;
 mod snapshot_rows;
 mod sorting;
+mod spoken;
 mod tally;
 mod upwards;
 mod visits;

@@ -1,44 +1,42 @@
-ghost use Rattle.std.specs.Prelude.{◌≡◌, ◌||◌, IfOk, OnOk, codes, map};
+//! Which immediates a query looks at.
+ghost use Rattle.std.specs.Prelude.{◌≡◌, ◌||◌, IfOk, OnOk, codes};
 ghost use Rattle.cal_context.specs.Tree.{Tree};
-ghost use Rattle.cal_rowset.specs.Texts.{is_same};
-ghost use Rattle.cal_keys.specs.Keys.{names_in};
-ghost use Rattle.cal_engine.specs.Looked.{IsLooked, LooksAll, has_name as has_name_so};
-ghost use Rattle.cal_engine.specs.Looked.{has_some_name as has_some_name_so};
-ghost use Rattle.cal_engine.specs.Looked.{in_conds as in_conds_so};
-ghost use Rattle.cal_engine.specs.Looked.{in_lets as in_lets_so, in_readings as in_readings_so};
-ghost use Rattle.cal_engine.specs.Looked.{is_looked, is_read as is_read_so};
-ghost use Rattle.cal_engine.specs.Looked.{looks_at as looks_at_so};
-ghost use Rattle.cal_parts.specs.Readings.{reading_of};
+ghost use Rattle.cal_rowset.specs.Texts.{first_seen, is_same};
+ghost use Rattle.cal_engine.specs.Looked.{IsLooked, LooksAll, has_some_name, is_looked};
+ghost use Rattle.cal_engine.specs.Looked.{looks_at as looks_at_so, spoken_names as spoken_names_so};
 
 use crate::fold::is_aggregated;
+use crate::spoken::spoken_names;
 use cal_context::{AttributeNumber, Context};
 use cal_filter::AttributeMemo;
-use cal_parts::{Reading, readings_of};
-use cal_ql::{Cond, Let, Query};
-use cal_value::{Attribute, OutOfMemory, Seq, Text};
+use cal_ql::Query;
+use cal_seeds::Seeds;
+use cal_value::{Attribute, OutOfMemory, Text};
+use indexmap::IndexSet;
 use std::alloc::Global;
 
 /// Which immediates a query looks at. An aggregated query needn't see the others, so that they
 /// aren't copied.
 #[derive(Drop)]
 pub(crate) struct Looked {
-    readings: Vec<Reading>,
+    // all names that the query speaks of, each once
+    names: IndexSet<Text, Seeds>,
     // of each attribute: whether its immediates are looked at
     attributes: AttributeMemo,
 }
 
 impl Looked {
-    /// It knows no attribute yet.
-    pub(crate) fn new(alloc: Global, query: &Query) -> Result<Looked, OutOfMemory>
+    /// It knows no attribute yet. Names hash by these seeds.
+    pub(crate) fn new(alloc: Global, seeds: Seeds, query: &Query) -> Result<Looked, OutOfMemory>
         ensures { IfOk result (λ looked. (t : Tree) → IsLooked t query.now looked) }
     {
         Ok(Looked {
-            readings: readings_of(alloc, query.aggs.as_slice())?,
+            names: spoken_names(alloc, seeds, query)?,
             attributes: AttributeMemo::new(alloc),
         })
     }
 
-    /// Gets to know the attributes that are new in a context.
+    /// Gets to know the attributes that are new in a context: each one's name is looked for once.
     pub(crate) fn catch_up(&mut self, query: &Query, context: &Context) -> Result<(), OutOfMemory>
         ensures { OnOk result (IsLooked context.now query.now self.old
             → LooksAll context.now query.now self.new) }
@@ -48,7 +46,7 @@ impl Looked {
                 return Err(OutOfMemory);
             };
             let attribute = context.attribute_at(AttributeNumber(number));
-            let looks = looks_at(query, &self.readings, attribute);
+            let looks = looks_at(query, &self.names, attribute);
             self.attributes.push(looks)?;
         }
         Ok(())
@@ -58,78 +56,31 @@ impl Looked {
     pub(crate) fn has(&self, attribute: AttributeNumber) -> bool
         ensures { result ≡ is_looked self.now attribute }
     {
-        let _ = &self.readings;
+        let _ = &self.names;
         self.attributes.get(attribute)
     }
 }
 
-fn looks_at(query: &Query, readings: &[Reading], attribute: &Attribute) -> bool
-    ensures { readings.now ≡ map reading_of query.now.aggs
+fn looks_at(query: &Query, names: &IndexSet<Text, Seeds>, attribute: &Attribute) -> bool
+    ensures { names.now.keys ≡ first_seen (spoken_names_so query.now)
         → result ≡ looks_at_so query.now attribute.now }
 {
     if !is_aggregated(query) {
         return true;
     }
-    if in_lets(query.lets.as_slice(), attribute) || in_conds(query.conds.as_slice(), attribute) {
-        return true;
-    }
-    is_in_group(&query.group, attribute) || in_readings(readings, attribute)
+    is_among(names, attribute)
 }
 
-fn in_lets(lets: &[Let], attribute: &Attribute) -> bool
-    ensures { result ≡ in_lets_so lets.now attribute.now }
+/// Whether an attribute has one of these names, or is a record's weight.
+fn is_among(names: &IndexSet<Text, Seeds>, attribute: &Attribute) -> bool
+    ensures { result ≡ (has_some_name names.now.keys attribute.now
+        || is_same attribute.now.name (codes "count")) }
 {
-    lets.iter().any(|l| in_let(l, attribute))
-}
-
-fn in_let(definition: &Let, attribute: &Attribute) -> bool
-    ensures { result ≡ (has_name_so definition.now.name attribute.now
-        || has_some_name_so definition.now.args attribute.now) }
-{
-    has_name(&definition.name, attribute) || has_some_name(definition.args.as_slice(), attribute)
-}
-
-fn in_conds(conds: &[Cond], attribute: &Attribute) -> bool
-    ensures { result ≡ in_conds_so conds.now attribute.now }
-{
-    conds.iter().any(|cond| has_name(&cond.name, attribute))
-}
-
-fn is_in_group(names: &Option<Seq<Text>>, attribute: &Attribute) -> bool
-    ensures { result ≡ has_some_name_so (names_in names.now) attribute.now }
-{
-    match names {
-        Some(names) => has_some_name(names.as_slice(), attribute),
-        None => false,
-    }
-}
-
-fn in_readings(readings: &[Reading], attribute: &Attribute) -> bool
-    ensures { result ≡ in_readings_so readings.now attribute.now }
-{
-    reads_some(readings, attribute) || is_weight(attribute)
-}
-
-fn reads_some(readings: &[Reading], attribute: &Attribute) -> bool
-    ensures { result ≡ is_read_so readings.now attribute.now }
-{
-    readings.iter().any(|reading| has_some_name(reading.names.as_slice(), attribute))
+    names.contains(&attribute.name) || is_weight(attribute)
 }
 
 fn is_weight(attribute: &Attribute) -> bool
     ensures { result ≡ is_same attribute.now.name (codes "count") }
 {
     attribute.name.as_str() == "count"
-}
-
-fn has_some_name(names: &[Text], attribute: &Attribute) -> bool
-    ensures { result ≡ has_some_name_so names.now attribute.now }
-{
-    names.iter().any(|name| has_name(name, attribute))
-}
-
-fn has_name(name: &Text, attribute: &Attribute) -> bool
-    ensures { result ≡ has_name_so name.now attribute.now }
-{
-    attribute.name == *name
 }

@@ -14,7 +14,7 @@ loop-place-preserved c = record {
       let now = c.loop-place.invariant.is h in
       looked_more c.args.query.now c.args.context.now c.loop-place.self _ (record { 0 = c.in-Ok.number }) c.looks_at-looks.result refl
       c.in_ok-push.ensures (omega arith) (omega arith)
-      (c.looks_at-looks.ensures (c.deref.ensures.value ∙ now.readings)
+      (c.looks_at-looks.ensures now.names
       ∙ ap (looks_at c.args.query.now) c.attribute_at-attribute.ensures)
       now;
 }
