@@ -20,7 +20,7 @@ use crate::traces::take_traces;
 use cal_channel::ThreadChannel;
 use cal_context::{Context, Taker};
 use cal_nodes::ContextNodes;
-use cal_script::{Channel, Script, tree_shape};
+use cal_script::{Channel, Script};
 use cal_table::Table;
 use cal_tree::{Tree, TreeSeat};
 use cal_value::OutOfMemory;
@@ -57,7 +57,7 @@ pub fn take_rows<T: Taker>(
     ensures learns { Learns (view seat.old) (view seat.new) }
     ensures grows { Grows context.old context.new }
 {
-    let mut nodes = ContextNodes::new(alloc, tree_shape(script))?;
+    let mut nodes = ContextNodes::new(alloc, tree.shape())?;
     let declared = script.channels.as_slice();
     for place in 0..declared.len() {
         take_channel(

@@ -10,6 +10,7 @@ mod child;
 mod laws;
 mod path;
 mod read;
+mod seats;
 mod tree;
 mod up;
 
