@@ -5,3 +5,4 @@ pub mod Singles
 pub mod Standing
 pub mod Places
 pub mod NoRows
+pub mod Looked

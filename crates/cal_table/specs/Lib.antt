@@ -1,7 +1,9 @@
+pub mod KeyNodes
 pub mod Rows
 pub mod Tables
 pub mod TableLaws
 pub mod Held
 pub mod Shapes
 pub mod Snapshots
+pub mod Looks
 pub mod Numbering

@@ -1,17 +1,16 @@
-ghost use Rattle.std.specs.Prelude.{◌≡◌, [], ◌∷◌, filter, All, IfOk, OnOk};
+ghost use Rattle.std.specs.Prelude.{◌≡◌, [], ◌∷◌, filter, pos, All, OnOk};
 ghost use Rattle.cal_agg.specs.Rows.{cell_over};
 ghost use Rattle.cal_table.specs.Snapshots.{HasNumberOf64, held_over, is_flagged as flagged};
 ghost use Rattle.cal_table.specs.Snapshots.{numbers_of};
 ghost use Rattle.cal_table.specs.Snapshots.{key_of as key_by, last_number as last_among};
 
-use crate::{TableKey, TableShape};
+use crate::shape::flag_at;
+use crate::{KeyNodes, TableKey, TableShape};
 use cal_agg::{AggRow, Cell, Count, Kernel, Num};
 use cal_filter::number_in;
 use cal_snap::{NumberedEntry, NumberedSnap};
 use cal_value::{OutOfMemory, Seq, TryCopy};
-use cal_words::NodeId;
 use std::alloc::Global;
-use std::mem;
 
 /// The key and the row of the snapshot that is added. Filled again, its memory serves for the next
 /// one.
@@ -25,8 +24,14 @@ impl Draft {
     /// No snapshot. It takes no memory.
     pub(crate) fn new(alloc: Global) -> Draft {
         Draft {
-            key: no_key(alloc),
-            row: no_row(alloc),
+            key: TableKey {
+                refs: KeyNodes::new(),
+                imms: Seq::new(alloc),
+            },
+            row: AggRow {
+                count: Count::start(),
+                cells: Seq::new(alloc),
+            },
         }
     }
 
@@ -41,90 +46,61 @@ impl Draft {
         ensures key { OnOk result (self.new.key ≡ key_by shape.now snap.now) }
         ensures row { OnOk result (self.new.row ≡ held_over shape.now (snap.now ∷ [])) }
     {
-        let key = mem::replace(&mut self.key, no_key(alloc));
-        self.key = key_of(alloc, shape, snap, key)?;
-        let row = mem::replace(&mut self.row, no_row(alloc));
-        self.row = row_of(shape, snap, row)?;
-        Ok(())
+        self.key.refs.refill(alloc, &snap.refs)?;
+        fill_imms(alloc, &mut self.key.imms, &shape.keys, &snap.imms)?;
+        self.row.count = one();
+        fill_cells(&mut self.row.cells, shape, snap)
     }
 }
 
-fn no_key(alloc: Global) -> TableKey {
-    TableKey {
-        refs: Seq::new(alloc),
-        imms: Seq::new(alloc),
-    }
-}
-
-fn no_row(alloc: Global) -> AggRow {
-    AggRow {
-        count: Count::start(),
-        cells: Seq::new(alloc),
-    }
-}
-
-/// The key of a snapshot. `room` is what it may take.
-fn key_of(
+/// Becomes the entries whose attributes are keys.
+fn fill_imms(
     alloc: Global,
-    shape: &TableShape,
-    snap: &NumberedSnap,
-    room: TableKey,
-) -> Result<TableKey, OutOfMemory>
-    ensures { IfOk result (λ key. key ≡ key_by shape.now snap.now) }
-{
-    let TableKey { refs, imms } = room;
-    let refs = nodes_of(&snap.refs, refs.into_vec())?;
-    let imms = key_imms(alloc, &shape.keys, &snap.imms, imms.into_vec())?;
-    Ok(TableKey {
-        refs: Seq::from_vec(refs),
-        imms: Seq::from_vec(imms),
-    })
-}
-
-fn nodes_of(refs: &[NodeId], room: Vec<NodeId>) -> Result<Vec<NodeId>, OutOfMemory>
-    ensures { IfOk result (λ nodes. nodes.items ≡ refs.now) }
-{
-    let mut nodes = room;
-    nodes.clear();
-    nodes.extend_from_slice(refs)?;
-    Ok(nodes)
-}
-
-/// The entries whose attributes are keys.
-fn key_imms(
-    alloc: Global,
+    kept: &mut Seq<NumberedEntry>,
     keys: &Seq<bool>,
     imms: &[NumberedEntry],
-    room: Vec<NumberedEntry>,
-) -> Result<Vec<NumberedEntry>, OutOfMemory>
-    ensures { IfOk result (λ kept. kept.items ≡ filter (flagged keys.now) imms.now) }
+) -> Result<(), OutOfMemory>
+    ensures { OnOk result (kept.new ≡ filter (flagged keys.now) imms.now) }
 {
-    let mut kept = room;
-    kept.clear();
+    clear(kept);
     for entry in imms {
         if is_flagged(keys, entry) {
             kept.push(entry.copy(alloc)?)?;
         }
     }
-    Ok(kept)
+    Ok(())
 }
 
-/// The row of a snapshot. `room` is what its cells may take.
-fn row_of(shape: &TableShape, snap: &NumberedSnap, room: AggRow) -> Result<AggRow, OutOfMemory>
+/// Becomes the cells of the value attributes.
+fn fill_cells(
+    cells: &mut Seq<Cell>,
+    shape: &TableShape,
+    snap: &NumberedSnap,
+) -> Result<(), OutOfMemory>
     requires { All HasNumberOf64 snap.now.imms.items }
-    ensures { IfOk result (λ row. row ≡ held_over shape.now (snap.now ∷ [])) }
+    ensures { OnOk result (cells.new ≡ (held_over shape.now (snap.now ∷ [])).cells) }
 {
-    let mut cells = room.cells.into_vec();
-    cells.clear();
+    clear(cells);
     for flags in shape.values.as_slice() {
         cells.push(cell_of(flags, snap))?;
     }
+    Ok(())
+}
+
+/// Takes all items away, and keeps the memory.
+fn clear<T: Drop>(items: &mut Seq<T>)
+    ensures { items.new ≡ [] }
+{
+    while items.pop().is_some() {}
+}
+
+/// The count of one snapshot.
+fn one() -> Count
+    ensures { result ≡ pos 1 }
+{
     let mut count = Count::start();
     count.add(Num::Whole(1));
-    Ok(AggRow {
-        count,
-        cells: Seq::from_vec(cells),
-    })
+    count
 }
 
 /// The cell of a value attribute: of the last number of a snapshot, or of none.
@@ -156,8 +132,5 @@ fn last_number(flags: &Seq<bool>, imms: &[NumberedEntry]) -> Option<Num>
 fn is_flagged(flags: &Seq<bool>, entry: &NumberedEntry) -> bool
     ensures { result ≡ flagged flags.now entry.now }
 {
-    match flags.as_slice().get(entry.attribute as usize) {
-        Some(flag) => *flag,
-        None => false,
-    }
+    flag_at(flags, entry.attribute)
 }

@@ -1,13 +1,13 @@
+use crate::KeyNodes;
 use cal_snap::NumberedEntry;
 use cal_value::{Exact, OutOfMemory, Seq, TryCopy};
-use cal_words::NodeId;
 use std::alloc::Global;
 
 /// By what snapshots are grouped: their nodes, and those of their entries whose attributes are
 /// keys.
 #[derive(Debug, Drop, PartialEq, Eq, Hash)]
 pub struct TableKey {
-    pub refs: Seq<NodeId>,
+    pub refs: KeyNodes,
     pub imms: Seq<NumberedEntry>,
 }
 
@@ -23,7 +23,7 @@ impl Exact for TableKey {
 impl TryCopy for TableKey {
     fn copy(&self, alloc: Global) -> Result<TableKey, OutOfMemory> {
         Ok(TableKey {
-            refs: Seq::from_vec(Vec::from_slice(alloc, self.refs.as_slice())?),
+            refs: self.refs.copy(alloc)?,
             imms: self.imms.copy(alloc)?,
         })
     }

@@ -1,7 +1,8 @@
-ghost use Rattle.std.specs.Prelude.{◌≡◌, Bool, List, ◌++◌};
+ghost use Rattle.std.specs.Prelude.{◌≡◌, Bool, List, [], ◌∷◌, ◌++◌};
 ghost use Rattle.cal_snap.specs.declared.numbered.NumberedSnap.{NumberedSnap as ASnap};
 ghost use Rattle.cal_table.specs.declared.key.TableKey.{TableKey as AKey};
 ghost use Rattle.cal_table.specs.declared.shape.TableShape.{TableShape as AShape};
+ghost use Rattle.cal_table.specs.Looks.{IsLookedAt};
 ghost use Rattle.cal_table.specs.Rows.{tally};
 ghost use Rattle.cal_table.specs.Snapshots.{StandsFor, held_of_keys, table_of};
 ghost use Rattle.cal_table.specs.Tables.{Same, TableValue, merged_tables};
@@ -19,4 +20,10 @@ pub fn merges_stand_for_both()
     ensures { (snaps more : List ASnap) (one other merged : TableValue) → StandsFor snaps one
         → StandsFor more other → other.shape ≡ one.shape
         → Same merged (merged_tables one other) → StandsFor (snaps ++ more) merged }
+{}
+
+/// A snapshot comes to what its entries alone come to that a table looks at.
+pub fn tables_look_at_few()
+    ensures { (shape : AShape) (snap looked : ASnap) → IsLookedAt shape snap looked
+        → table_of shape (looked ∷ []) ≡ table_of shape (snap ∷ []) }
 {}

@@ -10,6 +10,7 @@ mod book;
 mod draft;
 mod hints;
 mod key;
+mod key_nodes;
 mod keys;
 mod laws;
 mod merging;
@@ -20,7 +21,8 @@ mod table;
 
 pub use book::{Book, BookSeat};
 pub use key::TableKey;
-pub use laws::{merges_stand_for_both, tables_hold_snapshots};
+pub use key_nodes::KeyNodes;
+pub use laws::{merges_stand_for_both, tables_hold_snapshots, tables_look_at_few};
 pub use numbering::AttributeNumbers;
 pub use shape::TableShape;
 pub use table::{Table, TableRows};

@@ -1,4 +1,6 @@
-ghost use Rattle.std.specs.Prelude.{◌≡◌, [], ◌∷◌, IfOk};
+ghost use Rattle.std.specs.Prelude.{◌≡◌, [], ◌∷◌, false, slice_index_or, IfOk};
+ghost use Rattle.std.specs.List.{list_any};
+ghost use Rattle.cal_table.specs.Looks.{looks_at as looks_by};
 ghost use Rattle.cal_table.specs.Shapes.{flags_of as flags_by, is_among as among, shape_of};
 
 use cal_value::{Attribute, OutOfMemory, Seq, Text, TryCopy};
@@ -37,6 +39,34 @@ impl TableShape {
             values: Seq::from_vec(flags),
             hashers,
         })
+    }
+
+    /// Whether an attribute, by its number, is a key or a value attribute.
+    pub fn looks_at(&self, attribute: u32) -> bool
+        ensures { result ≡ looks_by self.now attribute }
+    {
+        flag_at(&self.keys, attribute) || is_flagged_by_one(self.values.as_slice(), attribute)
+    }
+}
+
+fn is_flagged_by_one(values: &[Seq<bool>], attribute: u32) -> bool
+    ensures { result ≡ list_any (λ flags. slice_index_or flags attribute false) values.now }
+{
+    for flags in values {
+        if flag_at(flags, attribute) {
+            return true;
+        }
+    }
+    false
+}
+
+/// Whether an attribute is flagged.
+pub(crate) fn flag_at(flags: &Seq<bool>, attribute: u32) -> bool
+    ensures { result ≡ slice_index_or flags.now attribute false }
+{
+    match flags.as_slice().get(attribute as usize) {
+        Some(flag) => *flag,
+        None => false,
     }
 }
 

@@ -2,6 +2,7 @@ ghost use Rattle.std.specs.Prelude.{◌≡◌, ◌+◌, ◌<◌, ◌≤◌, ◌^
 ghost use Rattle.std.specs.Prelude.{All, IfOk, IfErr, OnOk, OnErr};
 ghost use Rattle.cal_context.specs.Lists.{AreApart};
 ghost use Rattle.cal_table.specs.Numbering.{Added, MayAdd};
+ghost use Rattle.cal_table.specs.Looks.{looks_at as looks_by};
 ghost use Rattle.cal_table.specs.Rows.{rows_of};
 ghost use Rattle.cal_table.specs.Snapshots.{HasNumberOf64, table_of};
 ghost use Rattle.cal_table.specs.Tables.{Same, empty_table, merged_tables};
@@ -80,6 +81,14 @@ impl Table {
         ensures { result ≡ self.now.snapshots }
     {
         self.snapshots
+    }
+
+    /// Whether it looks at the entries of an attribute: the others may be left out of snapshots
+    /// (`tables_look_at_few`).
+    pub fn looks_at(&self, attribute: u32) -> bool
+        ensures { result ≡ looks_by self.now.shape attribute }
+    {
+        self.shape.looks_at(attribute)
     }
 
     /// The rows.

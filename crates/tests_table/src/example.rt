@@ -3,7 +3,7 @@ ghost use Rattle.std.specs.Prelude.{◌<◌, IfOk, All};
 ghost use Rattle.cal_table.specs.Snapshots.{HasNumberOf64};
 
 use cal_snap::{NumberedEntry, NumberedSnap};
-use cal_table::TableKey;
+use cal_table::{KeyNodes, TableKey};
 use cal_value::{OutOfMemory, Seq, Variant};
 use cal_words::NodeId;
 use std::alloc::Global;
@@ -106,7 +106,7 @@ pub(crate) fn snapshot(alloc: Global, given: Given) -> Result<NumberedSnap, OutO
 /// The key of these nodes and entries.
 pub(crate) fn key_of(alloc: Global, given: Given) -> Result<TableKey, OutOfMemory> {
     Ok(TableKey {
-        refs: Seq::from_vec(nodes_of(alloc, given.0)?),
+        refs: KeyNodes::from_slice(alloc, &nodes_of(alloc, given.0)?)?,
         imms: Seq::from_vec(entries_of(alloc, given.1, given.2)?),
     })
 }

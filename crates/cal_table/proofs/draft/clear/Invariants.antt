@@ -1,0 +1,6 @@
+use Rattle.std.proofs.Common.{length}
+use Rattle.cal_table.proofs.draft.clear.Given as goal
+
+-- each pass takes one item away
+abbrev pub decreases-loop : goal.decreases-loop
+decreases-loop g l = length l.items
