@@ -6,7 +6,7 @@ ghost use Rattle.cal_table.specs.Snapshots.{key_of as key_by, last_number as las
 
 use crate::shape::flag_at;
 use crate::{KeyNodes, TableKey, TableShape};
-use cal_agg::{AggRow, Cell, Count, Kernel, Num};
+use cal_agg::{AggRow, Cell, Cells, Count, Kernel, Num};
 use cal_filter::number_in;
 use cal_snap::{NumberedEntry, NumberedSnap};
 use cal_value::{OutOfMemory, Seq, TryCopy};
@@ -30,7 +30,7 @@ impl Draft {
             },
             row: AggRow {
                 count: Count::start(),
-                cells: Seq::new(alloc),
+                cells: Cells::new(),
             },
         }
     }
@@ -49,7 +49,7 @@ impl Draft {
         self.key.refs.refill(alloc, &snap.refs)?;
         fill_imms(alloc, &mut self.key.imms, &shape.keys, &snap.imms)?;
         self.row.count = one();
-        fill_cells(&mut self.row.cells, shape, snap)
+        fill_cells(alloc, &mut self.row.cells, shape, snap)
     }
 }
 
@@ -73,25 +73,26 @@ fn fill_imms(
 
 /// Becomes the cells of the value attributes.
 fn fill_cells(
-    cells: &mut Seq<Cell>,
+    alloc: Global,
+    cells: &mut Cells,
     shape: &TableShape,
     snap: &NumberedSnap,
 ) -> Result<(), OutOfMemory>
     requires { All HasNumberOf64 snap.now.imms.items }
     ensures { OnOk result (cells.new ≡ (held_over shape.now (snap.now ∷ [])).cells) }
 {
-    clear(cells);
+    cells.clear();
     for flags in shape.values.as_slice() {
-        cells.push(cell_of(flags, snap))?;
+        cells.push(alloc, cell_of(flags, snap))?;
     }
     Ok(())
 }
 
-/// Takes all items away, and keeps the memory.
-fn clear<T: Drop>(items: &mut Seq<T>)
-    ensures { items.new ≡ [] }
+/// Takes all entries away, and keeps the memory.
+fn clear(entries: &mut Seq<NumberedEntry>)
+    ensures { entries.new ≡ [] }
 {
-    while items.pop().is_some() {}
+    while entries.pop().is_some() {}
 }
 
 /// The count of one snapshot.
