@@ -1,6 +1,6 @@
 use Rattle.std.proofs.Common.{length}
 use Rattle.cal_table.proofs.draft.clear.Given as goal
 
--- each pass takes one item away
+-- each pass takes one entry away
 abbrev pub decreases-loop : goal.decreases-loop
-decreases-loop g l = length l.items
+decreases-loop g l = length l.entries
