@@ -23,7 +23,7 @@ pub(crate) type Given = (&'static [u32], &'static [u32], &'static [i64]);
 const SNAPSHOTS: [Given; 8] = [
     (&[5], &[RANK, PHASE, TIME], &[0, 1, 10]),
     (&[5], &[RANK, PHASE, TIME, OTHER], &[0, 1, 30, 9]),
-    (&[5], &[RANK, PHASE, TIME], &[1, 1, 7]),
+    (&[5, 8, 13], &[RANK, PHASE, TIME], &[1, 1, 7]),
     (&[5], &[RANK, TIME, PHASE, TIME], &[0, 400, 2, 6]),
     (&[5, 8], &[RANK, PHASE, TIME], &[0, 1, 100]),
     (&[5], &[OTHER, RANK, PHASE], &[77, 0, 1]),
@@ -47,7 +47,7 @@ pub(crate) type Wanted = (
 
 const ROWS: [Wanted; 5] = [
     (&[5], &[RANK, PHASE], &[0, 1], 4, Some((38, -2, 30))),
-    (&[5], &[RANK, PHASE], &[1, 1], 1, Some((7, 7, 7))),
+    (&[5, 8, 13], &[RANK, PHASE], &[1, 1], 1, Some((7, 7, 7))),
     (&[5], &[RANK, PHASE], &[0, 2], 1, Some((6, 6, 6))),
     (&[5, 8], &[RANK, PHASE], &[0, 1], 1, Some((100, 100, 100))),
     (&[], &[], &[], 1, None),
