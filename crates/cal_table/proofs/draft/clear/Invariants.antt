@@ -3,4 +3,4 @@ use Rattle.cal_table.proofs.draft.clear.Given as goal
 
 -- each pass takes one entry away
 abbrev pub decreases-loop : goal.decreases-loop
-decreases-loop g l = length l.entries
+decreases-loop l = length l.entries
