@@ -27,7 +27,7 @@ pub(crate) fn sum_result(count: i128, known: Option<Num>, cell: &Cell) -> Option
 {
     match known {
         Some(number) => Some(others_of(count, number)),
-        None => cell.sum.value(),
+        None => cell.sum().value(),
     }
 }
 
@@ -37,7 +37,7 @@ pub(crate) fn least_result(known: Option<Num>, cell: &Cell) -> Option<Num>
 {
     match known {
         Some(_) => None,
-        None => cell.least.value(),
+        None => cell.least().value(),
     }
 }
 
@@ -47,7 +47,7 @@ pub(crate) fn greatest_result(known: Option<Num>, cell: &Cell) -> Option<Num>
 {
     match known {
         Some(_) => None,
-        None => cell.greatest.value(),
+        None => cell.greatest().value(),
     }
 }
 

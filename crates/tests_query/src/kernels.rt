@@ -194,9 +194,9 @@ fn a_cell_keeps_a_sum_and_both_ends(rt: HostRuntime) {
     cell.add(Whole(-4));
     let copy = cell;
     cell.merge(&copy);
-    assert_eq!(rt; cell.sum.value(), Some(Whole(-2)));
-    assert_eq!(rt; cell.least.value(), Some(Whole(-4)));
-    assert_eq!(rt; cell.greatest.value(), Some(Whole(3)));
+    assert_eq!(rt; cell.sum().value(), Some(Whole(-2)));
+    assert_eq!(rt; cell.least().value(), Some(Whole(-4)));
+    assert_eq!(rt; cell.greatest().value(), Some(Whole(3)));
 }
 
 // A sum that is doubled 40 times from 2^86 just reaches 2^126.

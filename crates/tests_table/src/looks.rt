@@ -21,9 +21,9 @@ fn shown(held: &AggRow) -> Option<Figures> {
     let cell = held.cells.as_slice().get(0)?;
     Some(Figures {
         count: held.count.value(),
-        sum: cell.sum.value(),
-        least: cell.least.value(),
-        greatest: cell.greatest.value(),
+        sum: cell.sum().value(),
+        least: cell.least().value(),
+        greatest: cell.greatest().value(),
     })
 }
 
