@@ -1,4 +1,4 @@
-ghost use Rattle.std.specs.Prelude.{◌≡◌, ◌++◌, IfOk, OnOk, List, map};
+ghost use Rattle.std.specs.Prelude.{◌≡◌, [], ◌∷◌, ◌++◌, IfOk, OnOk, List, filter, map};
 ghost use Rattle.cal_channel.specs.Channels.{Means};
 ghost use Rattle.cal_channel.specs.Shown.{numbered_entry, plain_entry, value_shown};
 ghost use Rattle.cal_hand.specs.Nodes.{NodeAt};
@@ -7,6 +7,7 @@ ghost use Rattle.cal_run.specs.Held.{Shows};
 ghost use Rattle.cal_run.specs.Numbers.{AreNamed, AreNamedInSome};
 ghost use Rattle.cal_run.specs.Snapshots.{Sight, snapshot_of};
 ghost use Rattle.cal_channel.specs.Closing.{IsRead};
+ghost use Rattle.cal_channel.specs.Looked.{is_looked_at};
 ghost use Rattle.cal_value.specs.declared.attribute.Attribute as attributes_of;
 ghost use Rattle.cal_value.specs.declared.variant.Variant as variants;
 
@@ -16,9 +17,11 @@ use cal_context::{AttributeNumber, Immediate};
 use cal_run::{EventValue, ImmediateSink, Moment, Numbers, Operation, Prober, add_immediates};
 use cal_script::{Channel, Script};
 use cal_snap::{NumberedEntry, NumberedSnap};
+use cal_table::Table;
 use cal_value::{OutOfMemory, TryCopy, Variant};
 use cal_words::NodeId;
 use std::alloc::Global;
+use std::mem;
 
 /// The snapshot that is taken. Cleared and filled again, one serves for any number of snapshots.
 #[derive(Drop)]
@@ -145,37 +148,62 @@ impl SnapDraft {
         Ok(())
     }
 
-    /// Writes the snapshot as a table takes it, in the place of another one. It takes memory where
-    /// that was shorter, and for texts.
+    /// Writes the snapshot as a table takes it, in the place of another one: its nodes, which move
+    /// there, and copies of those of its entries that the table looks at. It takes memory where
+    /// there were fewer, and for their texts.
     pub fn number(
-        &self,
+        &mut self,
         alloc: Global,
         script: &Script,
+        table: &Table,
         snap: &mut NumberedSnap,
     ) -> Result<(), OutOfMemory>
-        ensures refs { OnOk result (snap.new.refs.items ≡ self.now.nodes.items) }
-        ensures imms { OnOk result (snap.new.imms.items
-            ≡ map (numbered_entry script.now.values) self.now.entries.items) }
+        ensures refs { OnOk result (snap.new.refs.items ≡ self.old.nodes.items) }
+        ensures imms { OnOk result (snap.new.imms.items ≡ filter (is_looked_at table.now.shape)
+            (map (numbered_entry script.now.values) self.old.entries.items)) }
     {
-        snap.clear();
-        snap.refs.extend_from_slice(&self.nodes)?;
-        number_entries(alloc, script, &self.entries, &mut snap.imms)?;
+        mem::swap(&mut snap.refs, &mut self.nodes);
+        snap.imms.clear();
+        number_entries(alloc, script, table, &self.entries, &mut snap.imms)?;
         Ok(())
     }
 }
 
-/// Adds entries as a table takes them.
+/// Adds those of some entries that a table looks at, as it takes them.
 fn number_entries(
     alloc: Global,
     script: &Script,
+    table: &Table,
     more: &[ShownEntry],
     imms: &mut Vec<NumberedEntry>,
 ) -> Result<(), OutOfMemory>
-    ensures { OnOk result (imms.new.items
-        ≡ imms.old.items ++ map (numbered_entry script.now.values) more.now) }
+    ensures { OnOk result (imms.new.items ≡ imms.old.items
+        ++ filter (is_looked_at table.now.shape) (map (numbered_entry script.now.values) more.now)) }
 {
     for entry in more {
-        imms.push(entry.numbered(alloc, script)?)?;
+        number_entry(alloc, script, table, entry, imms)?;
     }
     Ok(())
+}
+
+/// Adds an entry as a table takes it, if the table looks at it.
+#[inline(always)]
+fn number_entry(
+    alloc: Global,
+    script: &Script,
+    table: &Table,
+    entry: &ShownEntry,
+    imms: &mut Vec<NumberedEntry>,
+) -> Result<(), OutOfMemory>
+    ensures { OnOk result (imms.new.items ≡ imms.old.items
+        ++ filter (is_looked_at table.now.shape)
+        (numbered_entry script.now.values entry.now ∷ [])) }
+{
+    if table.looks_at(entry.attribute.0) {
+        let numbered = entry.numbered(alloc, script)?;
+        imms.push(numbered)?;
+        Ok(())
+    } else {
+        Ok(())
+    }
 }
