@@ -18,7 +18,7 @@ use cal_run::{EventValue, ImmediateSink, Moment, Numbers, Operation, Prober, add
 use cal_script::{Channel, Script};
 use cal_snap::{NumberedEntry, NumberedSnap};
 use cal_table::Table;
-use cal_value::{OutOfMemory, TryCopy, Variant};
+use cal_value::{OutOfMemory, Text, TryCopy, Variant};
 use cal_words::NodeId;
 use std::alloc::Global;
 use std::mem;
@@ -30,6 +30,8 @@ pub struct SnapDraft {
     pub entries: Vec<ShownEntry>,
     /// By which boards give their last values.
     lasts: Draft,
+    /// The memory of an event's text, for the next one.
+    room: Text,
 }
 
 /// A draft keeps the place of a value of the script, and a copy of another value.
@@ -55,7 +57,7 @@ impl ImmediateSink for SnapDraft {
         value: EventValue<'_>,
     ) -> Result<(), OutOfMemory> {
         let _ = script;
-        let value = shown_value(alloc, value)?;
+        let value = shown_value(alloc, value, &mut self.room)?;
         self.entries.push(ShownEntry { attribute, value })?;
         Ok(())
     }
@@ -87,15 +89,51 @@ fn add_plain(
     Ok(())
 }
 
-/// The value that an event shows, as a draft keeps it.
-fn shown_value(alloc: Global, value: EventValue<'_>) -> Result<ShownValue, OutOfMemory>
+/// The value that an event shows, as a draft keeps it. A text takes what `room` has.
+fn shown_value(
+    alloc: Global,
+    value: EventValue<'_>,
+    room: &mut Text,
+) -> Result<ShownValue, OutOfMemory>
     ensures { IfOk result (λ shown. (values : List variants.Variant) (v : variants.Variant)
         → IsEventValue values value.entry v → value_shown values shown ≡ v) }
 {
     match value {
         EventValue::Opened(place) => Ok(ShownValue::Opened(place)),
-        EventValue::Lent(value) => Ok(ShownValue::Plain(value.copy(alloc)?)),
+        EventValue::Lent(value) => Ok(ShownValue::Plain(copied(alloc, value, room)?)),
         EventValue::Absent => Ok(ShownValue::Plain(Variant::Bool(false))),
+    }
+}
+
+/// A copy of a value. A text takes what `room` has.
+fn copied(alloc: Global, value: &Variant, room: &mut Text) -> Result<Variant, OutOfMemory>
+    ensures { IfOk result (λ copy. copy ≡ value.now) }
+{
+    match value {
+        Variant::Text(text) => {
+            let mut copy = mem::replace(room, Text::new(alloc));
+            copy.truncate(0);
+            copy.push_str(text.as_str())?;
+            Ok(Variant::Text(copy))
+        }
+        _ => value.copy(alloc),
+    }
+}
+
+/// Takes the text of the first entry away, for the next snapshot's: an event stands there.
+fn keep_text(entries: &mut [ShownEntry], room: &mut Text) {
+    if entries.len() > 0 {
+        let entry = &mut entries[0];
+        take_text(&mut entry.value, room);
+    }
+}
+
+/// Takes a text away, and leaves what was there.
+fn take_text(value: &mut ShownValue, room: &mut Text) {
+    if let ShownValue::Plain(value) = value {
+        if let Variant::Text(text) = value {
+            mem::swap(text, room);
+        }
     }
 }
 
@@ -106,6 +144,7 @@ impl SnapDraft {
             nodes: Vec::new(alloc),
             entries: Vec::new(alloc),
             lasts: Draft::new(alloc),
+            room: Text::new(alloc),
         }
     }
 
@@ -136,6 +175,7 @@ impl SnapDraft {
             self.new.nodes.items (map (numbered_entry script.now.values) self.new.entries.items)
             (snapshot_of script.now s channel.now op)) }
     {
+        keep_text(&mut self.entries, &mut self.room);
         self.entries.clear();
         add_immediates(
             alloc, script, numbers, channel, op, moment, nodes, prober, self,
