@@ -13,7 +13,7 @@ use Rattle.cal_channel.proofs.channel.add_to_table.Goals as goal
 pub add_numbered-requires-clause-numbers : goal.add_numbered-requires-clause-numbers
 add_numbered-requires-clause-numbers c =
     subst (All HasNumberOf64) (sym c.in_ok-number-in-Some.ensures.imms)
-    (All-filter (is_looked_at c.in-Some.table.now.shape) HasNumberOf64
+    (All-filter (is_looked_at c.in-Some.table.shape) HasNumberOf64
     (map (numbered_entry c.args.script.now.values) c.args.draft.now.entries.items)
     c.requires.small)
 
@@ -32,7 +32,7 @@ returns-in_ok-add_numbered-in-Some c =
         snap = snap;
         refs = c.in_ok-number-in-Some.ensures.refs;
         imms = refl;
-        added = added-whole c.in-Some.table.now c.add_numbered.new.self snap looked
+        added = added-whole c.in-Some.table c.add_numbered.new.self snap looked
             (record { refs = refl; imms = c.in_ok-number-in-Some.ensures.imms })
             c.in_ok-add_numbered-in-Some.ensures.added;
       },
