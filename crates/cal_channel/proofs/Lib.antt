@@ -6,3 +6,4 @@ pub mod ChannelLemmas
 pub mod LawLemmas
 pub mod SmallLemmas
 pub mod SaidLemmas
+pub mod LookedLemmas

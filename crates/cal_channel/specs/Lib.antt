@@ -1,4 +1,5 @@
 pub mod Shown
+pub mod Looked
 pub mod Packed
 pub mod Traces
 pub mod Values

@@ -142,7 +142,13 @@ impl ThreadChannel {
         self.draft
             .fill(alloc, script, numbers, channel, op, &shown, nodes, prober)?;
         add_to_trace(alloc, &mut self.trace, &self.draft)?;
-        add_to_table(alloc, script, &mut self.table, &mut self.snap, &self.draft)?;
+        add_to_table(
+            alloc,
+            script,
+            &mut self.table,
+            &mut self.snap,
+            &mut self.draft,
+        )?;
         self.previous = previous_after(channel.timer, moment.reading, self.previous);
         Ok(())
     }
@@ -236,25 +242,25 @@ fn add_to_trace(
     }
 }
 
-/// Adds a snapshot to a table, if there is one, as `snap`, which it fills. An `Err` leaves the
-/// table.
+/// Adds a snapshot to a table, if there is one, as `snap`, which it fills with what the table looks
+/// at, and into which the nodes move. An `Err` leaves the table.
 fn add_to_table(
     alloc: Global,
     script: &Script,
     table: &mut Option<Table>,
     snap: &mut NumberedSnap,
-    draft: &SnapDraft,
+    draft: &mut SnapDraft,
 ) -> Result<(), OutOfMemory>
     requires room { IfSome table.old (λ table. table.snapshots < 2 ^ 20) }
     requires small { All HasNumberOf64
-        (map (numbered_entry script.now.values) draft.now.entries.items) }
-    ensures { OnOk result (Counted draft.now.nodes.items
-        (map (numbered_entry script.now.values) draft.now.entries.items) table.old table.new) }
+        (map (numbered_entry script.now.values) draft.old.entries.items) }
+    ensures { OnOk result (Counted draft.old.nodes.items
+        (map (numbered_entry script.now.values) draft.old.entries.items) table.old table.new) }
 {
     match table {
         None => Ok(()),
         Some(table) => {
-            draft.number(alloc, script, snap)?;
+            draft.number(alloc, script, table, snap)?;
             table.add_numbered(snap)?;
             Ok(())
         }

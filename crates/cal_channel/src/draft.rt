@@ -1,4 +1,4 @@
-ghost use Rattle.std.specs.Prelude.{◌≡◌, ◌++◌, IfOk, OnOk, List, map};
+ghost use Rattle.std.specs.Prelude.{◌≡◌, [], ◌∷◌, ◌++◌, IfOk, OnOk, List, filter, map};
 ghost use Rattle.cal_channel.specs.Channels.{Means};
 ghost use Rattle.cal_channel.specs.Shown.{numbered_entry, plain_entry, value_shown};
 ghost use Rattle.cal_hand.specs.Nodes.{NodeAt};
@@ -7,6 +7,7 @@ ghost use Rattle.cal_run.specs.Held.{Shows};
 ghost use Rattle.cal_run.specs.Numbers.{AreNamed, AreNamedInSome};
 ghost use Rattle.cal_run.specs.Snapshots.{Sight, snapshot_of};
 ghost use Rattle.cal_channel.specs.Closing.{IsRead};
+ghost use Rattle.cal_channel.specs.Looked.{is_looked_at};
 ghost use Rattle.cal_value.specs.declared.attribute.Attribute as attributes_of;
 ghost use Rattle.cal_value.specs.declared.variant.Variant as variants;
 
@@ -16,9 +17,11 @@ use cal_context::{AttributeNumber, Immediate};
 use cal_run::{EventValue, ImmediateSink, Moment, Numbers, Operation, Prober, add_immediates};
 use cal_script::{Channel, Script};
 use cal_snap::{NumberedEntry, NumberedSnap};
-use cal_value::{OutOfMemory, TryCopy, Variant};
+use cal_table::Table;
+use cal_value::{OutOfMemory, Text, TryCopy, Variant};
 use cal_words::NodeId;
 use std::alloc::Global;
+use std::mem;
 
 /// The snapshot that is taken. Cleared and filled again, one serves for any number of snapshots.
 #[derive(Drop)]
@@ -27,6 +30,8 @@ pub struct SnapDraft {
     pub entries: Vec<ShownEntry>,
     /// By which boards give their last values.
     lasts: Draft,
+    /// The memory of an event's text, for the next one.
+    room: Text,
 }
 
 /// A draft keeps the place of a value of the script, and a copy of another value.
@@ -52,7 +57,7 @@ impl ImmediateSink for SnapDraft {
         value: EventValue<'_>,
     ) -> Result<(), OutOfMemory> {
         let _ = script;
-        let value = shown_value(alloc, value)?;
+        let value = shown_value(alloc, value, &mut self.room)?;
         self.entries.push(ShownEntry { attribute, value })?;
         Ok(())
     }
@@ -84,15 +89,51 @@ fn add_plain(
     Ok(())
 }
 
-/// The value that an event shows, as a draft keeps it.
-fn shown_value(alloc: Global, value: EventValue<'_>) -> Result<ShownValue, OutOfMemory>
+/// The value that an event shows, as a draft keeps it. A text takes what `room` has.
+fn shown_value(
+    alloc: Global,
+    value: EventValue<'_>,
+    room: &mut Text,
+) -> Result<ShownValue, OutOfMemory>
     ensures { IfOk result (λ shown. (values : List variants.Variant) (v : variants.Variant)
         → IsEventValue values value.entry v → value_shown values shown ≡ v) }
 {
     match value {
         EventValue::Opened(place) => Ok(ShownValue::Opened(place)),
-        EventValue::Lent(value) => Ok(ShownValue::Plain(value.copy(alloc)?)),
+        EventValue::Lent(value) => Ok(ShownValue::Plain(copied(alloc, value, room)?)),
         EventValue::Absent => Ok(ShownValue::Plain(Variant::Bool(false))),
+    }
+}
+
+/// A copy of a value. A text takes what `room` has.
+fn copied(alloc: Global, value: &Variant, room: &mut Text) -> Result<Variant, OutOfMemory>
+    ensures { IfOk result (λ copy. copy ≡ value.now) }
+{
+    match value {
+        Variant::Text(text) => {
+            let mut copy = mem::replace(room, Text::new(alloc));
+            copy.truncate(0);
+            copy.push_str(text.as_str())?;
+            Ok(Variant::Text(copy))
+        }
+        _ => value.copy(alloc),
+    }
+}
+
+/// Takes the text of the first entry away, for the next snapshot's: an event stands there.
+fn keep_text(entries: &mut [ShownEntry], room: &mut Text) {
+    if entries.len() > 0 {
+        let entry = &mut entries[0];
+        take_text(&mut entry.value, room);
+    }
+}
+
+/// Takes a text away, and leaves what was there.
+fn take_text(value: &mut ShownValue, room: &mut Text) {
+    if let ShownValue::Plain(value) = value {
+        if let Variant::Text(text) = value {
+            mem::swap(text, room);
+        }
     }
 }
 
@@ -103,6 +144,7 @@ impl SnapDraft {
             nodes: Vec::new(alloc),
             entries: Vec::new(alloc),
             lasts: Draft::new(alloc),
+            room: Text::new(alloc),
         }
     }
 
@@ -133,6 +175,7 @@ impl SnapDraft {
             self.new.nodes.items (map (numbered_entry script.now.values) self.new.entries.items)
             (snapshot_of script.now s channel.now op)) }
     {
+        keep_text(&mut self.entries, &mut self.room);
         self.entries.clear();
         add_immediates(
             alloc, script, numbers, channel, op, moment, nodes, prober, self,
@@ -145,37 +188,62 @@ impl SnapDraft {
         Ok(())
     }
 
-    /// Writes the snapshot as a table takes it, in the place of another one. It takes memory where
-    /// that was shorter, and for texts.
+    /// Writes the snapshot as a table takes it, in the place of another one: its nodes, which move
+    /// there, and copies of those of its entries that the table looks at. It takes memory where
+    /// there were fewer, and for their texts.
     pub fn number(
-        &self,
+        &mut self,
         alloc: Global,
         script: &Script,
+        table: &Table,
         snap: &mut NumberedSnap,
     ) -> Result<(), OutOfMemory>
-        ensures refs { OnOk result (snap.new.refs.items ≡ self.now.nodes.items) }
-        ensures imms { OnOk result (snap.new.imms.items
-            ≡ map (numbered_entry script.now.values) self.now.entries.items) }
+        ensures refs { OnOk result (snap.new.refs.items ≡ self.old.nodes.items) }
+        ensures imms { OnOk result (snap.new.imms.items ≡ filter (is_looked_at table.now.shape)
+            (map (numbered_entry script.now.values) self.old.entries.items)) }
     {
-        snap.clear();
-        snap.refs.extend_from_slice(&self.nodes)?;
-        number_entries(alloc, script, &self.entries, &mut snap.imms)?;
+        mem::swap(&mut snap.refs, &mut self.nodes);
+        snap.imms.clear();
+        number_entries(alloc, script, table, &self.entries, &mut snap.imms)?;
         Ok(())
     }
 }
 
-/// Adds entries as a table takes them.
+/// Adds those of some entries that a table looks at, as it takes them.
 fn number_entries(
     alloc: Global,
     script: &Script,
+    table: &Table,
     more: &[ShownEntry],
     imms: &mut Vec<NumberedEntry>,
 ) -> Result<(), OutOfMemory>
-    ensures { OnOk result (imms.new.items
-        ≡ imms.old.items ++ map (numbered_entry script.now.values) more.now) }
+    ensures { OnOk result (imms.new.items ≡ imms.old.items
+        ++ filter (is_looked_at table.now.shape) (map (numbered_entry script.now.values) more.now)) }
 {
     for entry in more {
-        imms.push(entry.numbered(alloc, script)?)?;
+        number_entry(alloc, script, table, entry, imms)?;
     }
     Ok(())
+}
+
+/// Adds an entry as a table takes it, if the table looks at it.
+#[inline(always)]
+fn number_entry(
+    alloc: Global,
+    script: &Script,
+    table: &Table,
+    entry: &ShownEntry,
+    imms: &mut Vec<NumberedEntry>,
+) -> Result<(), OutOfMemory>
+    ensures { OnOk result (imms.new.items ≡ imms.old.items
+        ++ filter (is_looked_at table.now.shape)
+        (numbered_entry script.now.values entry.now ∷ [])) }
+{
+    if table.looks_at(entry.attribute.0) {
+        let numbered = entry.numbered(alloc, script)?;
+        imms.push(numbered)?;
+        Ok(())
+    } else {
+        Ok(())
+    }
 }
