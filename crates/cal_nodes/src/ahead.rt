@@ -32,7 +32,11 @@ pub(crate) fn look_ahead(
 {
     if place % AHEAD == 0 {
         let left = nodes.len() - place;
-        let until = if left < AHEAD { nodes.len() } else { place + AHEAD };
+        let until = if left < AHEAD {
+            nodes.len()
+        } else {
+            place + AHEAD
+        };
         for next in place..until {
             look(numbers, tree, seat, nodes[next]);
         }
