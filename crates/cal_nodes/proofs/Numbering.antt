@@ -1,6 +1,6 @@
 -- Numbers stay, and stand for whatever is known as their nodes' paths.
 use Rattle.std.proofs.Common.{◌≡◌, ℕ, ◌+◌, ◌<◌, ◌≤◌, get_or, List, [], ◌∷◌, length, map, Option}
-use Rattle.std.proofs.Common.{Some, refl, sym, ap, ◌∙◌, subst, ⊎_elim, arith}
+use Rattle.std.proofs.Common.{Some, refl, sym, ap, ◌∙◌, subst, inl, inr, ⊎_elim, arith}
 use Rattle.std.proofs.lemmas.Bool.{cases_lt}
 use Rattle.std.proofs.lemmas.List.{get_or_default}
 use Rattle.cal_board.specs.ContextGrowth.{NodeStands-Grows}
@@ -11,8 +11,9 @@ use Rattle.cal_context.specs.Tree as contexts
 use Rattle.cal_context.specs.Tree.{Grows}
 use Rattle.cal_context.specs.declared.numbers.NodeNumber.{NodeNumber}
 use Rattle.cal_hand.specs.Nodes.{NodeAt, node_entry}
-use Rattle.cal_nodes.specs.Numbers.{AddsWay, AddsWays, AreNumbered, CanNumber, IsNumbered, IsOnWay}
-use Rattle.cal_nodes.specs.Numbers.{KeepsNumbers, number_in}
+use Rattle.cal_nodes.specs.Numbers.{AddsWay, AddsWays, AreNumbered, CanNumber, IsMet, IsNumbered}
+use Rattle.cal_nodes.specs.Numbers.{IsOnWay, KeepsNumbers, number_in}
+use Rattle.cal_once.proofs.Learning.{knows_later}
 use Rattle.cal_once.specs.Seats.{view}
 use Rattle.cal_once.specs.Views.{KnowsMore}
 use Rattle.cal_once.specs.declared.seat.RowSeat.{RowSeat}
@@ -53,6 +54,17 @@ module _ (tree : Tree) (was is : RowSeat NodeSort) (more : KnowsMore (view was) 
     listed = λ k d l. within_attributes grows _ (c.listed k d l);
   }
 
+-- what is known of a node stays
+pub met_later : (tree : Tree) (was is : RowSeat NodeSort) → KnowsMore (view was) (view is)
+    → (numbers : List (Option NodeNumber)) (node : NodeId) → IsMet tree was numbers node
+    → IsMet tree is numbers node
+met_later tree was is more numbers node met = record {
+  place = met.place;
+  known = ⊎_elim (λ root. inl root)
+      (λ at. inr (at.0, at.1, at.2, knows_later (view was) (view is) at.0 more at.3)) met.known;
+  below = met.below;
+}
+
 -- an open value is its entry
 opened_back : NodeEntry → Opened Variant
 opened_back e = record { attribute = e.attr; value = e.value }
@@ -76,6 +88,18 @@ pub known_node : (tree : Tree) (seat : RowSeat NodeSort) (node : NodeId)
     (path : List (Opened Variant)) → NodeAt tree seat node path → IsKnownNode tree seat node.0
 known_node tree seat node path at = known_of_path (slots_of tree) (view seat) (map node_entry path)
     node.0 at.has_path
+
+-- a node that can be put into the context is known, and has its place
+pub can_met : (tree : Tree) (seat : RowSeat NodeSort) (t : contexts.Tree)
+    (numbers : List (Option NodeNumber)) (node : NodeId) → slots_of tree < length numbers
+    → CanNumber tree seat t node → IsMet tree seat numbers node
+can_met tree seat t numbers node long can =
+    let known = known_node tree seat node can.path can.node_at in
+    record {
+      place = place_within tree seat node.0 (length numbers) known long;
+      known = known;
+      below = can.node_at.below;
+    }
 
 module _ (tree : Tree) (seat : RowSeat NodeSort) (is : IsTreeSeat tree seat) where
   pub one_opened : (node : NodeId) (p q : List (Opened Variant)) → NodeAt tree seat node p

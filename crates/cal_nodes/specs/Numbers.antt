@@ -8,7 +8,7 @@ use Rattle.cal_context.specs.Tree as contexts
 use Rattle.cal_context.specs.declared.numbers.NodeNumber.{NodeNumber}
 use Rattle.cal_hand.specs.Nodes.{NodeAt}
 use Rattle.cal_once.specs.declared.seat.RowSeat.{RowSeat}
-use Rattle.cal_tree.specs.Seats.{slots_of}
+use Rattle.cal_tree.specs.Seats.{IsKnownNode, slots_of}
 use Rattle.cal_tree.specs.declared.tree.Tree.{Tree}
 use Rattle.cal_value.specs.declared.variant.Variant.{Variant}
 use Rattle.cal_words.specs.declared.node.NodeId.{NodeId}
@@ -26,6 +26,13 @@ IsNumbered numbers node = (n : NodeNumber) × (number_in numbers node ≡ Some n
 abbrev pub KeepsNumbers : List (Option NodeNumber) → List (Option NodeNumber) → Type 0
 KeepsNumbers old new = (node : NodeId) (n : NodeNumber)
     → number_in old node ≡ Some n → number_in new node ≡ Some n
+
+-- a node below the root that the seat knows, with its place in the list of numbers
+pub record IsMet (tree : Tree) (seat : RowSeat NodeSort) (numbers : List (Option NodeNumber))
+    (node : NodeId) : Type 0 where
+  pub place : node.0 < length numbers
+  pub known : IsKnownNode tree seat node.0
+  pub below : 0 < node.0
 
 module _ (tree : Tree) (seat : RowSeat NodeSort) (t : contexts.Tree) where
   -- A node can be put into the context: the seat knows which open values are its path, and the

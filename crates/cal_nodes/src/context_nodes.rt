@@ -1,12 +1,13 @@
-ghost use Rattle.std.specs.Prelude.{◌≡◌, ◌+◌, List, All, None, Some, Ok, IfOk, OnOk, replicate};
+ghost use Rattle.std.specs.Prelude.{◌≡◌, ◌+◌, ◌<◌, List, All, length, None, Some, Ok, IfOk, OnOk};
+ghost use Rattle.std.specs.Prelude.{replicate};
 ghost use Rattle.cal_board.specs.Contexts.{NodeStands};
 ghost use Rattle.cal_board.specs.declared.opened.Opened.{Opened};
 ghost use Rattle.cal_context.specs.Tree as contexts;
 ghost use Rattle.cal_context.specs.Tree.{Grows};
 ghost use Rattle.cal_context.specs.declared.numbers.NodeNumber as numbers;
 ghost use Rattle.cal_hand.specs.Nodes.{NodeAt};
-ghost use Rattle.cal_nodes.specs.Numbers.{AddsWay, AddsWays, AreNumbered, CanNumber, IsNumbered};
-ghost use Rattle.cal_nodes.specs.Numbers.{KeepsNumbers, number_in};
+ghost use Rattle.cal_nodes.specs.Numbers.{AddsWay, AddsWays, AreNumbered, CanNumber, IsMet};
+ghost use Rattle.cal_nodes.specs.Numbers.{IsNumbered, KeepsNumbers, number_in};
 ghost use Rattle.cal_once.specs.Seats.{view};
 ghost use Rattle.cal_once.specs.Views.{Learns};
 ghost use Rattle.cal_once.specs.declared.seat.RowSeat.{RowSeat};
@@ -16,6 +17,7 @@ ghost use Rattle.cal_value.specs.declared.variant.Variant.{Variant};
 ghost use Rattle.cal_words.specs.Shapes.{IsShape};
 ghost use Rattle.cal_words.specs.declared.sort.NodeSort.{NodeSort};
 
+use crate::ahead::look_ahead;
 use crate::descent::descend;
 use crate::numbers::number_at;
 use crate::way::Way;
@@ -97,7 +99,8 @@ impl ContextNodes {
     }
 
     /// Gives each node of a list its number in the context, in order. It takes what `number_of`
-    /// takes; after an `Err` some of them may have theirs.
+    /// takes, and for each 32 nodes one look ahead at those that have none; after an `Err` some of
+    /// them may have theirs.
     pub fn number_all(
         &mut self,
         alloc: Global,
@@ -118,10 +121,23 @@ impl ContextNodes {
         ensures only { AddsWays tree.now seat.new context.new context.old nodes.now }
         ensures all { OnOk result (All (IsNumbered self.new) nodes.now) }
     {
-        for node in nodes {
-            self.number_of(alloc, tree, seat, context, *node)?;
+        for place in 0..nodes.len() {
+            self.look_from(tree, seat, nodes, place);
+            self.number_of(alloc, tree, seat, context, nodes[place])?;
         }
         Ok(())
+    }
+
+    // Looks ahead at the nodes of a list at some of its places.
+    fn look_from(&self, tree: &Tree, seat: &mut TreeSeat, nodes: &[NodeId], place: usize)
+        requires seat { IsTreeSeat tree.now seat.old }
+        requires nodes { All (IsMet tree.now seat.old self.now) nodes.now }
+        requires place { place < length nodes.now }
+        ensures seat { IsTreeSeat tree.now seat.new }
+        ensures learns { Learns (view seat.old) (view seat.new) }
+    {
+        let _ = &self.way;
+        look_ahead(&self.numbers, tree, seat, nodes, place);
     }
 
     /// The number of a node that has one: a look at the list, without memory.

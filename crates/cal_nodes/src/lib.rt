@@ -6,6 +6,7 @@
 //! look at a list for each node (`numbered`). Nothing is promised of which number a node gets.
 #![tactic(auto)]
 
+mod ahead;
 mod context_nodes;
 mod descent;
 mod laws;

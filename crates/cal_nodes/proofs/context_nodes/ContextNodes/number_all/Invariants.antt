@@ -8,8 +8,8 @@ use Rattle.cal_words.specs.declared.node.NodeId.{NodeId}
 use Rattle.cal_nodes.proofs.context_nodes.ContextNodes.number_all.Given as goal
 
 -- all so far have their numbers
-abbrev pub invariant-loop-node : goal.invariant-loop-node
-invariant-loop-node l = record {
+abbrev pub invariant-loop-place : goal.invariant-loop-place
+invariant-loop-place l = record {
   seat : IsTreeSeat l.tree l.seat;
   learns : Learns (view l.fn.seat) (view l.seat);
   grows : Grows l.fn.context l.context;
@@ -17,5 +17,5 @@ invariant-loop-node l = record {
   numbered : AreNumbered l.tree l.seat l.context l.self;
   keeps : KeepsNumbers l.fn.self l.self;
   only : AddsWays l.tree l.seat l.context l.fn.context l.nodes;
-  all : (k : ℕ) (d : NodeId) → k < l.node-index → IsNumbered l.self (get_or l.nodes k d);
+  all : (k : ℕ) (d : NodeId) → k < l.place → IsNumbered l.self (get_or l.nodes k d);
 }
