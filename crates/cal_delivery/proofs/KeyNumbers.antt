@@ -1,43 +1,38 @@
--- The keys so far, whose nodes have numbers, and one more.
-use Rattle.std.proofs.Common.{◌≡◌, ℕ, ◌+◌, ◌<◌, ◌≤◌, List, length, get_or, Option, sym, ap, ◌∙◌}
-use Rattle.std.proofs.Common.{subst, ⊎_elim, arith}
-use Rattle.std.proofs.lemmas.Bool.{cases_lt}
-use Rattle.std.proofs.lemmas.List.{get_or_default}
-use Rattle.cal_context.specs.Tree as contexts
-use Rattle.cal_context.specs.Tree.{Grows}
-use Rattle.cal_context.specs.declared.numbers.NodeNumber.{NodeNumber}
-use Rattle.cal_delivery.specs.KeyNodes.{CanNumberKey, IsKeyNumbered}
-use Rattle.cal_nodes.proofs.Numbering.{can_later}
-use Rattle.cal_nodes.specs.Numbers.{KeepsNumbers}
-use Rattle.cal_once.specs.Seats.{view}
-use Rattle.cal_once.specs.Views.{KnowsMore}
-use Rattle.cal_once.specs.declared.seat.RowSeat.{RowSeat}
+-- A fact of each node of each key, and of the nodes of all keys in one list.
+use Rattle.std.proofs.Common.{List, [], ◌∷◌, ◌++◌}
+use Rattle.std.proofs.lemmas.List.Elements.{All-append, All-from_recursion, recursion_from_All}
+use Rattle.std.specs.List.{All, AllByRecursion, flat_map}
+use Rattle.cal_delivery.specs.KeyNodes.{nodes_of}
 use Rattle.cal_table.specs.declared.key.TableKey.{TableKey}
-use Rattle.cal_tree.specs.declared.tree.Tree.{Tree}
-use Rattle.cal_words.specs.declared.sort.NodeSort.{NodeSort}
+use Rattle.cal_words.specs.declared.node.NodeId.{NodeId}
 
--- the nodes of a key can be numbered still
-pub key_can_later : (tree : Tree) (was is : RowSeat NodeSort) → KnowsMore (view was) (view is)
-    → (old new : contexts.Tree) → Grows old new → (key : TableKey)
-    → CanNumberKey tree was old key → CanNumberKey tree is new key
-key_can_later tree was is more old new grows key can k d less =
-    can_later tree was is more old new _ grows (can k d less)
+module _ (P : NodeId → Type 0) where
+  both_parts : (xs ys : List NodeId) → AllByRecursion P (xs ++ ys)
+      → AllByRecursion P xs × AllByRecursion P ys
+  both_parts [] ys h = (tt, h)
+  both_parts (x ∷ xs) ys h = let rest = both_parts xs ys h.1 in ((h.0, rest.0), rest.1)
 
--- and numbers stay
-key_keeps : (old new : List (Option NodeNumber)) → KeepsNumbers old new → (key : TableKey)
-    → IsKeyNumbered old key → IsKeyNumbered new key
-key_keeps old new keeps key is k d less =
-    let n = is k d less in (n.0, keeps (get_or key.refs k d) n.0 n.1)
+  joined_nodes : (keys : List TableKey) → AllByRecursion (λ key. All P (nodes_of key)) keys
+      → All P (flat_map nodes_of keys)
+  joined_nodes [] h = All-from_recursion P [] tt
+  joined_nodes (key ∷ keys) h =
+      All-append P (nodes_of key) (flat_map nodes_of keys) h.0 (joined_nodes keys h.1)
 
-pub keys_more : (old new : List (Option NodeNumber)) → KeepsNumbers old new
-    → (keys : List TableKey) (i : ℕ) (key : TableKey) → i < length keys → key ≡ get_or keys i key
-    → ((k : ℕ) (d : TableKey) → k < i → IsKeyNumbered old (get_or keys k d))
-    → IsKeyNumbered new key
-    → (k : ℕ) (d : TableKey) → k < i + 1 → IsKeyNumbered new (get_or keys k d)
-keys_more old new keeps keys i key less is so_far this k d within = ⊎_elim
-    (λ (before : k < i). key_keeps old new keeps (get_or keys k d) (so_far k d before))
-    (λ (last : i ≤ k).
-    let at : k ≡ i = omega arith in
-    subst (λ (x : TableKey). IsKeyNumbered new x)
-    (is ∙ get_or_default keys i key d less ∙ ap (λ (j : ℕ). get_or keys j d) (sym at)) this)
-    (cases_lt k i)
+  parted_nodes : (keys : List TableKey) → AllByRecursion P (flat_map nodes_of keys)
+      → AllByRecursion (λ key. All P (nodes_of key)) keys
+  parted_nodes [] h = tt
+  parted_nodes (key ∷ keys) h =
+      let parts = both_parts (nodes_of key) (flat_map nodes_of keys) h in
+      (All-from_recursion P (nodes_of key) parts.0, parted_nodes keys parts.1)
+
+  -- of each node of each key, so of the nodes of all
+  pub all_nodes : (keys : List TableKey) → All (λ key. All P (nodes_of key)) keys
+      → All P (flat_map nodes_of keys)
+  all_nodes keys h =
+      joined_nodes keys (recursion_from_All (λ key. All P (nodes_of key)) keys h)
+
+  -- and back
+  pub each_key : (keys : List TableKey) → All P (flat_map nodes_of keys)
+      → All (λ key. All P (nodes_of key)) keys
+  each_key keys h = All-from_recursion (λ key. All P (nodes_of key)) keys
+      (parted_nodes keys (recursion_from_All P (flat_map nodes_of keys) h))

@@ -6,7 +6,12 @@ use Rattle.cal_nodes.specs.Numbers.{CanNumber, IsNumbered}
 use Rattle.cal_once.specs.declared.seat.RowSeat.{RowSeat}
 use Rattle.cal_table.specs.declared.key.TableKey.{TableKey}
 use Rattle.cal_tree.specs.declared.tree.Tree.{Tree}
+use Rattle.cal_words.specs.declared.node.NodeId.{NodeId}
 use Rattle.cal_words.specs.declared.sort.NodeSort.{NodeSort}
+
+-- the nodes of a key
+abbrev pub nodes_of : TableKey → List NodeId
+nodes_of key = key.refs
 
 -- each node of a key can be put into the context
 abbrev pub CanNumberKey : Tree → RowSeat NodeSort → contexts.Tree → TableKey → Type 0

@@ -1,7 +1,8 @@
 //! The nodes of a table's keys get their numbers in a context.
-ghost use Rattle.std.specs.Prelude.{◌≡◌, All, OnOk};
+ghost use Rattle.std.specs.Prelude.{◌≡◌, ◌++◌, All, IfOk, OnOk};
+ghost use Rattle.std.specs.List.{flat_map};
 ghost use Rattle.cal_context.specs.Tree.{Grows};
-ghost use Rattle.cal_delivery.specs.KeyNodes.{CanNumberKey, IsKeyNumbered};
+ghost use Rattle.cal_delivery.specs.KeyNodes.{CanNumberKey, IsKeyNumbered, nodes_of};
 ghost use Rattle.cal_nodes.specs.Numbers.{AreNumbered};
 ghost use Rattle.cal_once.specs.Seats.{view};
 ghost use Rattle.cal_once.specs.Views.{Learns};
@@ -12,10 +13,12 @@ use cal_nodes::ContextNodes;
 use cal_table::TableKey;
 use cal_tree::{Tree, TreeSeat};
 use cal_value::OutOfMemory;
+use cal_words::NodeId;
 use std::alloc::Global;
 
-/// Gives each node of each key its number in the context. It takes memory for what is new there,
-/// and time in the keys' nodes and in those that had no number yet. After an `Err` some have theirs.
+/// Gives each node of each key its number in the context. It takes memory for what is new there and
+/// four bytes for each node of a key, and time in the keys' nodes and in those that had no number
+/// yet. After an `Err` some have theirs.
 pub(crate) fn number_keys(
     alloc: Global,
     keys: &[TableKey],
@@ -34,8 +37,29 @@ pub(crate) fn number_keys(
     ensures attributes { context.new.attributes ≡ context.old.attributes }
     ensures numbered { AreNumbered tree.now seat.new context.new nodes.new }
 {
+    let all = nodes_of_keys(alloc, keys)?;
+    nodes.number_all(alloc, tree, seat, context, &all)?;
+    Ok(())
+}
+
+/// The nodes of keys, one key's behind another's: four bytes a node. A key's nodes may lie apart
+/// from it. Here nothing stands between one key and the next, so the processor waits for several
+/// keys at a time, and `number_all` sees which nodes come next.
+fn nodes_of_keys(alloc: Global, keys: &[TableKey]) -> Result<Vec<NodeId>, OutOfMemory>
+    ensures { IfOk result (λ nodes. nodes.items ≡ flat_map nodes_of keys.now) }
+{
+    let mut nodes = Vec::with_capacity(alloc, keys.len())?;
     for key in keys {
-        nodes.number_all(alloc, tree, seat, context, key.refs.as_slice())?;
+        add_nodes(key.refs.as_slice(), &mut nodes)?;
+    }
+    Ok(nodes)
+}
+
+fn add_nodes(refs: &[NodeId], nodes: &mut Vec<NodeId>) -> Result<(), OutOfMemory>
+    ensures { OnOk result (nodes.new.items ≡ nodes.old.items ++ refs.now) }
+{
+    for node in refs {
+        nodes.push(*node)?;
     }
     Ok(())
 }

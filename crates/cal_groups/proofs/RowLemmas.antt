@@ -1,10 +1,11 @@
 -- The rows of a table in a context.
-use Rattle.std.proofs.Common.{◌≡◌, ℕ, zero, suc, ◌<◌, List, [], ◌∷◌, ◌++◌, length, map, get_or, ap}
-use Rattle.std.proofs.Common.{subst, sym, ◌∙◌, refl, arith}
+use Rattle.std.proofs.Common.{◌≡◌, ℕ, zero, suc, ◌+◌, ◌<◌, ◌≤◌, List, [], ◌∷◌, ◌++◌, length, map}
+use Rattle.std.proofs.Common.{take, drop, get_or, ap, subst, sym, ◌∙◌, refl, arith, length-append}
+use Rattle.std.proofs.Math.Seq.{drop-append_seam, take-append_seam}
 use Rattle.std.proofs.Common.{Option}
 use Rattle.std.specs.Prelude.{unwrap_or}
-use Rattle.std.specs.List.{All, AllByRecursion, AllZip}
-use Rattle.std.proofs.lemmas.List.{map-append}
+use Rattle.std.specs.List.{All, AllByRecursion, AllZip, flat_map}
+use Rattle.std.proofs.lemmas.List.{drop-drop, drop_more, length-drop, length-map, map-append}
 use Rattle.std.proofs.lemmas.List.Elements.{All-append, All-from_recursion, All-weaker}
 use Rattle.std.proofs.lemmas.List.Elements.{recursion_from_All}
 use Rattle.cal_agg.specs.declared.row.AggRow.{AggRow}
@@ -19,7 +20,7 @@ use Rattle.cal_context.specs.declared.snapshot.Immediate.{Immediate}
 use Rattle.cal_filter.proofs.Zips.{zip_at, zip_length, zip_weaker}
 use Rattle.cal_groups.specs.Appended.{Appends, record_of}
 use Rattle.cal_groups.specs.ContextRows.{HasPath, MayTake, MayTakeRow, RowMeans}
-use Rattle.cal_groups.specs.Keys.{immediate_of, number_at}
+use Rattle.cal_groups.specs.Keys.{IsKeyNumbered, immediate_of, number_at, numbers_of}
 use Rattle.cal_nodes.specs.Numbers.{IsNumbered}
 use Rattle.cal_profile.specs.TableRows.{KeyedRow, row_entries, row_record}
 use Rattle.cal_script.specs.declared.script.ChannelQuery.{ChannelQuery}
@@ -149,6 +150,19 @@ row_at (key ∷ keys) (held ∷ helds) zero k h d long short = refl
 row_at (key ∷ keys) (held ∷ helds) (suc i) k h d long short =
     row_at keys helds i k h d (omega arith) (omega arith)
 
+-- the nodes of keys of rows that mean some have numbers
+numbered_keys : (nodes : List (Option NodeNumber)) (t : Tree) (keys : List TableKey)
+    (helds : List AggRow) (keyed : List KeyedRow) → length keys ≡ length helds
+    → AllZip (RowMeans nodes t) (rows_of keys helds) keyed
+    → AllByRecursion (IsKeyNumbered nodes) keys
+numbered_keys nodes t [] helds keyed long means = tt
+numbered_keys nodes t (key ∷ keys) [] keyed long means = absurd (omega arith)
+numbered_keys nodes t (key ∷ keys) (held ∷ helds) [] long means = elim means [ ]
+numbered_keys nodes t (key ∷ keys) (held ∷ helds) (k ∷ ks) long means = (
+  key_numbered nodes t (record { key = key; held = held }) k means.0,
+  numbered_keys nodes t keys helds ks (omega arith) means.1,
+)
+
 -- what a keyed row past the end is
 abbrev pub no_row : AggRow → KeyedRow
 no_row held = record { key = record { paths = []; imms = [] }; held = held }
@@ -174,6 +188,11 @@ module _ (nodes : List (Option NodeNumber)) (t : Tree) (keys : List TableKey)
       (zip_at (RowMeans nodes t) (rows_of keys helds) keyed i d (no_row held) means
       (subst (λ n. i < n) (sym (keyed_long keyed means)) short))
 
+  pub keys_numbered : (keyed : List KeyedRow)
+      → AllZip (RowMeans nodes t) (rows_of keys helds) keyed → All (IsKeyNumbered nodes) keys
+  keys_numbered keyed means = All-from_recursion (IsKeyNumbered nodes) keys
+      (numbered_keys nodes t keys helds keyed long means)
+
   pub may_take_at : (i : ℕ) (key : TableKey) (held : AggRow)
       → MayTake nodes t (rows_of keys helds) → i < length keys
       → key ≡ get_or keys i key → held ≡ get_or helds i held
@@ -184,6 +203,39 @@ module _ (nodes : List (Option NodeNumber)) (t : Tree) (keys : List TableKey)
     room = may.room i (no_row held)
         (subst (λ n. i < n) (sym (keyed_long may.keyed may.means)) short);
   }
+
+-- ---- the numbers of the nodes of keys, one key's behind another's
+
+module _ (nodes : List (Option NodeNumber)) (keys : List TableKey) (i : ℕ) (key : TableKey)
+    (short : i < length keys) (key_is : key ≡ get_or keys i key)
+    (many : ℕ) (long : many ≡ length key.refs) (numbers : List NodeNumber) (from : ℕ)
+    (left : drop from numbers ≡ flat_map (numbers_of nodes) (drop i keys)) where
+  left_is : drop from numbers
+      ≡ numbers_of nodes key ++ flat_map (numbers_of nodes) (drop (i + 1) keys)
+  left_is = left ∙ ap (flat_map (numbers_of nodes)) (drop_more keys i key short)
+      ∙ ap (λ k. numbers_of nodes k ++ flat_map (numbers_of nodes) (drop (i + 1) keys)) (sym key_is)
+
+  own_long : length (numbers_of nodes key) ≡ many
+  own_long = length-map key.refs (number_at nodes) ∙ sym long
+
+  pub own_within : from ≤ length numbers → from + many ≤ length numbers
+  own_within within =
+      let all = sym (length-drop from numbers) ∙ ap length left_is
+      ∙ length-append (numbers_of nodes key) (flat_map (numbers_of nodes) (drop (i + 1) keys)) in
+      let own = own_long in
+      omega (arith, all, own, within)
+
+  pub own_is : take many (drop from numbers) ≡ numbers_of nodes key
+  own_is = ap (take many) left_is
+      ∙ ap (λ n. take n (numbers_of nodes key
+      ++ flat_map (numbers_of nodes) (drop (i + 1) keys))) (sym own_long)
+      ∙ take-append_seam (numbers_of nodes key) (flat_map (numbers_of nodes) (drop (i + 1) keys))
+
+  pub left_more : drop (from + many) numbers ≡ flat_map (numbers_of nodes) (drop (i + 1) keys)
+  left_more = sym (drop-drop many from numbers) ∙ ap (drop many) left_is
+      ∙ ap (λ n. drop n (numbers_of nodes key
+      ++ flat_map (numbers_of nodes) (drop (i + 1) keys))) (sym own_long)
+      ∙ drop-append_seam (numbers_of nodes key) (flat_map (numbers_of nodes) (drop (i + 1) keys))
 
 -- ---- rows mean the same while the context grows
 

@@ -1,47 +1,35 @@
 //! The key of a row as a snapshot of a context.
-ghost use Rattle.std.specs.Prelude.{◌≡◌, [], map, All, OnOk};
-ghost use Rattle.cal_groups.specs.Keys.{immediate_of, number_at};
-ghost use Rattle.cal_nodes.specs.Numbers.{IsNumbered};
+ghost use Rattle.std.specs.Prelude.{◌≡◌, [], map, OnOk};
+ghost use Rattle.cal_groups.specs.Keys.{immediate_of};
 
 use cal_context::{AttributeNumber, Immediate, NodeNumber, Snapshot};
-use cal_nodes::ContextNodes;
 use cal_snap::NumberedEntry;
-use cal_table::TableKey;
 use cal_value::{OutOfMemory, TryCopy};
-use cal_words::NodeId;
 use std::alloc::Global;
 
-/// Puts the nodes and the entries of a key into a snapshot, in place of what was there. It takes
-/// memory for the texts among the entries, and where the snapshot has no room yet.
+/// Puts the numbers of a key's nodes and the key's entries into a snapshot, in place of what was
+/// there. It takes memory for the texts among the entries, and where the snapshot has no room yet.
 pub(crate) fn put_key(
     alloc: Global,
-    nodes: &ContextNodes,
-    key: &TableKey,
+    numbers: &[NodeNumber],
+    entries: &[NumberedEntry],
     snapshot: &mut Snapshot,
 ) -> Result<(), OutOfMemory>
-    requires { All (IsNumbered nodes.now) key.now.refs }
-    ensures nodes { OnOk result
-        (snapshot.new.nodes.items ≡ map (number_at nodes.now) key.now.refs) }
-    ensures imms { OnOk result (snapshot.new.imms.items ≡ map immediate_of key.now.imms) }
+    ensures nodes { OnOk result (snapshot.new.nodes.items ≡ numbers.now) }
+    ensures imms { OnOk result (snapshot.new.imms.items ≡ map immediate_of entries.now) }
 {
     snapshot.clear();
-    put_nodes(nodes, key.refs.as_slice(), &mut snapshot.nodes)?;
-    put_entries(alloc, key.imms.as_slice(), &mut snapshot.imms)?;
+    put_nodes(numbers, &mut snapshot.nodes)?;
+    put_entries(alloc, entries, &mut snapshot.imms)?;
     Ok(())
 }
 
-fn put_nodes(
-    nodes: &ContextNodes,
-    refs: &[NodeId],
-    numbers: &mut Vec<NodeNumber>,
-) -> Result<(), OutOfMemory>
-    requires none { numbers.old.items ≡ [] }
-    requires numbered { All (IsNumbered nodes.now) refs.now }
-    ensures { OnOk result (numbers.new.items ≡ map (number_at nodes.now) refs.now) }
+fn put_nodes(numbers: &[NodeNumber], nodes: &mut Vec<NodeNumber>) -> Result<(), OutOfMemory>
+    requires { nodes.old.items ≡ [] }
+    ensures { OnOk result (nodes.new.items ≡ numbers.now) }
 {
-    for node in refs {
-        let number = nodes.numbered(*node);
-        numbers.push(number)?;
+    for number in numbers {
+        nodes.push(*number)?;
     }
     Ok(())
 }

@@ -11,6 +11,7 @@ mod column;
 mod columns;
 mod groups;
 mod keys;
+mod numbers;
 mod results;
 mod rows;
 

@@ -1,7 +1,6 @@
-use Rattle.std.proofs.Common.{◌≡◌, map, take}
-use Rattle.cal_groups.specs.Keys.{number_at}
+use Rattle.std.proofs.Common.{◌≡◌, take}
 use Rattle.cal_groups.proofs.keys.put_nodes.Given as goal
 
--- the numbers of the nodes so far
-abbrev pub invariant-loop-node : goal.invariant-loop-node
-invariant-loop-node l = l.numbers.items ≡ map (number_at l.nodes) (take l.node-index l.refs)
+-- the numbers so far
+abbrev pub invariant-loop-number : goal.invariant-loop-number
+invariant-loop-number l = l.nodes.items ≡ take l.number-index l.numbers
