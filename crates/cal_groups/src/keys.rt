@@ -4,7 +4,7 @@ ghost use Rattle.cal_groups.specs.Keys.{immediate_of};
 
 use cal_context::{AttributeNumber, Immediate, NodeNumber, Snapshot};
 use cal_snap::NumberedEntry;
-use cal_value::{OutOfMemory, TryCopy};
+use cal_value::{OutOfMemory, Seq, TryCopy};
 use std::alloc::Global;
 
 /// Puts the numbers of a key's nodes and the key's entries into a snapshot, in place of what was
@@ -12,25 +12,15 @@ use std::alloc::Global;
 pub(crate) fn put_key(
     alloc: Global,
     numbers: &[NodeNumber],
-    entries: &[NumberedEntry],
+    entries: &Seq<NumberedEntry>,
     snapshot: &mut Snapshot,
 ) -> Result<(), OutOfMemory>
     ensures nodes { OnOk result (snapshot.new.nodes.items ≡ numbers.now) }
     ensures imms { OnOk result (snapshot.new.imms.items ≡ map immediate_of entries.now) }
 {
     snapshot.clear();
-    put_nodes(numbers, &mut snapshot.nodes)?;
-    put_entries(alloc, entries, &mut snapshot.imms)?;
-    Ok(())
-}
-
-fn put_nodes(numbers: &[NodeNumber], nodes: &mut Vec<NodeNumber>) -> Result<(), OutOfMemory>
-    requires { nodes.old.items ≡ [] }
-    ensures { OnOk result (nodes.new.items ≡ numbers.now) }
-{
-    for number in numbers {
-        nodes.push(*number)?;
-    }
+    snapshot.nodes.extend_from_slice(numbers)?;
+    put_entries(alloc, entries.as_slice(), &mut snapshot.imms)?;
     Ok(())
 }
 

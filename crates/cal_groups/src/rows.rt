@@ -96,7 +96,7 @@ fn fill(
         → RowMeans nodes context.now (record { key = key.now; held = held.now }) keyed
         → meaning context.now snapshot.new ≡ row_record channel.now keyed) }
 {
-    put_key(alloc, numbers, key.imms.as_slice(), snapshot)?;
+    put_key(alloc, numbers, &key.imms, snapshot)?;
     columns.push_results(channel, context, held, &snapshot.nodes, &mut snapshot.imms)?;
     Ok(())
 }

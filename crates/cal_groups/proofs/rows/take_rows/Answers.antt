@@ -54,37 +54,6 @@ fill-requires-clause-row g c =
     )
 
 -- one more record was taken
-taken_more : (g : goal.Over) (c : goal.In_ok-take g)
-    → c.part-own.result.now ≡ numbers_of c.args.nodes.now c.index-keys-place.result
-    → (keyed : List KeyedRow)
-    → AllZip (RowMeans c.args.nodes.now c.args.context.now)
-    (rows_of c.args.keys.now c.args.held.now) keyed → TakesMore
-    (g.T.Taker.has_taken c.args.taker.now c.args.context.now)
-    (g.T.Taker.has_taken c.take.new.self c.args.context.now)
-    (map (row_record c.args.channel.now) (take (c.loop-place.place + 1) keyed))
-taken_more g c own keyed means =
-    let has_taken = g.T.Taker.has_taken in
-    let t = c.args.context.now in
-    let channel = c.args.channel.now in
-    let keys = c.args.keys.now in
-    let held = c.args.held.now in
-    let i = c.loop-place.place in
-    let then = has_taken c.loop-place.taker t in
-    let has = has_taken c.take.new.self t in
-    let row = row_means_at c.args.nodes.now t keys held c.requires.long keyed i
-    c.index-keys-place.result c.index-held-place.result means c.loop-place-test.true
-    c.index-keys-place.is c.index-held-place.is in
-    let short : i < length keyed =
-    subst (λ n. i < n) (sym (keyed_long c.args.nodes.now t keys held c.requires.long keyed means))
-    c.loop-place-test.true in
-    subst (TakesMore (has_taken c.args.taker.now t) has)
-    (sym (map_more (row_record channel) keyed i (no_row c.index-held-place.result) short))
-    (TakesMore-trans (has_taken c.args.taker.now t) then has _ _
-    (c.loop-place.invariant.taken keyed means)
-    (subst (λ (r : Rec). TakesMore then has (r ∷ [])) (c.in_ok-fill.ensures.means
-    c.args.nodes.now _ own row)
-    c.in_ok-take.ensures))
-
 pub loop-place-preserved : goal.loop-place-preserved
 loop-place-preserved g c =
     let inv = c.loop-place.invariant in
@@ -102,7 +71,28 @@ loop-place-preserved g c =
     ∙ ap (λ (ns : List NodeNumber). take many (drop from ns)) c.deref.ensures.value
     ∙ own_is nodes keys i key short is many long numbers from inv.left in
     record {
-      taken = taken_more g c own;
+      taken = λ keyed means.
+          let has_taken = g.T.Taker.has_taken in
+          let t = c.args.context.now in
+          let channel = c.args.channel.now in
+          let keys = c.args.keys.now in
+          let held = c.args.held.now in
+          let i = c.loop-place.place in
+          let then = has_taken c.loop-place.taker t in
+          let has = has_taken c.take.new.self t in
+          let row = row_means_at c.args.nodes.now t keys held c.requires.long keyed i
+          c.index-keys-place.result c.index-held-place.result means c.loop-place-test.true
+          c.index-keys-place.is c.index-held-place.is in
+          let short : i < length keyed =
+          subst (λ n. i < n) (sym (keyed_long c.args.nodes.now t keys held c.requires.long keyed means))
+          c.loop-place-test.true in
+          subst (TakesMore (has_taken c.args.taker.now t) has)
+          (sym (map_more (row_record channel) keyed i (no_row c.index-held-place.result) short))
+          (TakesMore-trans (has_taken c.args.taker.now t) then has _ _
+          (c.loop-place.invariant.taken keyed means)
+          (subst (λ (r : Rec). TakesMore then has (r ∷ [])) (c.in_ok-fill.ensures.means
+          c.args.nodes.now _ own row)
+          c.in_ok-take.ensures));
       within = own_within nodes keys i key short is many long numbers from inv.left inv.within;
       left = left_more nodes keys i key short is many long numbers from inv.left;
     }
