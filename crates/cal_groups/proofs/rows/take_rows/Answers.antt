@@ -84,7 +84,8 @@ loop-place-preserved g c =
           c.index-keys-place.result c.index-held-place.result means c.loop-place-test.true
           c.index-keys-place.is c.index-held-place.is in
           let short : i < length keyed =
-          subst (λ n. i < n) (sym (keyed_long c.args.nodes.now t keys held c.requires.long keyed means))
+          subst (λ n. i < n)
+          (sym (keyed_long c.args.nodes.now t keys held c.requires.long keyed means))
           c.loop-place-test.true in
           subst (TakesMore (has_taken c.args.taker.now t) has)
           (sym (map_more (row_record channel) keyed i (no_row c.index-held-place.result) short))
