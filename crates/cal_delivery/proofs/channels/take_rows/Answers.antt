@@ -18,7 +18,7 @@ loop-place-init g c = record {
   learns = learns_nothing (view c.args.seat.now);
   grows = Grows-refl c.args.context.now;
   numbered = c.in_ok-nodes.ensures.numbered c.args.tree.now c.args.seat.now c.args.context.now
-      (c.requires.shape ∙ sym c.tree_shape.ensures.shape);
+      (sym c.shape.ensures.shape);
   taken = λ of taken. takes-none (g.T.Taker.has_taken c.args.taker.now c.args.context.now);
 }
 
