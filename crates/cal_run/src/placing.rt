@@ -1,14 +1,12 @@
 ghost use Rattle.std.specs.Prelude.{◌≡◌, ◌<◌, ◌≤◌, List, [], ◌∷◌, ◌++◌, length, IfOk, OnOk};
 ghost use Rattle.std.specs.Prelude.{if◌then◌else◌, slice_index_or};
-ghost use Rattle.std.specs.List.{list_any};
 ghost use Rattle.cal_run.specs.Lines.{is_process_line};
 ghost use Rattle.cal_run.specs.Plain.{placed_lines, plain_history};
 ghost use Rattle.cal_script.specs.declared.script.Line as lines_of;
 ghost use Rattle.cal_script.specs.Valid.{IsRunnable};
-ghost use Rattle.cal_value.specs.Props.{has_process_scope};
 
 use crate::lines::is_process_line;
-use cal_script::{Line, Placed, Script};
+use cal_script::{Line, Placed, Script, has_process_attribute};
 use cal_value::{OutOfMemory, Seq};
 use std::alloc::Global;
 
@@ -17,23 +15,11 @@ pub(crate) fn plain_history(alloc: Global, script: &Script) -> Result<Seq<Placed
     requires runnable { IsRunnable script.now }
     ensures { IfOk result (λ history. history ≡ plain_history script.now) }
 {
-    if has_shared(script) {
+    if has_process_attribute(script) {
         place_threads(alloc, script)
     } else {
         Ok(Seq::new(alloc))
     }
-}
-
-/// Whether some attribute of a script is the process's. Only such a one has process lines.
-fn has_shared(script: &Script) -> bool
-    ensures { result ≡ list_any (λ attribute. has_process_scope attribute.props)
-        script.now.attributes }
-{
-    script
-        .attributes
-        .as_slice()
-        .iter()
-        .any(|attribute| attribute.props.has_process_scope())
 }
 
 /// The process lines of all threads, found line by line.

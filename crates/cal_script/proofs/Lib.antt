@@ -12,3 +12,4 @@ pub mod Limiting
 pub mod Halves
 pub mod Tallies
 pub mod ShapeLemmas
+pub mod ScopeLemmas

@@ -1,10 +1,10 @@
 -- The greatest number of a list, and the sizes of a run's tables.
-use Rattle.std.proofs.Common.{◌≡◌, ℕ, zero, suc, ◌+◌, ◌*◌, ◌/◌, ◌<◌, ◌≤◌, List, [], ◌∷◌, length, get_or, take, refl, sym, ap, ◌∙◌, subst, arith}
+use Rattle.std.proofs.Common.{◌≡◌, ℕ, zero, suc, ◌+◌, ◌*◌, ◌<◌, ◌≤◌, List, [], ◌∷◌, length, get_or, take, arith}
 use Rattle.std.specs.Prelude.{fold, max, sum_by}
 use Rattle.std.proofs.Math.Nat.{le-mul_of_pos_right, mul-le-mul, mul_comm}
 use Rattle.std.proofs.lemmas.List.Sums.{fold_more, get_or-le-sum_by, sum_by-cons}
 use Rattle.cal_words.specs.Shapes.{IsShape, word_count}
-use Rattle.cal_script.specs.Shapes.{greatest, history_layout, history_shape, own_words, process_lines, shared_words, tree_arena, tree_layout, tree_shape}
+use Rattle.cal_script.specs.Shapes.{greatest, history_layout, own_words, process_lines, shared_words, tree_arena, tree_layout}
 use Rattle.cal_script.specs.Valid.{IsRunnable}
 use Rattle.cal_script.specs.declared.script.Line.{Line}
 use Rattle.cal_script.specs.declared.script.Script.{Script}

@@ -43,7 +43,7 @@ pub use reader::Reader;
 pub use reading::{read_script, read_script_seeded};
 pub use rest::Rest;
 pub use script::{Channel, ChannelQuery, Line, ProbeKind, Script};
-pub use shapes::{history_shape, tree_shape};
+pub use shapes::{has_process_attribute, history_shape, tree_shape};
 pub use ticks::Ticks;
 pub use value::read_decimal;
 pub use value_list::ValueList;

@@ -1,8 +1,10 @@
 ghost use Rattle.std.specs.Prelude.{◌≡◌, ◌≤◌, option_copied, sum_by};
+ghost use Rattle.std.specs.List.{list_any};
 ghost use Rattle.cal_script.specs.Counts.{attribute_at, is_process_line, line_words, value_at};
 ghost use Rattle.cal_script.specs.Shapes.{greatest, history_shape, own_words, process_lines};
 ghost use Rattle.cal_script.specs.Shapes.{shared_words, tree_arena, tree_shape};
 ghost use Rattle.cal_script.specs.Valid.{IsRunnable};
+ghost use Rattle.cal_value.specs.Props.{has_process_scope};
 ghost use Rattle.cal_words.specs.Shapes.{IsShape};
 
 use crate::tally::node_length;
@@ -11,7 +13,8 @@ use cal_value::{Attribute, Variant};
 use cal_words::Shape;
 
 /// How the context tree of a run is laid out: there is room for each node that the script's lines
-/// can make, whatever a thread comes to make first. It takes one pass over the lines.
+/// can make, whatever a thread comes to make first. It takes one pass over the lines, and one more
+/// where an attribute is the process's.
 pub fn tree_shape(script: &Script) -> Shape
     requires { IsRunnable script.now }
     ensures shape { result ≡ tree_shape script.now }
@@ -29,7 +32,7 @@ pub fn tree_shape(script: &Script) -> Shape
 }
 
 /// How the history of a run is laid out: there is room for each process line of the script. It takes
-/// one pass over the lines.
+/// one pass over the lines where an attribute is the process's, and none else.
 pub fn history_shape(script: &Script) -> Shape
     requires { IsRunnable script.now }
     ensures shape { result ≡ history_shape script.now }
@@ -45,18 +48,51 @@ pub fn history_shape(script: &Script) -> Shape
     }
 }
 
+/// Whether some attribute of a script is the process's. Only such a one has process lines.
+pub fn has_process_attribute(script: &Script) -> bool
+    ensures { result ≡ list_any (λ attribute. has_process_scope attribute.props)
+        script.now.attributes }
+{
+    script
+        .attributes
+        .as_slice()
+        .iter()
+        .any(|attribute| attribute.props.has_process_scope())
+}
+
 /// The words of a thread's arena in the tree.
 fn tree_arena(script: &Script) -> u64
     requires { IsRunnable script.now }
     ensures { result ≡ tree_arena script.now }
 {
+    shared_words_of_all(script) + most_own_words(script)
+}
+
+/// The words of the nodes of all process lines.
+fn shared_words_of_all(script: &Script) -> u64
+    requires { IsRunnable script.now }
+    ensures { result ≡ sum_by (sum_by (shared_words script.now)) script.now.threads }
+{
+    if !has_process_attribute(script) {
+        return 0;
+    }
     let mut shared = 0;
-    let mut most = 0;
     for lines in script.threads.as_slice() {
         shared += all_shared_words(script, lines.as_slice());
+    }
+    shared
+}
+
+/// The most words of the nodes of one thread's other lines.
+fn most_own_words(script: &Script) -> u64
+    requires { IsRunnable script.now }
+    ensures { result ≡ greatest (sum_by (own_words script.now)) script.now.threads }
+{
+    let mut most = 0;
+    for lines in script.threads.as_slice() {
         most = all_own_words(script, lines.as_slice()).max(most);
     }
-    shared + most
+    most
 }
 
 /// The most process lines of one thread.
@@ -64,6 +100,9 @@ fn most_process_lines(script: &Script) -> u64
     requires { IsRunnable script.now }
     ensures { result ≡ greatest (process_lines script.now) script.now.threads }
 {
+    if !has_process_attribute(script) {
+        return 0;
+    }
     let mut most = 0;
     for lines in script.threads.as_slice() {
         most = all_process_lines(script, lines.as_slice()).max(most);
