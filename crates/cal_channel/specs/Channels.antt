@@ -1,5 +1,5 @@
 -- What a channel of a thread has taken: the records that its trace and its table mean.
-use Rattle.std.specs.Prelude.{◌≡◌, List, ◌++◌, map, All, Option, IfSome}
+use Rattle.std.specs.Prelude.{◌≡◌, List, ◌++◌, map, flat_map, All, Option, IfSome, IsPermutation}
 use Rattle.std.specs.List.{AllZip}
 use Rattle.std.specs.Option.{ForSome}
 use Rattle.cal_agg.specs.RowLimits.{IsOf64}
@@ -59,6 +59,13 @@ module _ (attributes : List Attribute) (script : Script) (tree : Tree)
     pub snaps : List NumberedSnap
     pub means : AllZip IsCounted snaps recs
     pub stands : StandsFor snaps table
+
+  -- Tables count these records together: each counts some of them, and these are all there are, in
+  -- whatever order.
+  pub record CountTogether (tables : List TableValue) (recs : List Rec) : Type 0 where
+    pub parts : List (List Rec)
+    pub each : AllZip Counts tables parts
+    pub whole : IsPermutation (flat_map (λ (part : List Rec). part) parts) recs
 
   -- The channel's trace, if it has one, means the records that were taken; and its table, if it has
   -- one, stands for those that weren't flushed.

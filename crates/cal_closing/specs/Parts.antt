@@ -1,7 +1,7 @@
 -- What tables of one shape come to.
-use Rattle.std.specs.Prelude.{◌≡◌, List, All, flat_map, sum_by}
+use Rattle.std.specs.Prelude.{◌≡◌, List, [], ◌∷◌, ◌++◌, All, flat_map, sum_by}
 use Rattle.cal_book.specs.declared.view.Account.{Account}
-use Rattle.cal_table.specs.Tables.{TableValue}
+use Rattle.cal_table.specs.Tables.{Same, TableValue}
 use Rattle.cal_table.specs.declared.shape.TableShape.{TableShape}
 
 -- the tables are of one shape
@@ -20,3 +20,10 @@ all_of shape tables = record {
   rows = flat_map (λ (table : TableValue). table.rows) tables;
   snapshots = sum_by (λ (table : TableValue). table.snapshots) tables;
 }
+
+-- The tables that a channel of a run leaves: those that its threads never gave to its book, and
+-- behind them the book's, which stands for all parts that they gave.
+pub record AreTablesOf (shape : TableShape) (given left tables : List TableValue) : Type 0 where
+  pub book : TableValue
+  pub tables_are : tables ≡ left ++ book ∷ []
+  pub merged : Same book (all_of shape given)

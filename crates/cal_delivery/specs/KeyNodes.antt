@@ -4,6 +4,8 @@ use Rattle.cal_context.specs.Tree as contexts
 use Rattle.cal_context.specs.declared.numbers.NodeNumber.{NodeNumber}
 use Rattle.cal_nodes.specs.Numbers.{CanNumber, IsNumbered}
 use Rattle.cal_once.specs.declared.seat.RowSeat.{RowSeat}
+use Rattle.cal_table.specs.Rows.{Row}
+use Rattle.cal_table.specs.Tables.{TableValue}
 use Rattle.cal_table.specs.declared.key.TableKey.{TableKey}
 use Rattle.cal_tree.specs.declared.tree.Tree.{Tree}
 use Rattle.cal_words.specs.declared.node.NodeId.{NodeId}
@@ -20,3 +22,10 @@ CanNumberKey tree seat t key = All (CanNumber tree seat t) key.refs
 -- each node of a key has its number
 abbrev pub IsKeyNumbered : List (Option NodeNumber) → TableKey → Type 0
 IsKeyNumbered numbers key = All (IsNumbered numbers) key.refs
+
+-- so it is with the keys of a table's rows
+abbrev pub CanNumberTable : Tree → RowSeat NodeSort → contexts.Tree → TableValue → Type 0
+CanNumberTable tree seat t table = All (λ (row : Row). CanNumberKey tree seat t row.key) table.rows
+
+abbrev pub IsTableNumbered : List (Option NodeNumber) → TableValue → Type 0
+IsTableNumbered numbers table = All (λ (row : Row). IsKeyNumbered numbers row.key) table.rows

@@ -18,13 +18,13 @@ use Rattle.cal_words.specs.declared.sort.NodeSort.{NodeSort}
 module _ (context : contexts.Tree) (script : Script) (tree : Tree)
     (seat : RowSeat NodeSort) where
   -- all threads have taken these records in a channel, as `IsTaken` says it of all channels
-  pub record IsTakenIn (channel : Channel) (kept : List ChannelValue) (table : TableValue)
+  pub record IsTakenIn (channel : Channel) (kept : List ChannelValue) (tables : List TableValue)
       (recs : List Rec) : Type 0 where
     pub attributes : List Attribute
     pub declared : IsFront script.attributes attributes
     pub numbered : IsFront attributes context.attributes
     pub apart : NamesAreApart attributes script
-    pub taken : HaveTaken attributes script tree seat channel kept table recs
+    pub taken : HaveTaken attributes script tree seat channel kept tables recs
 
   -- a thread's channel has a trace that means these records
   pub record IsOwnTrace (own : ChannelValue) (recs : List Rec) : Type 0 where

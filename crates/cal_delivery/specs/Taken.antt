@@ -3,7 +3,7 @@ use Rattle.std.specs.Prelude.{◌≡◌, ◌≤◌, ◌^◌, ℕ, true, List, []
 use Rattle.std.specs.Prelude.{IfSome, Some, if◌then◌else◌, is_some, slice_get}
 use Rattle.std.specs.List.{AllZip}
 use Rattle.std.specs.declared.random_state.RandomState.{RandomState}
-use Rattle.cal_channel.specs.Channels.{Counts, IsTraced}
+use Rattle.cal_channel.specs.Channels.{CountTogether, IsTraced}
 use Rattle.cal_channel.specs.Places.{at_place}
 use Rattle.cal_channel.specs.Values.{ChannelValue}
 use Rattle.cal_context.specs.Lists.{IsFront}
@@ -35,42 +35,44 @@ module _ (attributes : List Attribute) (script : Script) (tree : Tree)
     pub has : is_some c.trace ≡ channel.trace
     pub means : IfSome c.trace (λ snaps. AllZip (IsTraced attributes script tree seat) snaps taken)
 
-  -- a table of the channel's shape counts these records
-  pub record HasTable (channel : Channel) (table : TableValue) (recs : List Rec) : Type 0 where
-    pub hashers : RandomState
-    pub shape : table.shape ≡ shape_of hashers channel.query.keys channel.query.values attributes
-    pub counts : Counts attributes script tree seat table recs
+  -- tables of the channel's shape count these records together
+  pub record HasTables (channel : Channel) (tables : List TableValue) (recs : List Rec) : Type 0
+    where
+      pub hashers : RandomState
+      pub shape : All (λ (table : TableValue).
+          table.shape ≡ shape_of hashers channel.query.keys channel.query.values attributes) tables
+      pub counts : CountTogether attributes script tree seat tables recs
 
   -- All threads have taken these records in a channel, one thread's behind another's. Each has its
-  -- trace of its own; where the channel aggregates the table counts all of them; and they are what a
+  -- trace of its own; where the channel aggregates the tables count all of them; and they are what a
   -- channel takes in a run: a trace of at most 2^20 records, no number of which is above 2^86 in
   -- magnitude.
-  pub record HaveTaken (channel : Channel) (kept : List ChannelValue) (table : TableValue)
+  pub record HaveTaken (channel : Channel) (kept : List ChannelValue) (tables : List TableValue)
       (recs : List Rec) : Type 0 where
     pub takens : List (List Rec)
     pub whole : flat_map (λ (taken : List Rec). taken) takens ≡ recs
     pub traces : AllZip (HasTrace channel) kept takens
-    pub counted : channel.aggregate ≡ true → HasTable channel table recs
+    pub counted : channel.aggregate ≡ true → HasTables channel tables recs
     pub known : List Attribute
     pub trace : IsTrace known channel.query recs
     pub few : length recs ≤ 2 ^ 20
     pub small : All HasSmallNumbers recs
 
-  -- So it is with all channels of the script; each thread has one for each of them, and so have the
-  -- tables.
+  -- So it is with all channels of the script; each thread has one for each of them, and there is a
+  -- list of tables for each.
   pub record HaveAllTaken (of : Channel → List Rec) (channels : List (List ChannelValue))
-      (tables : List TableValue) : Type 0 where
+      (tables : List (List TableValue)) : Type 0 where
     pub many : length tables ≡ length script.channels
     pub own : All (λ (kept : List ChannelValue). length kept ≡ length script.channels) channels
-    pub each : (place : ℕ) (channel : Channel) (table : TableValue)
-        → slice_get script.channels place ≡ Some channel → slice_get tables place ≡ Some table
-        → HaveTaken channel (at_place place channels) table (of channel)
+    pub each : (place : ℕ) (channel : Channel) (own : List TableValue)
+        → slice_get script.channels place ≡ Some channel → slice_get tables place ≡ Some own
+        → HaveTaken channel (at_place place channels) own (of channel)
 
 -- What was taken in each channel of a run, by the attributes of the run's numbers: those of the
 -- script are the first of them, they are the first of the context's, and their names are apart.
 pub record IsTaken (script : Script) (tree : Tree) (seat : RowSeat NodeSort)
     (context : contexts.Tree) (of : Channel → List Rec) (channels : List (List ChannelValue))
-    (tables : List TableValue) : Type 0 where
+    (tables : List (List TableValue)) : Type 0 where
   pub attributes : List Attribute
   pub declared : IsFront script.attributes attributes
   pub numbered : IsFront attributes context.attributes

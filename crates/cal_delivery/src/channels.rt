@@ -29,7 +29,7 @@ use std::alloc::Global;
 /// Hands the rows of all channels of a run to a taker, in the order of the channels: of each the
 /// snapshots of its trace, thread by thread, where it has one, and then the records of its groups,
 /// where it aggregates. The tree is laid out as the script's lines need, as in any run; `channels`
-/// has the channels of each thread, and `tables` a table for each channel. The context gets the
+/// has the channels of each thread, and `tables` a list of tables for each channel. The context gets the
 /// nodes and the attributes of results that it lacks, also where memory runs out; after an `Err`
 /// nothing is said of the taker. It takes eight bytes for each slot of the tree, memory for what is
 /// new in the context and for the groups, and time in the traces' nodes and entries, in the tables'
@@ -40,7 +40,7 @@ pub fn take_rows<T: Taker>(
     tree: &Tree,
     seat: &mut TreeSeat,
     channels: &[Vec<ThreadChannel>],
-    tables: &[Table],
+    tables: &[Vec<Table>],
     context: &mut Context,
     taker: &mut T,
 ) -> Result<(), OutOfMemory>
@@ -48,9 +48,10 @@ pub fn take_rows<T: Taker>(
     requires shape { (plan_of tree.now).shape ≡ shape_for script.now }
     requires seat { IsTreeSeat tree.now seat.old }
     requires taken { (of : channel.Channel → List Rec) × IsTaken script.now tree.now seat.old
-        context.old of (lists_of channels.now) tables.now }
+        context.old of (lists_of channels.now) (lists_of tables.now) }
     ensures taken { OnOk result ((of : channel.Channel → List Rec)
-        → IsTaken script.now tree.now seat.old context.old of (lists_of channels.now) tables.now
+        → IsTaken script.now tree.now seat.old context.old of (lists_of channels.now)
+        (lists_of tables.now)
         → TakesMore (T.has_taken taker.old context.old) (T.has_taken taker.new context.new)
         (flat_map (λ c. rows_of c (of c)) script.now.channels)) }
     ensures seat { IsTreeSeat tree.now seat.new }
@@ -66,7 +67,7 @@ pub fn take_rows<T: Taker>(
             &declared[place],
             place,
             channels,
-            &tables[place],
+            tables[place].as_slice(),
             tree,
             seat,
             &mut nodes,
@@ -84,7 +85,7 @@ fn take_channel<T: Taker>(
     channel: &Channel,
     place: usize,
     channels: &[Vec<ThreadChannel>],
-    table: &Table,
+    tables: &[Table],
     tree: &Tree,
     seat: &mut TreeSeat,
     nodes: &mut ContextNodes,
@@ -96,9 +97,9 @@ fn take_channel<T: Taker>(
     requires within { All (λ (own : List ChannelValue). place < length own)
         (lists_of channels.now) }
     requires taken { (recs : List Rec) × IsTakenIn context.old script.now tree.now seat.old
-        channel.now (at_place place (lists_of channels.now)) table.now recs }
+        channel.now (at_place place (lists_of channels.now)) tables.now recs }
     ensures taken { OnOk result ((recs : List Rec) → IsTakenIn context.old script.now tree.now
-        seat.old channel.now (at_place place (lists_of channels.now)) table.now recs
+        seat.old channel.now (at_place place (lists_of channels.now)) tables.now recs
         → TakesMore (T.has_taken taker.old context.old) (T.has_taken taker.new context.new)
         (rows_of channel.now recs)) }
     ensures seat { IsTreeSeat tree.now seat.new }
@@ -109,5 +110,5 @@ fn take_channel<T: Taker>(
     take_traces(
         alloc, script, channel, place, channels, tree, seat, nodes, context, taker,
     )?;
-    take_groups(alloc, channel, table, tree, seat, nodes, context, taker)
+    take_groups(alloc, channel, tables, tree, seat, nodes, context, taker)
 }

@@ -1,4 +1,4 @@
-//! The groups of a channel, from its table.
+//! The groups of a channel, from its tables.
 ghost use Rattle.std.specs.Prelude.{[], List, OnOk, if◌then◌else◌};
 ghost use Rattle.cal_channel.specs.Values.{ChannelValue};
 ghost use Rattle.cal_context.specs.Taking.{TakesMore};
@@ -12,7 +12,7 @@ ghost use Rattle.cal_script.specs.declared.script.Script as scripts;
 ghost use Rattle.cal_tree.specs.Seats.{IsTreeSeat};
 ghost use Rattle.cal_value.specs.declared.record.Rec.{Rec};
 
-use crate::numbering::number_keys;
+use crate::numbering::number_tables;
 use cal_context::{Context, Taker};
 use cal_groups::take_table_groups;
 use cal_nodes::ContextNodes;
@@ -23,13 +23,13 @@ use cal_value::OutOfMemory;
 use std::alloc::Global;
 
 /// Hands the records of the groups of an aggregating channel to a taker, in the order of groups: the
-/// groups of all that was taken in the channel, from the table that counts it. Another channel
+/// groups of all that was taken in the channel, from the tables that count it. Another channel
 /// hands nothing over. The context gets the nodes and the attributes of results that it lacks, also
 /// where memory runs out.
 pub(crate) fn take_groups<T: Taker>(
     alloc: Global,
     channel: &Channel,
-    table: &Table,
+    tables: &[Table],
     tree: &Tree,
     seat: &mut TreeSeat,
     nodes: &mut ContextNodes,
@@ -39,10 +39,10 @@ pub(crate) fn take_groups<T: Taker>(
     requires seat { IsTreeSeat tree.now seat.old }
     requires numbered { AreNumbered tree.now seat.old context.old nodes.old }
     requires taken { (script : scripts.Script) × (kept : List ChannelValue) × (recs : List Rec)
-        × IsTakenIn context.old script tree.now seat.old channel.now kept table.now recs }
+        × IsTakenIn context.old script tree.now seat.old channel.now kept tables.now recs }
     ensures taken { OnOk result ((script : scripts.Script) (kept : List ChannelValue)
         (recs : List Rec)
-        → IsTakenIn context.old script tree.now seat.old channel.now kept table.now recs
+        → IsTakenIn context.old script tree.now seat.old channel.now kept tables.now recs
         → TakesMore (T.has_taken taker.old context.old) (T.has_taken taker.new context.new)
         (if channel.now.aggregate then group_records (channel_query channel.now.query) recs
         else [])) }
@@ -54,7 +54,6 @@ pub(crate) fn take_groups<T: Taker>(
     if !channel.aggregate {
         return Ok(());
     }
-    let rows = table.rows();
-    number_keys(alloc, rows.keys, tree, seat, nodes, context)?;
-    take_table_groups(alloc, &channel.query, table, nodes, context, taker)
+    number_tables(alloc, tables, tree, seat, nodes, context)?;
+    take_table_groups(alloc, &channel.query, tables, nodes, context, taker)
 }

@@ -1,5 +1,5 @@
 -- The rows of a table in a context: its nodes have numbers there, and so have its attributes.
-use Rattle.std.specs.Prelude.{◌≡◌, List, map, All, Option, Some}
+use Rattle.std.specs.Prelude.{◌≡◌, List, map, flat_map, All, Option, Some}
 use Rattle.std.specs.List.{AllZip}
 use Rattle.cal_agg.specs.Numbers.{IsWithin}
 use Rattle.cal_context.specs.Snapshots.{IsBelowRoot}
@@ -7,10 +7,13 @@ use Rattle.cal_context.specs.Tree.{Tree, path_at}
 use Rattle.cal_context.specs.declared.numbers.NodeNumber.{NodeNumber}
 use Rattle.cal_filter.specs.Named.{HasSmallNumbers}
 use Rattle.cal_nodes.specs.Numbers.{number_in}
-use Rattle.cal_profile.specs.TableRows.{KeyedRow}
+use Rattle.cal_profile.specs.TableRows.{KeyedRow, row_record}
 use Rattle.cal_snap.specs.Numbered.{IsKnown, entry_of}
+use Rattle.cal_script.specs.declared.script.ChannelQuery.{ChannelQuery}
 use Rattle.cal_table.specs.Rows.{Row}
+use Rattle.cal_table.specs.Tables.{TableValue}
 use Rattle.cal_value.specs.declared.attribute.Entry.{Entry}
+use Rattle.cal_value.specs.declared.record.Rec.{Rec}
 use Rattle.cal_words.specs.declared.node.NodeId.{NodeId}
 
 module _ (nodes : List (Option NodeNumber)) (t : Tree) where
@@ -46,3 +49,15 @@ pub record MayTake (nodes : List (Option NodeNumber)) (t : Tree) (rows : List Ro
   pub keyed : List KeyedRow
   pub means : AllZip (RowMeans nodes t) rows keyed
   pub room : All HasRoom keyed
+
+-- the same of a table, by its rows
+abbrev pub TableMeans : (nodes : List (Option NodeNumber)) → (t : Tree) → TableValue
+    → List KeyedRow → Type 0
+TableMeans nodes t table keyed = AllZip (RowMeans nodes t) table.rows keyed
+
+abbrev pub MayTakeTable : (nodes : List (Option NodeNumber)) → (t : Tree) → TableValue → Type 0
+MayTakeTable nodes t table = MayTake nodes t table.rows
+
+-- the records in place of the rows of tables
+abbrev pub records_of : ChannelQuery → List (List KeyedRow) → List Rec
+records_of channel keyed = flat_map (λ (rows : List KeyedRow). map (row_record channel) rows) keyed

@@ -1,35 +1,27 @@
 -- The end of a channel's book, and of the books of all channels.
-use Rattle.std.specs.Prelude.{◌≡◌, ℕ, ◌≤◌, ◌^◌, List, ◌++◌, All, None, Some, length, slice_get}
+use Rattle.std.specs.Prelude.{◌≡◌, ℕ, List, All, None, Some, length, slice_get}
 use Rattle.cal_book.specs.Closing.{AllMetHadTurns}
 use Rattle.cal_book.specs.Seats.{IsSeatOf, shape_of, view}
 use Rattle.cal_channel.specs.Values.{ChannelValue}
-use Rattle.cal_closing.specs.Parts.{AreMadeFor, AreOfShape, all_of}
+use Rattle.cal_closing.specs.Parts.{AreMadeFor, AreTablesOf}
 use Rattle.cal_closing.specs.Seats.{AreThreadSeats, accounts_of, given_by}
 use Rattle.cal_channel.specs.Places.{at_place}
 use Rattle.cal_handover.specs.Places.{tables_at}
 use Rattle.cal_replay.specs.Flushing.{BookOf, SeatOf}
-use Rattle.cal_table.specs.Tables.{Same, TableValue}
+use Rattle.cal_table.specs.Tables.{TableValue}
 
--- the table of all parts that seats have given, and of the tables that are left
-abbrev pub all_taken : BookOf → List SeatOf → List TableValue → TableValue
-all_taken book seats left = all_of (shape_of book) (given_by (accounts_of seats) ++ left)
-
--- A book may be closed: it has its first seat, from which the seats of all threads were split off;
--- what is left is of its shape; and all that was taken is 2^26 snapshots at most.
-pub record MayClose (book : BookOf) (first : SeatOf) (seats : List SeatOf)
-    (left : List TableValue) : Type 0 where
+-- A book may be closed: it has its first seat, from which the seats of all threads were split off.
+pub record MayClose (book : BookOf) (first : SeatOf) (seats : List SeatOf) : Type 0 where
   pub seat_is : IsSeatOf book first
   pub first_is : (view first).thread ≡ None
   pub own : AreThreadSeats book seats
   pub all : length (view first).others ≡ length seats
-  pub made : AreOfShape (shape_of book) left
-  pub few : (all_taken book seats left).snapshots ≤ 2 ^ 26
 
--- What a closed book gives: the table of all that was taken, of parts that were made for it. Each
--- thread whose turn was met has given a part, or given up a turn.
-pub record IsClosed (book : BookOf) (seats : List SeatOf) (left : List TableValue)
-    (table : TableValue) : Type 0 where
-  pub merged : Same table (all_taken book seats left)
+-- What a closed book gives: the tables that are left, and that of all parts that were given, which
+-- were made for it. Each thread whose turn was met has given a part, or given up a turn.
+pub record IsClosed (book : BookOf) (seats : List SeatOf) (left tables : List TableValue)
+    : Type 0 where
+  pub closed : AreTablesOf (shape_of book) (given_by (accounts_of seats)) left tables
   pub given : AreMadeFor (shape_of book) (accounts_of seats)
   pub met : AllMetHadTurns (accounts_of seats)
 
@@ -42,12 +34,12 @@ pub record MayCloseAll (books : List BookOf) (firsts : List SeatOf) (seats : Lis
   pub channels_are : All (λ (own : List ChannelValue). length own ≡ length books) channels
   pub each : (place : ℕ) (book : BookOf) (first : SeatOf) → slice_get books place ≡ Some book
       → slice_get firsts place ≡ Some first
-      → MayClose book first (at_place place seats) (tables_at place channels)
+      → MayClose book first (at_place place seats)
 
--- each book gave a table
+-- each book gave its tables
 pub record AreClosed (books : List BookOf) (seats : List (List SeatOf))
-    (channels : List (List ChannelValue)) (tables : List TableValue) : Type 0 where
+    (channels : List (List ChannelValue)) (tables : List (List TableValue)) : Type 0 where
   pub many : length tables ≡ length books
-  pub each : (place : ℕ) (book : BookOf) (table : TableValue) → slice_get books place ≡ Some book
-      → slice_get tables place ≡ Some table
-      → IsClosed book (at_place place seats) (tables_at place channels) table
+  pub each : (place : ℕ) (book : BookOf) (own : List TableValue)
+      → slice_get books place ≡ Some book → slice_get tables place ≡ Some own
+      → IsClosed book (at_place place seats) (tables_at place channels) own

@@ -13,22 +13,22 @@ use cal_table::{Book, BookSeat, Table};
 use cal_value::OutOfMemory;
 use std::alloc::Global;
 
-/// The table of each channel of a script, in their order: of all that the threads of a run have
-/// flushed, and of what they have left in their channels. Books, first seats and each thread's
+/// The tables of each channel of a script, in their order: those that the threads of a run have left
+/// in their channels, and that of all that they have flushed. Books, first seats and each thread's
 /// lists are by channels in their order. Traces and readings stay in the channels, and the tables
 /// there are left empty. An `Err` is want of memory: then the tables are lost, and nothing is said
-/// of the channels. It takes the time and memory of merging what was left.
+/// of the channels. It merges nothing, and takes time and memory for the lists alone.
 pub fn close_books(
     alloc: Global,
     mut books: Vec<Book>,
     mut firsts: Vec<BookSeat>,
     mut seats: Vec<Vec<BookSeat>>,
     channels: &mut [Vec<ThreadChannel>],
-) -> Result<Vec<Table>, OutOfMemory>
+) -> Result<Vec<Vec<Table>>, OutOfMemory>
     requires { MayCloseAll books.items firsts.items (lists_of seats.items)
         (lists_of channels.old) }
     ensures closed { IfOk result (λ tables. AreClosed books.items (lists_of seats.items)
-        (lists_of channels.old) tables.items) }
+        (lists_of channels.old) (lists_of tables.items)) }
     ensures left { OnOk result
         (lists_of channels.new ≡ map (map emptied) (lists_of channels.old)) }
 {
@@ -36,8 +36,8 @@ pub fn close_books(
     while let Some(book) = books.pop() {
         let place = books.len();
         let first = firsts.remove(place);
-        let table = close_book_at(alloc, place, book, first, seats.as_mut_slice(), channels)?;
-        tables.push(table)?;
+        let own = close_book_at(alloc, place, book, first, seats.as_mut_slice(), channels)?;
+        tables.push(own)?;
     }
     tables.reverse();
     Ok(tables)
@@ -52,20 +52,19 @@ fn close_book_at(
     first: BookSeat,
     seats: &mut [Vec<BookSeat>],
     channels: &mut [Vec<ThreadChannel>],
-) -> Result<Table, OutOfMemory>
+) -> Result<Vec<Table>, OutOfMemory>
     requires last { All (λ (own : List SeatOf). length own ≡ place + 1) (lists_of seats.old) }
     requires within { All (λ (own : List ChannelValue). place < length own)
         (lists_of channels.old) }
-    requires may { MayClose book first (at_place place (lists_of seats.old))
-        (tables_at place (lists_of channels.old)) }
-    ensures closed { IfOk result (IsClosed book (at_place place (lists_of seats.old))
-        (tables_at place (lists_of channels.old))) }
+    requires may { MayClose book first (at_place place (lists_of seats.old)) }
+    ensures closed { IfOk result (λ tables. IsClosed book (at_place place (lists_of seats.old))
+        (tables_at place (lists_of channels.old)) tables.items) }
     ensures seats { OnOk result (lists_of seats.new ≡ map (take place) (lists_of seats.old)) }
     ensures channels { OnOk result
         (lists_of channels.new ≡ map (emptied_at place) (lists_of channels.old)) }
 {
     let own = seats_at(alloc, place, seats)?;
-    let rest = tables_at(alloc, place, channels)?;
-    let table = close_channel(book, first, own, rest)?;
-    Ok(table)
+    let left = tables_at(alloc, place, channels)?;
+    let tables = close_channel(book, first, own, left)?;
+    Ok(tables)
 }

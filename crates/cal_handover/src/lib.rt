@@ -12,3 +12,4 @@ mod places;
 
 pub use closing::close_books;
 pub use handed::{Handed, hand_over};
+pub use places::tables_at;

@@ -30,7 +30,7 @@ pub(crate) fn seats_at(
 }
 
 /// The tables that the threads' channels have left at a place. Empty ones stay there.
-pub(crate) fn tables_at(
+pub fn tables_at(
     alloc: Global,
     place: usize,
     channels: &mut [Vec<ThreadChannel>],

@@ -10,7 +10,6 @@ mod ending;
 mod gathering;
 mod handing;
 mod hiring;
-mod places;
 mod running;
 mod whole;
 

@@ -21,4 +21,4 @@ pub record IsEnded (script : Script) (ended : EndedRun) : Type 0 where
   pub seat : IsTreeSeat ended.shared.common.tree ended.tree
   pub lawful : Lawful script ended.journal
   pub taken : IsTaken script ended.shared.common.tree ended.tree ended.context
-      (snapshots script ended.journal) (lists_of ended.channels.items) ended.tables.items
+      (snapshots script ended.journal) (lists_of ended.channels.items) (lists_of ended.tables.items)

@@ -18,15 +18,15 @@ use std::alloc::Global;
 
 /// What a run leaves when all its threads have ended: what they shared, the attributes of the run
 /// by their numbers in a context, a seat at the tree that knows what theirs knew, of each thread
-/// its channels with their traces, for each channel the table of all that was taken there, and the
-/// journal.
+/// its channels with their traces, for each channel the tables that count together all that was
+/// taken there, and the journal.
 #[derive(Drop)]
 pub struct EndedRun<'a> {
     pub shared: Shared<'a>,
     pub context: Context,
     pub tree: TreeSeat,
     pub channels: Vec<Vec<ThreadChannel>>,
-    pub tables: Vec<Table>,
+    pub tables: Vec<Vec<Table>>,
     pub journal: Journal,
 }
 

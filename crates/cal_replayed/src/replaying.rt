@@ -106,7 +106,7 @@ fn ended_text<R: Threads + Sync>(
 /// The text of what a writer took, and of the globals behind it. Tables are dropped beside that.
 fn finish_beside<R: Threads + Sync>(
     rt: &R,
-    tables: Vec<Table>,
+    tables: Vec<Vec<Table>>,
     writer: Writer,
     context: &Context,
     globals: &Snapshot,

@@ -1,13 +1,17 @@
 //! Laws of tables that count records. Nothing here is ever run.
 
-ghost use Rattle.std.specs.Prelude.{◌≡◌, List, ◌++◌, flat_map, IsPermutation};
+ghost use Rattle.std.specs.Prelude.{◌≡◌, ◌≤◌, ◌^◌, List, ◌++◌, All, flat_map, length, map};
+ghost use Rattle.std.specs.Prelude.{IsPermutation};
 ghost use Rattle.std.specs.List.{AllZip, IsDistinct};
 ghost use Rattle.std.specs.declared.random_state.RandomState.{RandomState as Hashers};
 ghost use Rattle.cal_agg.specs.declared.row.AggRow.{AggRow};
 ghost use Rattle.cal_channel.specs.Channels.{Counts};
 ghost use Rattle.cal_context.specs.Lists.{IsFront};
+ghost use Rattle.cal_filter.specs.Named.{HasSmallNumbers};
 ghost use Rattle.cal_once.specs.declared.seat.RowSeat.{RowSeat};
-ghost use Rattle.cal_profile.specs.TableRows.{KeyedRow};
+ghost use Rattle.cal_profile.specs.Declared.{IsTrace};
+ghost use Rattle.cal_profile.specs.Groups.{channel_query, group_records};
+ghost use Rattle.cal_profile.specs.TableRows.{AreRowsOf, KeyedRow, row_record};
 ghost use Rattle.cal_rowset.specs.Texts.{is_same};
 ghost use Rattle.cal_script.specs.Parts.{attribute_names};
 ghost use Rattle.cal_script.specs.declared.script.ChannelQuery.{ChannelQuery};
@@ -84,4 +88,18 @@ pub fn names_of_runs_are_apart()
     ensures { (attributes : List Attribute) (script : Script)
         → IsFront script.attributes attributes → IsDistinct is_same (attribute_names attributes)
         → NamesAreApart attributes script }
+{}
+
+/// The records in place of the rows of several tables have, together, the records of groups that all
+/// snapshots have which the tables stand for: a group may stand in several of them.
+pub fn tables_together_have_the_groups_of_traces()
+    ensures { (attributes : List Attribute) (channel : ChannelQuery) (trace : List Rec)
+        (parts : List (List Rec)) (keyed : List (List KeyedRow))
+        → IsTrace attributes channel trace → length trace ≤ 2 ^ 20
+        → All HasSmallNumbers trace
+        → IsPermutation (flat_map (λ (part : List Rec). part) parts) trace
+        → AllZip (AreRowsOf channel) parts keyed
+        → group_records (channel_query channel)
+        (flat_map (λ (rows : List KeyedRow). map (row_record channel) rows) keyed)
+        ≡ group_records (channel_query channel) trace }
 {}
