@@ -12,4 +12,5 @@ mod laws;
 pub use laws::{
     merges_count_both, names_of_runs_are_apart, parts_in_any_order, rows_have_one_meaning,
     tables_count_in_any_order, tables_have_the_rows_of_records,
+    tables_together_have_the_groups_of_traces,
 };
