@@ -1,5 +1,5 @@
 -- The record in place of a row stands for the snapshots with its key, in whatever part of a trace.
-use Rattle.std.proofs.Common.{◌≡◌, ℕ, ◌<◌, Bool, true, false, ◌||◌, List, [], ◌∷◌, ◌++◌}
+use Rattle.std.proofs.Common.{◌≡◌, ℕ, ◌<◌, Bool, true, false, List, [], ◌∷◌, ◌++◌}
 use Rattle.std.proofs.Common.{filter, length, map, refl, sym, ap, subst, ◌∙◌, inl, inr}
 use Rattle.std.proofs.Common.{append-nil, arith, None, Some, Contains}
 use Rattle.std.specs.Prelude.{◌⊎◌, codes, if◌then◌else◌}

@@ -114,8 +114,7 @@ module _ (attributes : List Attribute) (channel : ChannelQuery) where
       let turned : IsPermutation (whole ++ (part ++ rest)) ((part ++ whole) ++ rest) =
       subst (λ l. IsPermutation l ((part ++ whole) ++ rest)) (append_assoc whole part rest)
       (IsPermutation-append_left rest (whole ++ part) (part ++ whole)
-      (IsPermutation-append_comm whole part)) in
-      (
+      (IsPermutation-append_comm whole part)) in (
         record {
           snapshots = all-front (IsSnapshot attributes) part (whole ++ rest)
               (recursion_from_All (IsSnapshot attributes) (part ++ (whole ++ rest))
@@ -189,26 +188,26 @@ module _ (attributes : List Attribute) (channel : ChannelQuery) (trace : List Re
     (is : IsTrace attributes channel trace) (sums : HasPartSums channel trace)
     (parts : List (List Rec)) (keyed : List (List KeyedRow))
     (order : IsPermutation (whole_of parts) trace) (all : AllZip (AreRowsOf channel) parts keyed)
-    where
-  -- the records in place of all rows answer for the trace
-  together_answer : AnswerAlike (channel_query channel) (all_rows channel keyed) trace
-  together_answer =
-      let addable = channel_addable channel is.named.once in
-      let some = all_members channel parts keyed in
-      after (channel_query channel) (all_rows channel keyed) (whole_of some) trace
-      (stand_ins_answer (channel_query channel) addable (all_rows channel keyed) some
-      (all_stand channel attributes is.named parts
-      (are_parts attributes channel trace is sums parts []
-      (subst (λ l. IsPermutation l trace) (sym (append-nil (whole_of parts))) order)) keyed all))
-      (reordered_alike (channel_query channel) addable (whole_of some) trace
-      (λ M v merge kept. members_kept channel kept parts keyed all
-      ∙ sym (permuted kept (whole_of parts) trace order)))
+  where
+    -- the records in place of all rows answer for the trace
+    together_answer : AnswerAlike (channel_query channel) (all_rows channel keyed) trace
+    together_answer =
+        let addable = channel_addable channel is.named.once in
+        let some = all_members channel parts keyed in
+        after (channel_query channel) (all_rows channel keyed) (whole_of some) trace
+        (stand_ins_answer (channel_query channel) addable (all_rows channel keyed) some
+        (all_stand channel attributes is.named parts
+        (are_parts attributes channel trace is sums parts []
+        (subst (λ l. IsPermutation l trace) (sym (append-nil (whole_of parts))) order)) keyed all))
+        (reordered_alike (channel_query channel) addable (whole_of some) trace
+        (λ M v merge kept. members_kept channel kept parts keyed all
+        ∙ sym (permuted kept (whole_of parts) trace order)))
 
-  -- and have its groups
-  pub together_groups : group_records (channel_query channel) (all_rows channel keyed)
-      ≡ group_records (channel_query channel) trace
-  together_groups =
-      one_profile (channel_query channel) (channel_aggregated channel) refl
-      (all_rows channel keyed) trace together_answer
-      (subst (HasPlainGroups (channel_query channel)) (sym (all_kept channel trace))
-      (plain_groups attributes channel is.named trace is.snapshots))
+    -- and have its groups
+    pub together_groups : group_records (channel_query channel) (all_rows channel keyed)
+        ≡ group_records (channel_query channel) trace
+    together_groups =
+        one_profile (channel_query channel) (channel_aggregated channel) refl
+        (all_rows channel keyed) trace together_answer
+        (subst (HasPlainGroups (channel_query channel)) (sym (all_kept channel trace))
+        (plain_groups attributes channel is.named trace is.snapshots))

@@ -90,9 +90,9 @@ pub fn names_of_runs_are_apart()
         → NamesAreApart attributes script }
 {}
 
-/// The records in place of the rows of several tables have, together, the records of groups that all
-/// snapshots have which the tables stand for, where no sum over some of these is too large: a group
-/// may stand in several of them.
+/// The records in place of the rows of several tables have, together, the records of groups that
+/// all snapshots have which the tables stand for, where no sum over a part of these is too large: a
+/// group may stand in several of the tables.
 pub fn tables_together_have_the_groups_of_traces()
     ensures { (attributes : List Attribute) (channel : ChannelQuery) (trace : List Rec)
         (parts : List (List Rec)) (keyed : List (List KeyedRow))
