@@ -7,3 +7,5 @@ pub mod MeantRows
 pub mod Orders
 pub mod Merging
 pub mod Fronts
+pub mod RowStandIns
+pub mod Together

@@ -1,13 +1,12 @@
 //! Laws of tables that count records. Nothing here is ever run.
 
-ghost use Rattle.std.specs.Prelude.{◌≡◌, ◌≤◌, ◌^◌, List, ◌++◌, All, flat_map, length, map};
+ghost use Rattle.std.specs.Prelude.{◌≡◌, List, ◌++◌, flat_map, map};
 ghost use Rattle.std.specs.Prelude.{IsPermutation};
 ghost use Rattle.std.specs.List.{AllZip, IsDistinct};
 ghost use Rattle.std.specs.declared.random_state.RandomState.{RandomState as Hashers};
 ghost use Rattle.cal_agg.specs.declared.row.AggRow.{AggRow};
 ghost use Rattle.cal_channel.specs.Channels.{Counts};
 ghost use Rattle.cal_context.specs.Lists.{IsFront};
-ghost use Rattle.cal_filter.specs.Named.{HasSmallNumbers};
 ghost use Rattle.cal_once.specs.declared.seat.RowSeat.{RowSeat};
 ghost use Rattle.cal_profile.specs.Declared.{IsTrace};
 ghost use Rattle.cal_profile.specs.Groups.{channel_query, group_records};
@@ -23,6 +22,7 @@ ghost use Rattle.cal_table.specs.Snapshots.{StandsFor};
 ghost use Rattle.cal_table.specs.Tables.{Same, TableValue, merged_tables};
 ghost use Rattle.cal_table.specs.declared.key.TableKey.{TableKey};
 ghost use Rattle.cal_table_rows.specs.Meanings.{HasRows, MeanRowsOf, NamesAreApart, RowMeans};
+ghost use Rattle.cal_table_rows.specs.PartSums.{HasPartSums};
 ghost use Rattle.cal_tree.specs.Seats.{IsTreeSeat};
 ghost use Rattle.cal_tree.specs.declared.tree.Tree.{Tree};
 ghost use Rattle.cal_value.specs.declared.attribute.Attribute.{Attribute};
@@ -90,13 +90,13 @@ pub fn names_of_runs_are_apart()
         → NamesAreApart attributes script }
 {}
 
-/// The records in place of the rows of several tables have, together, the records of groups that all
-/// snapshots have which the tables stand for: a group may stand in several of them.
+/// The records in place of the rows of several tables have, together, the records of groups that
+/// all snapshots have which the tables stand for, where no sum over a part of these is too large: a
+/// group may stand in several of the tables.
 pub fn tables_together_have_the_groups_of_traces()
     ensures { (attributes : List Attribute) (channel : ChannelQuery) (trace : List Rec)
         (parts : List (List Rec)) (keyed : List (List KeyedRow))
-        → IsTrace attributes channel trace → length trace ≤ 2 ^ 20
-        → All HasSmallNumbers trace
+        → IsTrace attributes channel trace → HasPartSums channel trace
         → IsPermutation (flat_map (λ (part : List Rec). part) parts) trace
         → AllZip (AreRowsOf channel) parts keyed
         → group_records (channel_query channel)
