@@ -5,5 +5,6 @@ pub mod Openings
 pub mod Shots
 pub mod Walks
 pub mod RunSums
+pub mod PartSums
 pub mod RunNames
 pub mod Traces

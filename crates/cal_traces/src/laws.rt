@@ -1,12 +1,12 @@
 //! Laws of the traces of runs. Nothing here is ever run.
 
-ghost use Rattle.std.specs.Prelude.{◌≤◌, ◌^◌, All, Contains, List, length};
+ghost use Rattle.std.specs.Prelude.{◌≤◌, ◌^◌, All, Contains, IsPermutation, List, ◌++◌, length};
 ghost use Rattle.std.specs.List.{IsDistinct};
 ghost use Rattle.cal_context.specs.Lists.{AreApart};
 ghost use Rattle.cal_filter.specs.Named.{HasSmallNumbers};
 ghost use Rattle.cal_profile.specs.Answers.{AnswersFor};
 ghost use Rattle.cal_profile.specs.Coarser.{IsCoarser};
-ghost use Rattle.cal_profile.specs.Declared.{IsTrace};
+ghost use Rattle.cal_profile.specs.Declared.{HasSums, IsTrace};
 ghost use Rattle.cal_profile.specs.Groups.{channel_query, group_records};
 ghost use Rattle.cal_ql.specs.declared.query.Query.{Query};
 ghost use Rattle.cal_rowset.specs.Texts.{is_same};
@@ -18,6 +18,7 @@ ghost use Rattle.cal_script.specs.declared.journal.Journal.{Journal};
 ghost use Rattle.cal_script.specs.declared.script.Channel.{Channel};
 ghost use Rattle.cal_script.specs.declared.script.Script.{Script};
 ghost use Rattle.cal_value.specs.declared.attribute.Attribute.{Attribute};
+ghost use Rattle.cal_value.specs.declared.record.Rec.{Rec};
 
 /// The law of traces: what a channel of a valid script takes in a run, by whatever journal, are
 /// snapshots of the attributes of the run, under names that go together, and no sum over them is
@@ -49,11 +50,15 @@ pub fn names_law()
         → IsDistinct is_same (attribute_names attributes) }
 {}
 
-/// The law of limits: a channel takes at most 2^20 snapshots in a run of a valid script, and no
-/// number in them is above 2^86 in magnitude.
+/// The law of limits: a channel takes at most 2^20 snapshots in a run of a valid script, no number
+/// in them is above 2^86 in magnitude, and no sum over a part of them is too large.
 pub fn limits_law()
     ensures few { (script : Script) (journal : Journal) (channel : Channel) → IsValidScript script
         → length (snapshots script journal channel) ≤ 2 ^ 20 }
     ensures small { (script : Script) (journal : Journal) (channel : Channel)
         → IsValidScript script → All HasSmallNumbers (snapshots script journal channel) }
+    ensures sums { (script : Script) (journal : Journal) (channel : Channel)
+        → IsValidScript script → Contains script.channels channel → (part rest : List Rec)
+        → IsPermutation (part ++ rest) (snapshots script journal channel)
+        → HasSums channel.query part }
 {}

@@ -1,4 +1,5 @@
 use Rattle.std.proofs.Common.{arith}
+use Rattle.cal_traces.proofs.PartSums.{part_sums}
 use Rattle.cal_traces.proofs.RunNames.{shots-small}
 use Rattle.cal_traces.proofs.Walks.{snapshots_shots}
 use Rattle.cal_valid.proofs.Runnable.{valid_runnable}
@@ -14,3 +15,6 @@ pub returns-clause-small : goal.returns-clause-small
 returns-clause-small c = λ script journal channel valid. shots-small script
     (snapshots script journal channel)
     (snapshots_shots script (valid_runnable script valid) journal channel).shots
+
+pub returns-clause-sums : goal.returns-clause-sums
+returns-clause-sums c = part_sums
