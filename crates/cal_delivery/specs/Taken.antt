@@ -17,6 +17,7 @@ use Rattle.cal_script.specs.declared.script.Script.{Script}
 use Rattle.cal_table.specs.Shapes.{shape_of}
 use Rattle.cal_table.specs.Tables.{TableValue}
 use Rattle.cal_table_rows.specs.Meanings.{NamesAreApart}
+use Rattle.cal_table_rows.specs.PartSums.{HasPartSums}
 use Rattle.cal_tree.specs.declared.tree.Tree.{Tree}
 use Rattle.cal_value.specs.declared.attribute.Attribute.{Attribute}
 use Rattle.cal_value.specs.declared.record.Rec.{Rec}
@@ -46,7 +47,7 @@ module _ (attributes : List Attribute) (script : Script) (tree : Tree)
   -- All threads have taken these records in a channel, one thread's behind another's. Each has its
   -- trace of its own; where the channel aggregates the tables count all of them; and they are what a
   -- channel takes in a run: a trace of at most 2^20 records, no number of which is above 2^86 in
-  -- magnitude.
+  -- magnitude, and no sum over a part of which is too large.
   pub record HaveTaken (channel : Channel) (kept : List ChannelValue) (tables : List TableValue)
       (recs : List Rec) : Type 0 where
     pub takens : List (List Rec)
@@ -57,6 +58,7 @@ module _ (attributes : List Attribute) (script : Script) (tree : Tree)
     pub trace : IsTrace known channel.query recs
     pub few : length recs ≤ 2 ^ 20
     pub small : All HasSmallNumbers recs
+    pub sums : HasPartSums channel.query recs
 
   -- So it is with all channels of the script; each thread has one for each of them, and there is a
   -- list of tables for each.
