@@ -1,14 +1,17 @@
--- What the table of all threads stands for.
+-- What the tables of all threads count.
 use Rattle.std.proofs.Common.{◌≡◌, ℕ, suc, Some, List, [], ◌∷◌, ◌++◌, refl, sym, subst, arith}
+use Rattle.std.proofs.Common.{IsPermutation}
 use Rattle.std.specs.List.{AllZip}
-use Rattle.std.proofs.lemmas.List.Elements.{All-head, All-tail}
+use Rattle.std.proofs.lemmas.List.Elements.{All-append, All-head, All-nil, All-tail}
+use Rattle.std.proofs.lemmas.List.Sorted.{IsPermutation-refl}
 use Rattle.cal_board.proofs.StandingLemmas.{AllZip-append, AllZip-weaken}
 use Rattle.cal_book.specs.declared.view.Account.{Account}
 use Rattle.cal_channel.proofs.LawLemmas.{counts-later, part-counts}
-use Rattle.cal_channel.specs.Channels.{Counts, IsCounted}
+use Rattle.cal_channel.specs.Channels.{CountTogether, Counts, IsCounted}
 use Rattle.cal_channel.specs.Values.{ChannelValue}
-use Rattle.cal_closing.proofs.Exchanges.{all-cons, all-exchange, all-snoc}
-use Rattle.cal_closing.specs.Parts.{AreOfShape, all_of}
+use Rattle.cal_closing.proofs.Given.{all-cons}
+use Rattle.cal_closing.proofs.Orders.{joined-append, joined-snoc, order-more}
+use Rattle.cal_closing.specs.Parts.{AreOfShape, AreTablesOf, all_of}
 use Rattle.cal_closing.specs.Seats.{given_by}
 use Rattle.cal_closing.specs.Shares.{AreShares, IsShare}
 use Rattle.cal_once.specs.Seats.{view}
@@ -54,13 +57,11 @@ module _ (attributes : List Attribute) (script : Script) (tree : Tree)
   }
 
   module _ (q : TableShape) where
-    counts-none : Stands (all_of q []) []
-    counts-none = record { snaps = []; means = tt; stands = Same-refl (empty_table q) }
-
-    -- the parts that a thread gave
+    -- all parts that threads gave, as one table
     counts-parts : (parts : List TableValue) (flushed : List (List Rec)) → AreOfShape q parts
         → AllZip Stands parts flushed → Stands (all_of q parts) (joined flushed)
-    counts-parts [] [] made zip = counts-none
+    counts-parts [] [] made zip =
+        record { snaps = []; means = tt; stands = Same-refl (empty_table q) }
     counts-parts [] (recs ∷ flushed) made zip = absurd zip
     counts-parts (part ∷ parts) [] made zip = absurd zip
     counts-parts (part ∷ parts) (recs ∷ flushed) made zip =
@@ -70,45 +71,93 @@ module _ (attributes : List Attribute) (script : Script) (tree : Tree)
         (counts-parts parts flushed (All-tail of part parts made) zip.1) (sym first)
         (all-cons q part parts first)
 
-    -- and what it has left
-    counts-share : (given : List TableValue) (left : TableValue) (taken : List Rec)
-        → IsShare attributes script tree seat q given left taken
-        → Stands (all_of q (given ++ left ∷ [])) taken
-    counts-share given left taken h =
-        subst (λ (recs : List Rec). Stands (all_of q (given ++ left ∷ [])) recs) h.whole
-        (counts-merged (all_of q given) left (all_of q (given ++ left ∷ [])) (joined h.flushed)
-        h.unflushed (counts-parts given h.flushed h.made h.parts) h.rest h.left_made
-        (all-snoc q given left))
+    -- What all threads have taken: each part that was given counts some of it, and each table that
+    -- was left.
+    record AreSplit (given lefts : List TableValue) (taken : List Rec) : Type 0 where
+      pub flushed : List (List Rec)
+      pub unflushed : List (List Rec)
+      pub parts : AllZip Stands given flushed
+      pub rests : AllZip Stands lefts unflushed
+      pub made : AreOfShape q given
+      pub order : IsPermutation (joined unflushed ++ joined flushed) taken
+
+    -- one thread more
+    split-more : (given : List TableValue) (left : TableValue) (taken : List Rec)
+        (more lefts : List TableValue) (all : List Rec)
+        → IsShare attributes script tree seat q given left taken → AreSplit more lefts all
+        → AreSplit (given ++ more) (left ∷ lefts) (taken ++ all)
+    split-more given left taken more lefts all h k = record {
+      flushed = h.flushed ++ k.flushed;
+      unflushed = h.unflushed ∷ k.unflushed;
+      parts = AllZip-append Stands given more h.flushed k.flushed h.parts k.parts;
+      rests = (h.rest, k.rests);
+      made = All-append (λ (table : TableValue). table.shape ≡ q) given more h.made k.made;
+      order =
+          let before : List Rec = h.unflushed ++ joined k.unflushed in
+          subst (λ (recs : List Rec). IsPermutation (before ++ recs) (taken ++ all))
+          (sym (joined-append h.flushed k.flushed))
+          (subst (λ (recs : List Rec).
+          IsPermutation (before ++ (joined h.flushed ++ joined k.flushed)) (recs ++ all)) h.whole
+          (order-more (joined h.flushed) h.unflushed (joined k.flushed) (joined k.unflushed) all
+          k.order));
+    }
 
     -- all threads
-    counts-shares : (accounts : List (Account TableValue)) (lefts : List TableValue)
+    split-shares : (accounts : List (Account TableValue)) (lefts : List TableValue)
         (takens : List (List Rec))
         → AreShares attributes script tree seat q accounts lefts takens
-        → Stands (all_of q (given_by accounts ++ lefts)) (joined takens)
-    counts-shares [] [] [] h = counts-none
-    counts-shares [] [] (taken ∷ takens) h = absurd (omega (arith, h.takens_are))
-    counts-shares [] (left ∷ lefts) takens h = absurd (omega (arith, h.lefts_are))
-    counts-shares (account ∷ accounts) [] takens h = absurd (omega (arith, h.lefts_are))
-    counts-shares (account ∷ accounts) (left ∷ lefts) [] h =
-        absurd (omega (arith, h.takens_are))
-    counts-shares (account ∷ accounts) (left ∷ lefts) (taken ∷ takens) h =
-        counts-merged (all_of q (account.given ++ left ∷ []))
-        (all_of q (given_by accounts ++ lefts))
-        (all_of q (given_by (account ∷ accounts) ++ left ∷ lefts)) taken (joined takens)
-        (counts-share account.given left taken (h.each 0 account left taken refl refl refl))
-        (counts-shares accounts lefts takens record {
+        → AreSplit (given_by accounts) lefts (joined takens)
+    split-shares [] [] [] h = record {
+      flushed = [];
+      unflushed = [];
+      parts = tt;
+      rests = tt;
+      made = All-nil (λ (table : TableValue). table.shape ≡ q);
+      order = IsPermutation-refl [];
+    }
+    split-shares [] [] (taken ∷ takens) h = absurd (omega (arith, h.takens_are))
+    split-shares [] (left ∷ lefts) takens h = absurd (omega (arith, h.lefts_are))
+    split-shares (account ∷ accounts) [] takens h = absurd (omega (arith, h.lefts_are))
+    split-shares (account ∷ accounts) (left ∷ lefts) [] h = absurd (omega (arith, h.takens_are))
+    split-shares (account ∷ accounts) (left ∷ lefts) (taken ∷ takens) h =
+        split-more account.given left taken (given_by accounts) lefts (joined takens)
+        (h.each 0 account left taken refl refl refl)
+        (split-shares accounts lefts takens record {
           lefts_are = omega (arith, h.lefts_are);
           takens_are = omega (arith, h.takens_are);
           each = λ k a l t a_at l_at t_at. h.each (suc k) a l t a_at l_at t_at;
-        }) refl (all-exchange q account.given left (given_by accounts) lefts)
+        })
+
+    -- the book's table
+    split-book : (given lefts tables : List TableValue) (taken : List Rec)
+        (h : AreSplit given lefts taken) (t : AreTablesOf q given lefts tables)
+        → Stands t.book (joined h.flushed)
+    split-book given lefts tables taken h t =
+        counts-same t.book (all_of q given) (joined h.flushed) t.merged
+        (counts-parts given h.flushed h.made h.parts)
+
+    -- the tables of a channel, where all that was given stands behind all that was left
+    split-together : (given lefts tables : List TableValue) (taken : List Rec)
+        → AreSplit given lefts taken → AreTablesOf q given lefts tables
+        → CountTogether attributes script tree seat tables taken
+    split-together given lefts tables taken h t = record {
+      parts = h.unflushed ++ joined h.flushed ∷ [];
+      each = subst (λ (ts : List TableValue).
+          AllZip Stands ts (h.unflushed ++ joined h.flushed ∷ [])) (sym t.tables_are)
+          (AllZip-append Stands lefts (t.book ∷ []) h.unflushed (joined h.flushed ∷ []) h.rests
+          (split-book given lefts tables taken h t, tt));
+      whole = subst (λ (recs : List Rec). IsPermutation recs taken)
+          (sym (joined-snoc h.unflushed (joined h.flushed))) h.order;
+    }
 
   pub closed-counts : (shape : TableShape) (accounts : List (Account TableValue))
-      (lefts : List TableValue) (takens : List (List Rec)) (table : TableValue)
+      (lefts : List TableValue) (takens : List (List Rec)) (tables : List TableValue)
       → AreShares attributes script tree seat shape accounts lefts takens
-      → Same table (all_of shape (given_by accounts ++ lefts)) → Stands table (joined takens)
-  closed-counts shape accounts lefts takens table h same =
-      counts-same table (all_of shape (given_by accounts ++ lefts)) (joined takens) same
-      (counts-shares shape accounts lefts takens h)
+      → AreTablesOf shape (given_by accounts) lefts tables
+      → CountTogether attributes script tree seat tables (joined takens)
+  closed-counts shape accounts lefts takens tables h are =
+      split-together shape (given_by accounts) lefts tables (joined takens)
+      (split-shares shape accounts lefts takens h) are
 
 -- a thread's share, as a seat knows it that knows more than the thread's own
 pub share-of : (common : Common) (attributes : List Attribute) (own seat : RowSeat NodeSort)

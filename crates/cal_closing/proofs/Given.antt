@@ -64,3 +64,12 @@ module _ (q : TableShape) where
     snapshots = same.snapshots ∙ given-count accounts;
     tally = λ (asked : TableKey → Bool). same.tally asked ∙ ap (tally asked) (given-rows accounts);
   }
+
+  -- one table before others of its shape
+  pub all-cons : (part : TableValue) (parts : List TableValue) → part.shape ≡ q
+      → Same (all_of q (part ∷ parts)) (merged_tables part (all_of q parts))
+  all-cons part parts made = record {
+    shape = sym made;
+    snapshots = sum_by-cons count part parts;
+    tally = λ (asked : TableKey → Bool). refl;
+  }

@@ -1,5 +1,4 @@
 pub mod Joins
 pub mod Given
-pub mod Rests
-pub mod Exchanges
+pub mod Orders
 pub mod Counting

@@ -24,7 +24,7 @@ module _ (books : List BookOf) (firsts : List SeatOf) (seats : List (List SeatOf
   -- These books are left, with what belongs to them; the others gave these tables.
   pub record AreLeft (left : List BookOf) (left_firsts : List SeatOf)
       (left_seats : List (List SeatOf)) (left_channels : List (List ChannelValue))
-      (tables : List TableValue) : Type 0 where
+      (tables : List (List TableValue)) : Type 0 where
     pub books_are : left ≡ take (length left) books
     pub firsts_are : left_firsts ≡ take (length left) firsts
     pub seats_are : left_seats ≡ map (take (length left)) seats
@@ -32,7 +32,7 @@ module _ (books : List BookOf) (firsts : List SeatOf) (seats : List (List SeatOf
     pub closed : AreClosedFrom books seats channels (length left) tables
 
   -- all are
-  pub all-left : MayCloseAll books firsts seats channels → (tables : List TableValue)
+  pub all-left : MayCloseAll books firsts seats channels → (tables : List (List TableValue))
       → tables ≡ [] → AreLeft books firsts seats channels tables
   all-left may tables none = record {
     books_are = sym (take_all (length books) books (omega arith));
@@ -40,13 +40,13 @@ module _ (books : List BookOf) (firsts : List SeatOf) (seats : List (List SeatOf
         (let e = may.firsts_are in omega (arith, e)));
     seats_are = sym (seats-none (length books) seats may.seats_are);
     channels_are = sym (channels-none (length books) channels may.channels_are);
-    closed = subst (λ (ts : List TableValue). AreClosedFrom books seats channels (length books) ts)
-        (sym none) (closed-none books seats channels);
+    closed = subst (AreClosedFrom books seats channels (length books)) (sym none)
+        (closed-none books seats channels);
   }
 
   -- none is
   module _ (left : List BookOf) (left_firsts : List SeatOf) (left_seats : List (List SeatOf))
-      (left_channels : List (List ChannelValue)) (tables : List TableValue)
+      (left_channels : List (List ChannelValue)) (tables : List (List TableValue))
       (h : AreLeft left left_firsts left_seats left_channels tables)
       (none : length left ≡ 0) where
     pub all-closed : AreClosed books seats channels tables
@@ -59,7 +59,7 @@ module _ (books : List BookOf) (firsts : List SeatOf) (seats : List (List SeatOf
   -- the last one of those that are left
   module _ (may : MayCloseAll books firsts seats channels) (left rest : List BookOf)
       (book : BookOf) (left_firsts : List SeatOf) (left_seats : List (List SeatOf))
-      (left_channels : List (List ChannelValue)) (tables : List TableValue)
+      (left_channels : List (List ChannelValue)) (tables : List (List TableValue))
       (h : AreLeft left left_firsts left_seats left_channels tables)
       (pop : left ≡ rest ++ book ∷ []) (place : ℕ) (at : place ≡ length rest) where
     long : length left ≡ suc (length rest)
@@ -117,14 +117,10 @@ module _ (books : List BookOf) (firsts : List SeatOf) (seats : List (List SeatOf
 
     -- it may be closed
     pub may-close : (first : SeatOf) → first ≡ get_or left_firsts place first
-        → MayClose book first (at_place place left_seats) (tables_at place left_channels)
+        → MayClose book first (at_place place left_seats)
     may-close first read =
-        let for_seats : List SeatOf → Type 0 =
-        λ own. MayClose book first own (tables_at place left_channels) in
-        let for_tables : List TableValue → Type 0 =
-        λ ts. MayClose book first (at_place (length rest) seats) ts in
-        subst for_seats (sym seats-here) (subst for_tables (sym tables-here)
-        (may.each (length rest) book first book-at first-at))
+        let for_seats : List SeatOf → Type 0 = λ own. MayClose book first own in
+        subst for_seats (sym seats-here) (may.each (length rest) book first book-at first-at)
       where
         here : slice_get left_firsts (length rest) ≡ Some first
         here = slice_get_read left_firsts (length rest + 1) (length rest) first (sym firsts-long)
@@ -136,12 +132,12 @@ module _ (books : List BookOf) (firsts : List SeatOf) (seats : List (List SeatOf
 
     -- it is closed, and the others are left
     pub one-closed : (rest_firsts : List SeatOf) (rest_seats : List (List SeatOf))
-        (rest_channels : List (List ChannelValue)) (table : TableValue)
+        (rest_channels : List (List ChannelValue)) (own : List TableValue)
         → rest_firsts ≡ remove left_firsts place → rest_seats ≡ map (take place) left_seats
         → rest_channels ≡ map (emptied_at place) left_channels
-        → IsClosed book (at_place place left_seats) (tables_at place left_channels) table
-        → AreLeft rest rest_firsts rest_seats rest_channels (table ∷ tables)
-    one-closed rest_firsts rest_seats rest_channels table f s k closed = record {
+        → IsClosed book (at_place place left_seats) (tables_at place left_channels) own
+        → AreLeft rest rest_firsts rest_seats rest_channels (own ∷ tables)
+    one-closed rest_firsts rest_seats rest_channels own f s k closed = record {
       books_are = popped-rest books left rest book h.books_are pop;
       firsts_are = f ∙ ap (λ (n : ℕ). remove left_firsts n) at
           ∙ remove-last (length rest) left_firsts firsts-long
@@ -152,16 +148,16 @@ module _ (books : List BookOf) (firsts : List SeatOf) (seats : List (List SeatOf
       channels_are = k ∙ ap (λ (n : ℕ). map (emptied_at n) left_channels) at
           ∙ ap (map (emptied_at (length rest))) channels-are
           ∙ channels-next (length rest) channels;
-      closed = closed-more books seats channels (length rest) book table tables
+      closed = closed-more books seats channels (length rest) book own tables
           (subst (λ (n : ℕ). AreClosedFrom books seats channels n tables) long h.closed) book-at
           is-closed;
     }
       where
         is-closed : IsClosed book (at_place (length rest) seats) (tables_at (length rest) channels)
-            table
+            own
         is-closed =
             let for_seats : List SeatOf → Type 0 =
-            λ own. IsClosed book own (tables_at (length rest) channels) table in
+            λ of. IsClosed book of (tables_at (length rest) channels) own in
             let for_tables : List TableValue → Type 0 =
-            λ ts. IsClosed book (at_place place left_seats) ts table in
+            λ ts. IsClosed book (at_place place left_seats) ts own in
             subst for_seats seats-here (subst for_tables tables-here closed)

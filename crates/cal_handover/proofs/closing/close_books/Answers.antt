@@ -9,13 +9,12 @@ use Rattle.cal_handover.specs.Closing.{AreClosed, IsClosed, MayClose}
 use Rattle.cal_channel.specs.Places.{at_place, lists_of}
 use Rattle.cal_handover.specs.Places.{tables_at}
 use Rattle.cal_replay.specs.Flushing.{SeatOf}
-use Rattle.cal_table.specs.Tables.{TableValue}
 use Rattle.cal_handover.proofs.closing.close_books.Goals as goal
 
 pub loop-book-init : goal.loop-book-init
 loop-book-init c = all-left c.args.books.items c.args.firsts.items (lists_of c.args.seats.items)
-    (lists_of c.args.channels.now) c.requires (reverse c.in_ok-tables.tables.items)
-    (ap reverse c.in_ok-tables.ensures.items)
+    (lists_of c.args.channels.now) c.requires (lists_of (reverse c.in_ok-tables.tables.items))
+    (ap (λ tables. lists_of (reverse tables)) c.in_ok-tables.ensures.items)
 
 pub close_book_at-requires-clause-last : goal.close_book_at-requires-clause-last
 close_book_at-requires-clause-last c =
@@ -28,7 +27,7 @@ close_book_at-requires-clause-last c =
     (lists_of c.args.channels.now) c.requires c.loop-book.books.items
     c.pop.new.self.items c.in-Some.book c.loop-book.firsts.items
     (lists_of c.loop-book.seats.items) (lists_of c.loop-book.channels)
-    (reverse c.loop-book.tables.items) c.loop-book.invariant c.in-Some.ensures.items
+    (lists_of (reverse c.loop-book.tables.items)) c.loop-book.invariant c.in-Some.ensures.items
     c.len-place.result at)
 
 pub close_book_at-requires-clause-within : goal.close_book_at-requires-clause-within
@@ -40,7 +39,7 @@ close_book_at-requires-clause-within c =
     (lists_of c.args.channels.now) c.requires c.loop-book.books.items
     c.pop.new.self.items c.in-Some.book c.loop-book.firsts.items
     (lists_of c.loop-book.seats.items) (lists_of c.loop-book.channels)
-    (reverse c.loop-book.tables.items) c.loop-book.invariant c.in-Some.ensures.items
+    (lists_of (reverse c.loop-book.tables.items)) c.loop-book.invariant c.in-Some.ensures.items
     c.len-place.result at
 
 pub close_book_at-requires-clause-may : goal.close_book_at-requires-clause-may
@@ -49,14 +48,13 @@ close_book_at-requires-clause-may c =
     let ok = c.pop.new.self.ok in
     let at : c.len-place.result ≡ length c.pop.new.self.items = omega (arith, len, ok) in
     subst (λ seats. MayClose c.in-Some.book c.remove-first.result
-    (at_place c.len-place.result (lists_of seats))
-    (tables_at c.len-place.result (lists_of c.loop-book.channels)))
+    (at_place c.len-place.result (lists_of seats)))
     (sym c.as_mut_slice.ensures.value)
     (may-close c.args.books.items c.args.firsts.items (lists_of c.args.seats.items)
     (lists_of c.args.channels.now) c.requires c.loop-book.books.items
     c.pop.new.self.items c.in-Some.book c.loop-book.firsts.items
     (lists_of c.loop-book.seats.items) (lists_of c.loop-book.channels)
-    (reverse c.loop-book.tables.items) c.loop-book.invariant c.in-Some.ensures.items
+    (lists_of (reverse c.loop-book.tables.items)) c.loop-book.invariant c.in-Some.ensures.items
     c.len-place.result at c.remove-first.result c.remove-first.ensures.value)
 
 pub loop-book-preserved : goal.loop-book-preserved
@@ -66,41 +64,42 @@ loop-book-preserved c =
     let at : c.len-place.result ≡ length c.pop.new.self.items = omega (arith, len, ok) in
     let was = c.loop-book.seats.items in
     let new = c.close_book_at.new.seats in
-    let left = c.in_ok-table.ensures.seats
+    let left = c.in_ok-own.ensures.seats
     ∙ ap (λ seats. map (take c.len-place.result) (lists_of seats)) c.as_mut_slice.ensures.value in
     let many = length-lists (take c.len-place.result) new was left in
     let ok = c.loop-book.seats.ok in
     let rest = drop (length new) was in
     let seats = take c.loop-book.seats.len (new ++ rest) in
-    subst (λ (tables : List TableValue). AreLeft c.args.books.items c.args.firsts.items
+    subst (λ tables. AreLeft c.args.books.items c.args.firsts.items
     (lists_of c.args.seats.items) (lists_of c.args.channels.now) c.pop.new.self.items
-    c.remove-first.new.self.items (lists_of seats) (lists_of c.close_book_at.new.channels) tables)
+    c.remove-first.new.self.items (lists_of seats) (lists_of c.close_book_at.new.channels)
+    (lists_of tables))
     (sym (ap reverse c.in_ok-push.ensures.items
-    ∙ reverse-append c.loop-book.tables.items (c.in_ok-table.table ∷ [])))
+    ∙ reverse-append c.loop-book.tables.items (c.in_ok-own.own ∷ [])))
     (one-closed c.args.books.items c.args.firsts.items (lists_of c.args.seats.items)
     (lists_of c.args.channels.now) c.requires c.loop-book.books.items
     c.pop.new.self.items c.in-Some.book c.loop-book.firsts.items
     (lists_of c.loop-book.seats.items) (lists_of c.loop-book.channels)
-    (reverse c.loop-book.tables.items) c.loop-book.invariant c.in-Some.ensures.items
+    (lists_of (reverse c.loop-book.tables.items)) c.loop-book.invariant c.in-Some.ensures.items
     c.len-place.result at c.remove-first.new.self.items (lists_of seats)
-    (lists_of c.close_book_at.new.channels) c.in_ok-table.table c.remove-first.ensures.items
+    (lists_of c.close_book_at.new.channels) c.in_ok-own.own.items c.remove-first.ensures.items
     (ap lists_of (take_at new rest c.loop-book.seats.len (omega (arith, many, ok))) ∙ left)
-    c.in_ok-table.ensures.channels
+    c.in_ok-own.ensures.channels
     (subst (λ seats. IsClosed c.in-Some.book (at_place c.len-place.result (lists_of seats))
-    (tables_at c.len-place.result (lists_of c.loop-book.channels)) c.in_ok-table.table)
-    c.as_mut_slice.ensures.value c.in_ok-table.ensures.closed))
+    (tables_at c.len-place.result (lists_of c.loop-book.channels)) c.in_ok-own.own.items)
+    c.as_mut_slice.ensures.value c.in_ok-own.ensures.closed))
 
 pub returns-clause-closed : goal.returns-clause-closed
 returns-clause-closed c =
     let gone = c.in_default.ensures.cases.0 in
     let items = c.loop-book.books.ok in
-    subst (λ (tables : List TableValue). AreClosed c.args.books.items
-    (lists_of c.args.seats.items) (lists_of c.args.channels.now) tables)
+    subst (λ tables. AreClosed c.args.books.items (lists_of c.args.seats.items)
+    (lists_of c.args.channels.now) (lists_of tables))
     (sym c.reverse.ensures.items)
     (all-closed c.args.books.items c.args.firsts.items (lists_of c.args.seats.items)
     (lists_of c.args.channels.now) c.loop-book.books.items
     c.loop-book.firsts.items (lists_of c.loop-book.seats.items) (lists_of c.loop-book.channels)
-    (reverse c.loop-book.tables.items) c.loop-book.invariant (omega (arith, gone, items)))
+    (lists_of (reverse c.loop-book.tables.items)) c.loop-book.invariant (omega (arith, gone, items)))
 
 pub returns-clause-left : goal.returns-clause-left
 returns-clause-left c =
@@ -109,4 +108,4 @@ returns-clause-left c =
     all-emptied c.args.books.items c.args.firsts.items (lists_of c.args.seats.items)
     (lists_of c.args.channels.now) c.loop-book.books.items
     c.loop-book.firsts.items (lists_of c.loop-book.seats.items) (lists_of c.loop-book.channels)
-    (reverse c.loop-book.tables.items) c.loop-book.invariant (omega (arith, gone, items))
+    (lists_of (reverse c.loop-book.tables.items)) c.loop-book.invariant (omega (arith, gone, items))

@@ -7,7 +7,7 @@ use Rattle.cal_handover.proofs.closing.close_books.Given as goal
 abbrev pub invariant-loop-book : goal.invariant-loop-book
 invariant-loop-book l = AreLeft l.fn.books.items l.fn.firsts.items (lists_of l.fn.seats.items)
     (lists_of l.fn.channels) l.books.items l.firsts.items (lists_of l.seats.items)
-    (lists_of l.channels) (reverse l.tables.items)
+    (lists_of l.channels) (lists_of (reverse l.tables.items))
 
 abbrev pub decreases-loop-book : goal.decreases-loop-book
 decreases-loop-book l = vec_len l.books
