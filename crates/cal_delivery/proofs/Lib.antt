@@ -1,4 +1,5 @@
 mod KeyNumbers
+mod TableNumbers
 mod AtPlace
 mod OneChannel
 mod OwnTraces

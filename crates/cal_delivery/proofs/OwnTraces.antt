@@ -56,9 +56,9 @@ trace_means context script tree seat own recs snaps h is =
 
 module _ (script : Script) (tree : Tree) (was : RowSeat NodeSort) (old : contexts.Tree)
     (channel : Channel) (on : channel.trace ≡ true) {Z : Type 0} (place : ℕ)
-    (lists : List (Vec ChannelValue Z)) (table : TableValue) (recs : List Rec)
+    (lists : List (Vec ChannelValue Z)) (tables : List TableValue) (recs : List Rec)
     (reach : All (λ (own : List ChannelValue). place < length own) (lists_of lists))
-    (h : IsTakenIn old script tree was channel (at_place place (lists_of lists)) table
+    (h : IsTakenIn old script tree was channel (at_place place (lists_of lists)) tables
     recs) where
   -- a thread's trace means its part, also when a seat has learned and the context has grown
   pub own_trace : (is : RowSeat NodeSort) → KnowsMore (view was) (view is)

@@ -29,8 +29,8 @@ use std::alloc::Global;
 /// Hands the rows of all channels of a run to a taker, in the order of the channels: of each the
 /// snapshots of its trace, thread by thread, where it has one, and then the records of its groups,
 /// where it aggregates. The tree is laid out as the script's lines need, as in any run; `channels`
-/// has the channels of each thread, and `tables` a list of tables for each channel. The context gets the
-/// nodes and the attributes of results that it lacks, also where memory runs out; after an `Err`
+/// has the channels of each thread, and `tables` a list of tables for each channel. The context gets
+/// the nodes and the attributes of results that it lacks, also where memory runs out; after an `Err`
 /// nothing is said of the taker. It takes eight bytes for each slot of the tree, memory for what is
 /// new in the context and for the groups, and time in the traces' nodes and entries, in the tables'
 /// rows and in the groups, whose order takes n log n comparisons.

@@ -18,6 +18,7 @@ use cal_groups::take_table_groups;
 use cal_nodes::ContextNodes;
 use cal_script::Channel;
 use cal_table::Table;
+use cal_table_rows::tables_together_have_the_groups_of_traces;
 use cal_tree::{Tree, TreeSeat};
 use cal_value::OutOfMemory;
 use std::alloc::Global;
@@ -54,6 +55,7 @@ pub(crate) fn take_groups<T: Taker>(
     if !channel.aggregate {
         return Ok(());
     }
+    tables_together_have_the_groups_of_traces();
     number_tables(alloc, tables, tree, seat, nodes, context)?;
     take_table_groups(alloc, &channel.query, tables, nodes, context, taker)
 }

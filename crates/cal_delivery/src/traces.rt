@@ -41,10 +41,12 @@ pub(crate) fn take_traces<T: Taker>(
     requires numbered { AreNumbered tree.now seat.old context.old nodes.old }
     requires within { All (λ (own : List ChannelValue). place < length own)
         (lists_of channels.now) }
-    requires taken { (table : TableValue) × (recs : List Rec) × IsTakenIn context.old script.now
-        tree.now seat.old channel.now (at_place place (lists_of channels.now)) table recs }
-    ensures taken { OnOk result ((table : TableValue) (recs : List Rec) → IsTakenIn context.old
-        script.now tree.now seat.old channel.now (at_place place (lists_of channels.now)) table recs
+    requires taken { (tables : List TableValue) × (recs : List Rec) × IsTakenIn context.old
+        script.now tree.now seat.old channel.now (at_place place (lists_of channels.now)) tables
+        recs }
+    ensures taken { OnOk result ((tables : List TableValue) (recs : List Rec)
+        → IsTakenIn context.old script.now tree.now seat.old channel.now
+        (at_place place (lists_of channels.now)) tables recs
         → TakesMore (T.has_taken taker.old context.old) (T.has_taken taker.new context.new)
         (if channel.now.trace then recs else [])) }
     ensures seat { IsTreeSeat tree.now seat.new }

@@ -2,3 +2,4 @@ pub mod Appending
 pub mod Cells
 pub mod ColumnLemmas
 pub mod RowLemmas
+pub mod TableLemmas

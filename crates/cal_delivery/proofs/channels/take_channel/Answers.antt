@@ -8,7 +8,7 @@ use Rattle.cal_delivery.proofs.channels.take_channel.Goals as goal
 
 pub take_traces-requires-clause-taken : goal.take_traces-requires-clause-taken
 take_traces-requires-clause-taken g c =
-    (c.args.table.now, c.requires.taken.0, c.requires.taken.1)
+    (c.args.tables.now, c.requires.taken.0, c.requires.taken.1)
 
 pub take_groups-requires-clause-taken : goal.take_groups-requires-clause-taken
 take_groups-requires-clause-taken g c =
@@ -19,24 +19,24 @@ take_groups-requires-clause-taken g c =
       c.requires.taken.0,
       taken_in_later c.args.script.now c.args.tree.now c.args.seat.now c.take_traces.new.seat
           done.learns.more c.args.context.now c.take_traces.new.context done.grows.attributes
-          c.args.channel.now kept c.args.table.now c.requires.taken.0 c.requires.taken.1,
+          c.args.channel.now kept c.args.tables.now c.requires.taken.0 c.requires.taken.1,
     )
 
 pub returns-clause-taken : goal.returns-clause-taken
 returns-clause-taken g c =
     let done = c.take_traces.ensures in
     let kept = at_place c.args.place (lists_of c.args.channels.now) in
-    let table = c.args.table.now in
+    let tables = c.args.tables.now in
     let has = g.T.Taker.has_taken in
     on_ok_weaker c.take_groups.result
     (λ taken recs h. TakesMore-trans (has c.args.taker.now c.args.context.now)
     (has c.take_traces.new.taker c.take_traces.new.context)
     (has c.take_groups.new.taker c.take_groups.new.context) _ _
-    (c.in_ok-take_traces.ensures.taken table recs h)
+    (c.in_ok-take_traces.ensures.taken tables recs h)
     (taken c.args.script.now kept recs
     (taken_in_later c.args.script.now c.args.tree.now c.args.seat.now c.take_traces.new.seat
     done.learns.more c.args.context.now c.take_traces.new.context done.grows.attributes
-    c.args.channel.now kept table recs h)))
+    c.args.channel.now kept tables recs h)))
     c.take_groups.ensures.taken
 
 pub returns-clause-learns : goal.returns-clause-learns

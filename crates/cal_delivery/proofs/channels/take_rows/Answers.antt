@@ -4,7 +4,8 @@ use Rattle.std.proofs.lemmas.List.{take_all}
 use Rattle.cal_channel.specs.Places.{at_place, lists_of}
 use Rattle.cal_context.proofs.CallerLemmas.{Grows-refl, Grows-trans}
 use Rattle.cal_context.specs.Taking.{TakesMore}
-use Rattle.cal_delivery.proofs.OneChannel.{each_reaches, taken_in_later, taken_read}
+use Rattle.cal_delivery.proofs.OneChannel.{each_reaches, many_tables, taken_in_later}
+use Rattle.cal_delivery.proofs.OneChannel.{taken_read}
 use Rattle.cal_delivery.specs.Taken.{rows_of}
 use Rattle.cal_once.proofs.Learning.{learns_nothing, learns_then}
 use Rattle.cal_once.specs.Seats.{view}
@@ -26,7 +27,8 @@ pub bounds-tables-place : goal.bounds-tables-place
 bounds-tables-place g c =
     let test = c.loop-place-test.true in
     let all = ap (λ (cs : List Channel). length cs) c.as_slice-declared.ensures in
-    let many = c.requires.taken.1.taken.many in
+    let many = many_tables c.args.script.now c.args.tree.now c.args.seat.now c.args.context.now
+    c.requires.taken.0 (lists_of c.args.channels.now) c.args.tables.now c.requires.taken.1 in
     omega (arith, test, all, many)
 
 pub take_channel-requires-clause-within : goal.take_channel-requires-clause-within
@@ -43,18 +45,19 @@ take_channel-requires-clause-taken g c =
     let test = c.loop-place-test.true in
     let declared = c.as_slice-declared.result.now in
     let channel = c.index-declared-place.result in
-    let table = c.index-tables-place.result in
+    let own = c.index-tables-place.result in
+    let items = c.as_slice.result.now in
     let place = c.loop-place.place in
     let lists = lists_of c.args.channels.now in
     let of = c.requires.taken.0 in
     let less : place < length declared = omega (arith, test) in
     let here = taken_read c.args.script.now c.args.tree.now c.args.seat.now c.args.context.now of
     lists c.args.tables.now c.requires.taken.1 declared c.as_slice-declared.ensures place channel
-    table less c.index-declared-place.is c.index-tables-place.is in (
+    own items less c.index-declared-place.is c.index-tables-place.is c.as_slice.ensures in (
       of channel,
       taken_in_later c.args.script.now c.args.tree.now c.args.seat.now c.loop-place.seat
           inv.learns.more c.args.context.now c.loop-place.context inv.grows.attributes channel
-          (at_place place lists) table (of channel) here,
+          (at_place place lists) items (of channel) here,
     )
 
 pub loop-place-preserved : goal.loop-place-preserved
@@ -65,7 +68,8 @@ loop-place-preserved g c =
     let declared = c.as_slice-declared.result.now in
     let all = c.as_slice-declared.ensures in
     let channel = c.index-declared-place.result in
-    let table = c.index-tables-place.result in
+    let own = c.index-tables-place.result in
+    let items = c.as_slice.result.now in
     let place = c.loop-place.place in
     let lists = lists_of c.args.channels.now in
     let old = c.loop-place.context in
@@ -80,11 +84,11 @@ loop-place-preserved g c =
       numbered = done.numbered;
       taken = λ of taken.
           let here = taken_read c.args.script.now c.args.tree.now c.args.seat.now
-          c.args.context.now of lists c.args.tables.now taken declared all place channel table less
-          c.index-declared-place.is c.index-tables-place.is in
+          c.args.context.now of lists c.args.tables.now taken declared all place channel own items
+          less c.index-declared-place.is c.index-tables-place.is c.as_slice.ensures in
           let later = taken_in_later c.args.script.now c.args.tree.now c.args.seat.now
           c.loop-place.seat inv.learns.more c.args.context.now old inv.grows.attributes channel
-          (at_place place lists) table (of channel) here in
+          (at_place place lists) items (of channel) here in
           taken-more (λ (c : Channel). rows_of c (of c))
           (has c.args.taker.now c.args.context.now) (has c.loop-place.taker old)
           (has c.take_channel.new.taker new) c.args.script.now.channels place channel

@@ -20,7 +20,8 @@ invariant-loop-place g l = record {
   grows : Grows l.fn.context l.context;
   numbered : AreNumbered l.tree l.seat l.context l.nodes;
   taken : (of : Channel → List Rec)
-      → IsTaken l.script l.tree l.fn.seat l.fn.context of (lists_of l.channels) l.tables
+      → IsTaken l.script l.tree l.fn.seat l.fn.context of (lists_of l.channels)
+      (lists_of l.tables)
       → TakesMore (g.T.Taker.has_taken l.fn.taker l.fn.context)
       (g.T.Taker.has_taken l.taker l.context)
       (flat_map (λ (c : Channel). rows_of c (of c)) (take l.place l.script.channels));

@@ -18,7 +18,7 @@ loop-own-init g c = record {
   learns = learns_nothing (view c.args.seat.now);
   grows = Grows-refl c.args.context.now;
   numbered = c.requires.numbered;
-  taken = λ table recs h. takes-none (g.T.Taker.has_taken c.args.taker.now c.args.context.now);
+  taken = λ tables recs h. takes-none (g.T.Taker.has_taken c.args.taker.now c.args.context.now);
 }
 
 pub index-requires : goal.index-requires
@@ -74,29 +74,29 @@ loop-own-preserved g c =
           (view c.take_own_trace.new.seat) inv.learns done.learns;
       grows = Grows-trans start old c.take_own_trace.new.context inv.grows done.grows;
       numbered = done.numbered;
-      taken = λ table recs h.
+      taken = λ tables recs h.
           let own = own_trace script tree c.args.seat.now start c.args.channel.now on c.args.place
-          c.args.channels.now table recs c.requires.within h c.loop-own.seat inv.learns.more old
+          c.args.channels.now tables recs c.requires.within h c.loop-own.seat inv.learns.more old
           inv.grows.attributes i c.own-item.result c.index.result.now less c.own-item.is
           c.index.ensures in
           let many : length h.taken.takens ≡ length c.args.channels.now = many_parts script tree
-          c.args.seat.now start c.args.channel.now on c.args.place c.args.channels.now table recs
+          c.args.seat.now start c.args.channel.now on c.args.place c.args.channels.now tables recs
           c.requires.within h in
           parts_more (has c.args.taker.now start) (has c.loop-own.taker old)
           (has c.take_own_trace.new.taker c.take_own_trace.new.context) h.taken.takens i
-          (omega (arith, many, less)) (inv.taken table recs h)
+          (omega (arith, many, less)) (inv.taken tables recs h)
           (c.in_ok-take_own_trace.ensures.taken (get_or h.taken.takens i []) own);
     }
 
 pub returns-clause-taken : goal.returns-clause-taken
-returns-clause-taken g c table recs h =
+returns-clause-taken g c tables recs h =
     let inv = c.loop-own.invariant in
     let test = c.loop-own-test.false in
     let on : c.args.channel.now.trace ≡ true = cc in
     let has = g.T.Taker.has_taken in
     let whole = all_parts c.args.script.now c.args.tree.now c.args.seat.now c.args.context.now
-    c.args.channel.now on c.args.place c.args.channels.now table recs c.requires.within h
+    c.args.channel.now on c.args.place c.args.channels.now tables recs c.requires.within h
     c.loop-own.own-index (omega arith) in
     subst (TakesMore (has c.args.taker.now c.args.context.now)
     (has c.loop-own.taker c.loop-own.context))
-    (whole ∙ sym (cond-true c.args.channel.now.trace recs [] on)) (inv.taken table recs h)
+    (whole ∙ sym (cond-true c.args.channel.now.trace recs [] on)) (inv.taken tables recs h)

@@ -19,9 +19,9 @@ invariant-loop-own g l = record {
   learns : Learns (view l.fn.seat) (view l.seat);
   grows : Grows l.fn.context l.context;
   numbered : AreNumbered l.tree l.seat l.context l.nodes;
-  taken : (table : TableValue) (recs : List Rec)
+  taken : (tables : List TableValue) (recs : List Rec)
       (h : IsTakenIn l.fn.context l.script l.tree l.fn.seat l.channel
-      (at_place l.place (lists_of l.channels)) table recs)
+      (at_place l.place (lists_of l.channels)) tables recs)
       → TakesMore (g.T.Taker.has_taken l.fn.taker l.fn.context)
       (g.T.Taker.has_taken l.taker l.context)
       (flat_map (λ (part : List Rec). part) (take l.own-index h.taken.takens));

@@ -1,10 +1,10 @@
-use Rattle.std.proofs.Common.{List, ◌++◌, map, subst, sym}
+use Rattle.std.proofs.Common.{List, ◌++◌, subst, sym}
 use Rattle.cal_engine.specs.Answers.{answer_of}
 use Rattle.cal_engine.specs.Making.{MakesRows}
 use Rattle.cal_engine.specs.Sorting.{sorted}
 use Rattle.cal_groups.proofs.groups.take_table_groups.Goals as goal
+use Rattle.cal_groups.specs.ContextRows.{records_of}
 use Rattle.cal_profile.specs.Groups.{group_records, rows_cmp}
-use Rattle.cal_profile.specs.TableRows.{row_record}
 use Rattle.cal_ql.specs.declared.query.Agg.{Agg}
 use Rattle.cal_ql.specs.declared.query.Query.{Query}
 
@@ -13,7 +13,7 @@ returns-clause-taken g c = λ keyed means before had.
     let has_taken = g.T.Taker.has_taken in
     let t = c.group_rows.new.context in
     let q = c.in_ok-query.query in
-    let recs = map (row_record c.args.channel.now) keyed in
+    let recs = records_of c.args.channel.now keyed in
     let rs = (answer_of q recs).rows.rows in
     let made = subst (λ (a : List Agg). MakesRows t a c.in_ok-rows.rows rs)
     (sym c.as_slice.ensures) (c.in_ok-rows.ensures.rows keyed means) in
