@@ -39,6 +39,7 @@ use Rattle.cal_table.specs.Tables.{TableValue}
 use Rattle.cal_table.specs.declared.key.TableKey.{TableKey}
 use Rattle.cal_table_rows.proofs.MeantRows.{counted_rows}
 use Rattle.cal_table_rows.specs.Meanings.{HasRows, MeanRowsOf, RowMeans}
+use Rattle.cal_table_rows.specs.PartSums.{HasPartSums}
 use Rattle.cal_tree.specs.Seats.{IsTreeSeat}
 use Rattle.cal_tree.specs.declared.tree.Tree.{Tree}
 use Rattle.cal_value.specs.declared.attribute.Attribute.{Attribute}
@@ -49,7 +50,7 @@ use Rattle.cal_words.specs.declared.sort.NodeSort.{NodeSort}
 abbrev pub HaveTheGroups : Type 0
 HaveTheGroups = (attributes : List Attribute) (channel : ChannelQuery) (trace : List Rec)
     (parts : List (List Rec)) (keyed : List (List KeyedRow))
-    → IsTrace attributes channel trace → length trace ≤ 2 ^ 20 → All HasSmallNumbers trace
+    → IsTrace attributes channel trace → HasPartSums channel trace
     → IsPermutation (flat_map (λ (part : List Rec). part) parts) trace
     → AllZip (AreRowsOf channel) parts keyed
     → group_records (channel_query channel) (records_of channel keyed)
@@ -221,5 +222,5 @@ module _ (context : contexts.Tree) (script : Script) (tree : Tree) (seat : RowSe
     groups_taken law had then has stays taken rs is = subst
         (λ (gs : List Rec). has (rs ++ gs))
         (law h.taken.known channel.query recs counted.counts.parts keyed.items h.taken.trace
-        h.taken.few h.taken.small counted.counts.whole keyed.right)
+        h.taken.sums counted.counts.whole keyed.right)
         (taken keyed.items keyed.left rs (stays rs is))

@@ -80,6 +80,7 @@ module _ (script : Script) (tree : Tree) (was is : RowSeat NodeSort)
       trace = h.taken.trace;
       few = h.taken.few;
       small = h.taken.small;
+      sums = h.taken.sums;
     };
   }
 
