@@ -1,9 +1,9 @@
 -- Lists of threads while the books are closed from the last one on.
-use Rattle.std.proofs.Common.{◌≡◌, ℕ, zero, suc, ◌+◌, ◌<◌, ◌≤◌, List, [], ◌∷◌, ◌++◌, Some}
-use Rattle.std.proofs.Common.{length, map, take, drop, refl, sym, ap, ◌∙◌, arith}
+use Rattle.std.proofs.Common.{◌≡◌, ℕ, zero, suc, ◌+◌, ◌<◌, List, [], ◌∷◌, ◌++◌, Some}
+use Rattle.std.proofs.Common.{length, map, take, refl, sym, ap, ◌∙◌, arith}
 use Rattle.std.proofs.Common.{add-one, length-append, length-take-le}
 use Rattle.std.specs.List.{All, cons_option}
-use Rattle.std.specs.Prelude.{Option, slice_get, slice_index_or}
+use Rattle.std.specs.Prelude.{slice_get}
 use Rattle.std.proofs.lemmas.List.{take-take, take_all, take_at}
 use Rattle.std.proofs.lemmas.List.Elements.{All-head, All-map, All-tail, All-weaker}
 use Rattle.cal_channel.specs.Values.{ChannelValue}

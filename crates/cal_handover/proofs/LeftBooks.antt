@@ -1,6 +1,6 @@
 -- The books that are left while they are closed from the last one on.
-use Rattle.std.proofs.Common.{◌≡◌, ℕ, suc, ◌+◌, ◌<◌, ◌≤◌, List, [], ◌∷◌, ◌++◌, Some}
-use Rattle.std.proofs.Common.{length, map, take, get_or, refl, sym, ap, ◌∙◌, arith, subst}
+use Rattle.std.proofs.Common.{◌≡◌, ℕ, suc, ◌+◌, ◌<◌, List, [], ◌∷◌, ◌++◌, Some}
+use Rattle.std.proofs.Common.{length, map, take, get_or, sym, ap, ◌∙◌, arith, subst}
 use Rattle.std.proofs.Common.{add-one, length-append, length-take-le}
 use Rattle.std.specs.List.{All, remove}
 use Rattle.std.specs.Prelude.{slice_get}

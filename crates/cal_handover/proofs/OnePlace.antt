@@ -1,8 +1,8 @@
 -- What is taken from the lists of threads at one place, thread by thread.
-use Rattle.std.proofs.Common.{◌≡◌, ℕ, zero, suc, ◌+◌, ◌<◌, ◌≤◌, List, [], ◌∷◌, ◌++◌, Some}
+use Rattle.std.proofs.Common.{◌≡◌, ℕ, zero, suc, ◌+◌, ◌≤◌, List, [], ◌∷◌, ◌++◌, Some}
 use Rattle.std.proofs.Common.{length, map, take, drop, set, refl, sym, ap, ◌∙◌, arith, subst}
-use Rattle.std.specs.List.{All, cons_option, filter_map, remove}
-use Rattle.std.specs.Prelude.{Option, option_map, slice_get, slice_index_or}
+use Rattle.std.specs.List.{All, cons_option, remove}
+use Rattle.std.specs.Prelude.{Option, option_map, slice_get}
 use Rattle.std.specs.declared.vec.Vec.{Vec}
 use Rattle.std.proofs.lemmas.List.{append-nil, drop_all, length-map, map-set, take_all, take_more}
 use Rattle.std.proofs.lemmas.List.Edits.{map_over_more}

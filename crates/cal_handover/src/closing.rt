@@ -13,11 +13,11 @@ use cal_table::{Book, BookSeat, Table};
 use cal_value::OutOfMemory;
 use std::alloc::Global;
 
-/// The tables of each channel of a script, in their order: those that the threads of a run have left
-/// in their channels, and that of all that they have flushed. Books, first seats and each thread's
-/// lists are by channels in their order. Traces and readings stay in the channels, and the tables
-/// there are left empty. An `Err` is want of memory: then the tables are lost, and nothing is said
-/// of the channels. It merges nothing, and takes time and memory for the lists alone.
+/// The tables of each channel of a script, in their order: those that the threads of a run have
+/// left in their channels, and that of all that they have flushed. Books, first seats and each
+/// thread's lists are by channels in their order. Traces and readings stay in the channels, and the
+/// tables there are left empty. An `Err` is want of memory: then the tables are lost, and nothing is
+/// said of the channels. It merges nothing, and takes time and memory for the lists alone.
 pub fn close_books(
     alloc: Global,
     mut books: Vec<Book>,

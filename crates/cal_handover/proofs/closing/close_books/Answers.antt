@@ -99,7 +99,8 @@ returns-clause-closed c =
     (all-closed c.args.books.items c.args.firsts.items (lists_of c.args.seats.items)
     (lists_of c.args.channels.now) c.loop-book.books.items
     c.loop-book.firsts.items (lists_of c.loop-book.seats.items) (lists_of c.loop-book.channels)
-    (lists_of (reverse c.loop-book.tables.items)) c.loop-book.invariant (omega (arith, gone, items)))
+    (lists_of (reverse c.loop-book.tables.items)) c.loop-book.invariant
+    (omega (arith, gone, items)))
 
 pub returns-clause-left : goal.returns-clause-left
 returns-clause-left c =

@@ -1,7 +1,7 @@
 use Rattle.std.proofs.Common.{◌≡◌, ◌+◌, ◌<◌, ◌++◌, ◌∙◌, [], ◌∷◌, List, length, get_or, take}
 use Rattle.std.proofs.Common.{ap, sym, arith}
 use Rattle.std.proofs.lemmas.Option.{slice_get-get_or, slice_get_read}
-use Rattle.cal_handover.proofs.OnePlace.{All-at, at_place-more, map-all, next-changed, next-list}
+use Rattle.cal_handover.proofs.OnePlace.{All-at, at_place-more, next-changed, next-list}
 use Rattle.cal_handover.proofs.OnePlace.{remove-last}
 use Rattle.cal_channel.specs.Places.{lists_of}
 use Rattle.cal_replay.specs.Flushing.{SeatOf}
