@@ -1,10 +1,10 @@
 -- What is taken from the lists of threads at one place, thread by thread.
-use Rattle.std.proofs.Common.{◌≡◌, ℕ, zero, suc, ◌+◌, ◌≤◌, List, [], ◌∷◌, ◌++◌, Some}
+use Rattle.std.proofs.Common.{◌≡◌, ℕ, zero, suc, ◌+◌, List, [], ◌∷◌, ◌++◌, Some}
 use Rattle.std.proofs.Common.{length, map, take, drop, set, refl, sym, ap, ◌∙◌, arith, subst}
 use Rattle.std.specs.List.{All, cons_option, remove}
 use Rattle.std.specs.Prelude.{Option, option_map, slice_get}
 use Rattle.std.specs.declared.vec.Vec.{Vec}
-use Rattle.std.proofs.lemmas.List.{append-nil, drop_all, length-map, map-set, take_all, take_more}
+use Rattle.std.proofs.lemmas.List.{append-nil, drop_all, length-map, map-set, take_more}
 use Rattle.std.proofs.lemmas.List.Edits.{map_over_more}
 use Rattle.std.proofs.lemmas.List.Elements.{All-get_or, filter_map-append}
 use Rattle.std.proofs.lemmas.Option.{get_or_from_slice_get, slice_get-map, slice_get_within}
@@ -26,13 +26,6 @@ module _ {A : Type 0} where
   slice_get-behind f zero xs = refl
   slice_get-behind f (suc n) [] = refl
   slice_get-behind f (suc n) (x ∷ xs) = slice_get-behind f n xs
-
-  -- all places were reached
-  pub map-all : (f : A → A) (n : ℕ) (xs ys : List A) → length xs ≤ n
-      → ys ≡ map f (take n xs) ++ drop n xs → ys ≡ map f xs
-  map-all f n xs ys all is =
-      is ∙ ap (λ rest. map f (take n xs) ++ rest) (drop_all n xs all)
-      ∙ append-nil (map f (take n xs)) ∙ ap (map f) (take_all n xs all)
 
   -- a list without its last item
   pub remove-last : (n : ℕ) (xs : List A) → length xs ≡ n + 1 → remove xs n ≡ take n xs
