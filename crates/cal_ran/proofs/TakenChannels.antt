@@ -33,6 +33,7 @@ use Rattle.cal_start.specs.Runs.{IsRun, shape_for}
 use Rattle.cal_start.specs.declared.run.Run.{Run}
 use Rattle.cal_table.specs.Tables.{TableValue}
 use Rattle.cal_table.specs.declared.shape.TableShape.{TableShape}
+use Rattle.cal_table_rows.specs.PartSums.{HasPartSums}
 use Rattle.cal_value.specs.declared.record.Rec.{Rec}
 use Rattle.cal_words.specs.declared.sort.NodeSort.{NodeSort}
 
@@ -46,6 +47,7 @@ pub record KeepsLimits (script : Script) (journal : Journal) (channel : Channel)
   pub trace : IsTrace (run_attributes script) channel.query (snapshots script journal channel)
   pub few : length (snapshots script journal channel) ≤ 2 ^ 20
   pub small : All HasSmallNumbers (snapshots script journal channel)
+  pub sums : HasPartSums channel.query (snapshots script journal channel)
 
 module _ {P H : Type 0} (account : H → ℕ → AccountOf)
     (takes : H → ℕ → List TableShape → Type 0) (run : Run) (is : IsRun run)
@@ -128,4 +130,5 @@ module _ {P H : Type 0} (account : H → ℕ → AccountOf)
       trace = limits.trace;
       few = limits.few;
       small = limits.small;
+      sums = limits.sums;
     }

@@ -72,6 +72,8 @@ returns-clause-ended g c =
             trace = c.traces_law.ensures run.shared.common.script.now journal channel valid there;
             few = c.limits_law.ensures.few run.shared.common.script.now journal channel valid;
             small = c.limits_law.ensures.small run.shared.common.script.now journal channel valid;
+            sums = c.limits_law.ensures.sums run.shared.common.script.now journal channel valid
+                there;
           })
           _ (ap lists_of (take_at new (drop (length new) was) c.args.collected.channels.len
           (omega (arith, many, ok))) ∙ left);
