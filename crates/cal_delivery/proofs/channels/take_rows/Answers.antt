@@ -53,7 +53,7 @@ take_channel-requires-clause-taken g c =
     let less : place < length declared = omega (arith, test) in
     let here = taken_read c.args.script.now c.args.tree.now c.args.seat.now c.args.context.now of
     lists c.args.tables.now c.requires.taken.1 declared c.as_slice-declared.ensures place channel
-    own items less c.index-declared-place.is c.index-tables-place.is c.as_slice.ensures in (
+    own items less c.index-declared-place.is c.index-tables-place.is c.as_slice.ensures.value in (
       of channel,
       taken_in_later c.args.script.now c.args.tree.now c.args.seat.now c.loop-place.seat
           inv.learns.more c.args.context.now c.loop-place.context inv.grows.attributes channel
@@ -85,7 +85,7 @@ loop-place-preserved g c =
       taken = λ of taken.
           let here = taken_read c.args.script.now c.args.tree.now c.args.seat.now
           c.args.context.now of lists c.args.tables.now taken declared all place channel own items
-          less c.index-declared-place.is c.index-tables-place.is c.as_slice.ensures in
+          less c.index-declared-place.is c.index-tables-place.is c.as_slice.ensures.value in
           let later = taken_in_later c.args.script.now c.args.tree.now c.args.seat.now
           c.loop-place.seat inv.learns.more c.args.context.now old inv.grows.attributes channel
           (at_place place lists) items (of channel) here in
