@@ -1,25 +1,21 @@
 -- The books of a run whose threads have run may be closed, and tell of their turns.
-use Rattle.std.proofs.Common.{◌≡◌, ◌∙◌, ℕ, ◌≤◌, List, length, map, sym, ap, subst, arith}
+use Rattle.std.proofs.Common.{◌≡◌, ◌∙◌, ℕ, List, length, map, sym, ap, subst, arith}
 use Rattle.std.specs.Prelude.{Some, option_map, slice_get}
 use Rattle.std.proofs.lemmas.List.{length-map}
-use Rattle.std.proofs.lemmas.List.Sums.{sum_by-append}
 use Rattle.std.proofs.lemmas.Option.{same_Some, slice_get-map, slice_get_within}
 use Rattle.cal_book.specs.Closing.{AllMetHadTurns}
 use Rattle.cal_book.specs.Seats.{shape_of}
 use Rattle.cal_channel.specs.Values.{ChannelValue}
-use Rattle.cal_closing.specs.Seats.{accounts_of, given_by}
 use Rattle.cal_finish.proofs.LawfulRuns.{at-below}
 use Rattle.cal_finish.specs.Ended.{HaveAllRun, accounts_at}
 use Rattle.cal_handover.specs.Closing.{AreClosed, MayClose, MayCloseAll}
 use Rattle.cal_channel.specs.Places.{at_place}
 use Rattle.cal_handover.specs.Places.{tables_at}
 use Rattle.cal_keeping.specs.Hands.{AccountOf, IsAtBooks, account_in}
-use Rattle.cal_keeping.specs.Hands.{given_by as given_by_thread}
 use Rattle.cal_keeping.specs.declared.book_hand.BookHand.{BookHand}
 use Rattle.cal_keeping.specs.declared.runner.Runner.{Runner}
 use Rattle.cal_ran.proofs.Places.{all-lists, channels_of, seats_of}
-use Rattle.cal_ran.proofs.Standing.{AllStand, Stands, account-at, accounts-are, all-stand}
-use Rattle.cal_ran.proofs.Standing.{few-at, length-at, made-at, own-at}
+use Rattle.cal_ran.proofs.Standing.{AllStand, Stands, accounts-are, all-stand, length-at, own-at}
 use Rattle.cal_ran.proofs.TakenLines.{GoByRun}
 use Rattle.cal_ran.proofs.TakenShares.{AreCounted, IsCounted}
 use Rattle.cal_ran.specs.Runs.{AreDone, IsDone}
@@ -34,22 +30,13 @@ use Rattle.cal_table.specs.declared.shape.TableShape.{TableShape}
 -- the book at a place may be closed
 may-close : {P : Type 0} (place : ℕ) (book : BookOf) (first : SeatOf)
     (runners : List (Runner P BookHand))
-    → IsFirstSeat (length runners) book first → length runners ≤ 64
-    → AllStand place book 0 runners
+    → IsFirstSeat (length runners) book first → AllStand place book 0 runners
     → MayClose book first (at_place place (seats_of runners))
-    (tables_at place (channels_of runners))
-may-close place book first runners is few_runners all = record {
+may-close place book first runners is all = record {
   seat_is = is.seat_is;
   first_is = is.first;
   own = λ number seat at. own-at place book 0 runners all number number seat (omega arith) at;
   all = is.others ∙ sym (length-at place book 0 runners all);
-  made = made-at place book 0 runners all;
-  few =
-      let sum = sum_by-append (λ (t : TableValue). t.snapshots)
-      (given_by (accounts_of (at_place place (seats_of runners))))
-      (tables_at place (channels_of runners)) in
-      let few = few-at place book 0 runners all in
-      omega (arith, sum, few, few_runners);
 }
 
 module _ {P : Type 0} (run : Run) (is : IsRun run) (runners : List (Runner P BookHand))
@@ -61,44 +48,24 @@ module _ {P : Type 0} (run : Run) (is : IsRun run) (runners : List (Runner P Boo
       ∙ length-map (script_of run.shared).channels
       (shape_for is.hashers run.context.attributes)
 
-  -- a thread that has run has a channel and a seat at each book
+  -- a thread that has run has a seat at each book
   stands : (number : ℕ) (r : Runner P BookHand) → IsDone run number r → (place : ℕ)
       (book : BookOf) → slice_get run.books.items place ≡ Some book → Stands place book number r
   stands number r one place book at =
-      let ready = one.ran.is.ready in
-      let hand = ready.takes_them in
+      let hand = one.ran.is.ready.takes_them in
       let within = slice_get_within run.books.items place book at in
-      let long = books-long in
-      let many = ready.many in
-      let many_seats = hand.many ∙ ap length one.books in
-      let channel = at-below (script_of run.shared).channels place (omega (arith, within, long)) in
-      let c = at-below r.channels.channels.items place (omega (arith, within, long, many)) in
-      let seat = at-below r.channels.hand.seats.items place
-      (omega (arith, within, many_seats)) in
+      let many = hand.many ∙ ap length one.books in
+      let seat = at-below r.channels.hand.seats.items place (omega (arith, within, many)) in
       let own_book : slice_get r.channels.hand.books.now place ≡ Some book =
       ap (λ (books : List BookOf). slice_get books place) one.books ∙ at in
-      let shape_at : slice_get ready.shapes place ≡ Some (shape_of book) =
-      ap (λ (shapes : List TableShape). slice_get shapes place) (sym hand.shapes_are)
-      ∙ slice_get-map shape_of r.channels.hand.books.now place
-      ∙ ap (option_map shape_of) own_book in
       let own = hand.each place book seat.item own_book seat.there in
-      let each = ready.each place channel.item (shape_of book) c.item channel.there shape_at
-      c.there in
       record {
-        c = c.item;
         seat = seat.item;
-        channel_at = c.there;
         seat_at = seat.there;
         is = record {
           seat_is = own.seat_is;
           own = own.own ∙ ap Some (one.ran.is.thread ∙ one.ran.number);
         };
-        made = each.made;
-        few =
-            let few = each.few in
-            let same = ap given_by_thread
-            (account-at r.channels.hand place seat.item seat.there) in
-            omega (arith, few, same);
       }
 
   stand : (place : ℕ) (book : BookOf) → slice_get run.books.items place ≡ Some book
@@ -123,11 +90,7 @@ module _ {P : Type 0} (run : Run) (is : IsRun run) (runners : List (Runner P Boo
         (λ k r at. (done.each k r at).ran.is.ready.many ∙ sym books-long);
     each = λ place book first at_book at_first. may-close place book first runners
         (subst (λ (n : ℕ). IsFirstSeat n book first) (sym done.many)
-        (are.each place book first at_book at_first))
-        (let few = is.shared.common.runnable.few_threads in
-        let many = done.many in
-        omega (arith, few, many))
-        (stand place book at_book);
+        (are.each place book first at_book at_first)) (stand place book at_book);
   }
 
   -- the runners go by the run
@@ -139,7 +102,7 @@ module _ {P : Type 0} (run : Run) (is : IsRun run) (runners : List (Runner P Boo
   }
 
   -- behind the closing of all books
-  module _ (tables : List TableValue)
+  module _ (tables : List (List TableValue))
       (closed : AreClosed run.books.items (seats_of runners) (channels_of runners) tables) where
     -- the threads have run as it is asked of a run
     pub all-run : HaveAllRun account_in IsAtBooks run.shared runners
@@ -150,21 +113,21 @@ module _ {P : Type 0} (run : Run) (is : IsRun run) (runners : List (Runner P Boo
           let long = books-long in
           let many = closed.many in
           let book = at-below run.books.items place (omega (arith, below, long)) in
-          let table = at-below tables place (omega (arith, below, long, many)) in
+          let own = at-below tables place (omega (arith, below, long, many)) in
           subst (λ (accounts : List AccountOf). AllMetHadTurns accounts)
           (accounts-are place book.item 0 runners (stand place book.item book.there))
-          (closed.each place book.item table.item book.there table.there).met;
+          (closed.each place book.item own.item book.there own.there).met;
     }
 
-    counted-at : (place : ℕ) (shape : TableShape) (table : TableValue)
-        → slice_get run.shapes.items place ≡ Some shape → slice_get tables place ≡ Some table
+    counted-at : (place : ℕ) (shape : TableShape) (own : List TableValue)
+        → slice_get run.shapes.items place ≡ Some shape → slice_get tables place ≡ Some own
         → IsCounted shape (accounts_at account_in place runners)
-        (tables_at place (channels_of runners)) table
-    counted-at place shape table at_shape at_table =
-        let below = slice_get_within tables place table at_table in
+        (tables_at place (channels_of runners)) own
+    counted-at place shape own at_shape at_own =
+        let below = slice_get_within tables place own at_own in
         let many = closed.many in
         let book = at-below run.books.items place (omega (arith, below, many)) in
-        let here = closed.each place book.item table book.there at_table in
+        let here = closed.each place book.item own book.there at_own in
         let shape_is : shape_of book.item ≡ shape =
         same_Some (shape_of book.item) shape
         (sym (slice_get-map shape_of run.books.items place
@@ -172,13 +135,13 @@ module _ {P : Type 0} (run : Run) (is : IsRun run) (runners : List (Runner P Boo
         ∙ ap (λ (shapes : List TableShape). slice_get shapes place) is.books.made
         ∙ at_shape) in
         subst (λ (s : TableShape). IsCounted s (accounts_at account_in place runners)
-        (tables_at place (channels_of runners)) table) shape_is
+        (tables_at place (channels_of runners)) own) shape_is
         (subst (λ (accounts : List AccountOf). IsCounted (shape_of book.item) accounts
-        (tables_at place (channels_of runners)) table)
+        (tables_at place (channels_of runners)) own)
         (accounts-are place book.item 0 runners (stand place book.item book.there))
-        record { merged = here.merged; made = here.given })
+        record { closed = here.closed; made = here.given })
 
-    -- and each table counts what they gave and have left
+    -- and the tables of each channel count what they gave and have left
     pub all-counted : AreCounted account_in run.shapes.items runners tables
     all-counted = record {
       many = closed.many ∙ sym (length-map run.books.items shape_of) ∙ ap length is.books.made;

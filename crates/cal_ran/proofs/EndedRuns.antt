@@ -18,15 +18,15 @@ by-own-script script ended is =
 
 -- what was taken in a run, by its channels and tables as they are lent
 pub taken-lent : (ended : EndedRun) (channels : List (List ChannelValue))
-    (tables : List TableValue) → IsEnded (script_of ended.shared) ended
-    → channels ≡ lists_of ended.channels.items → tables ≡ ended.tables.items
+    (tables : List (List TableValue)) → IsEnded (script_of ended.shared) ended
+    → channels ≡ lists_of ended.channels.items → tables ≡ lists_of ended.tables.items
     → IsTaken (script_of ended.shared) ended.shared.common.tree ended.tree ended.context
     (snapshots (script_of ended.shared) ended.journal) channels tables
 taken-lent ended channels tables is channels_are tables_are =
-    subst (λ (ts : List TableValue).
+    subst (λ (ts : List (List TableValue)).
     IsTaken (script_of ended.shared) ended.shared.common.tree ended.tree ended.context
     (snapshots (script_of ended.shared) ended.journal) channels ts) (sym tables_are)
     (subst (λ (cs : List (List ChannelValue)).
     IsTaken (script_of ended.shared) ended.shared.common.tree ended.tree ended.context
-    (snapshots (script_of ended.shared) ended.journal) cs ended.tables.items)
+    (snapshots (script_of ended.shared) ended.journal) cs (lists_of ended.tables.items))
     (sym channels_are) is.taken)

@@ -50,7 +50,7 @@ module _ {P : Type 0} (run : Run) (is : IsRun run) (h : Handed) (handed : AreHan
         (may-close-all run is handed.from handed.done firsts are))
 
     -- by channels that are lent from those that were handed over
-    module _ (tables : List TableValue) (lent : List (List ChannelValue))
+    module _ (tables : List (List TableValue)) (lent : List (List ChannelValue))
         (lent_are : lent ≡ lists_of h.channels.items)
         (closed : AreClosed run.books.items (lists_of h.seats.items) lent tables) where
       -- behind that the books of their runners are closed

@@ -5,10 +5,10 @@ use Rattle.std.specs.Prelude.{Some, option_map, slice_get, zip}
 use Rattle.std.specs.List.{All, AllZip, flat_map}
 use Rattle.std.proofs.lemmas.List.Folds.{flat_map-map}
 use Rattle.std.proofs.lemmas.Option.{same_Some, slice_get-map}
-use Rattle.cal_channel.specs.Channels.{Counts}
+use Rattle.cal_channel.specs.Channels.{CountTogether}
 use Rattle.cal_channel.specs.Places.{at_place}
 use Rattle.cal_closing.proofs.Counting.{closed-counts}
-use Rattle.cal_delivery.specs.Taken.{HasTable, HaveTaken}
+use Rattle.cal_delivery.specs.Taken.{HasTables, HaveTaken}
 use Rattle.cal_filter.specs.Named.{HasSmallNumbers}
 use Rattle.cal_finish.specs.Ended.{HaveAllEnded, accounts_at, notes_of, threads_of}
 use Rattle.cal_finish.specs.Threads.{KnowsNodesOf}
@@ -20,7 +20,7 @@ use Rattle.cal_once.specs.declared.seat.RowSeat.{RowSeat}
 use Rattle.cal_profile.specs.Declared.{IsTrace}
 use Rattle.cal_ran.proofs.Places.{channels_of, left_of}
 use Rattle.cal_ran.proofs.TakenLines.{GoByRun, HasTakenLines, taken-lines}
-use Rattle.cal_ran.proofs.TakenShares.{AreCounted, shares-at, takens, traces-at}
+use Rattle.cal_ran.proofs.TakenShares.{AreCounted, shares-at, tables-made, takens, traces-at}
 use Rattle.cal_replay.specs.Channels.{joined}
 use Rattle.cal_replay.specs.Workers.{script_of}
 use Rattle.cal_run.specs.RunAttributes.{run_attributes}
@@ -52,15 +52,15 @@ module _ {P H : Type 0} (account : H → ℕ → AccountOf)
     (runners : List (Runner P H)) (by_run : GoByRun takes run runners) (journal : Journal)
     (ended : HaveAllEnded account takes run.shared runners journal.ops)
     (noted : journal.threads ≡ notes_of runners) (seat : RowSeat NodeSort)
-    (knows : All (KnowsNodesOf seat) (threads_of runners)) (tables : List TableValue)
+    (knows : All (KnowsNodesOf seat) (threads_of runners)) (tables : List (List TableValue))
     (counted : AreCounted account run.shapes.items runners tables) where
   abbrev script : Script
   script = script_of run.shared
 
-  module _ (place : ℕ) (channel : Channel) (shape : TableShape) (table : TableValue)
+  module _ (place : ℕ) (channel : Channel) (shape : TableShape) (own : List TableValue)
       (at_channel : slice_get script.channels place ≡ Some channel)
       (at_shape : slice_get run.shapes.items place ≡ Some shape)
-      (at_table : slice_get tables place ≡ Some table) where
+      (at_own : slice_get tables place ≡ Some own) where
     abbrev all_takens : List (List Rec)
     all_takens = takens run.context.attributes run.shared.common seat journal.ops place channel
         shape script.threads runners
@@ -89,31 +89,33 @@ module _ {P H : Type 0} (account : H → ℕ → AccountOf)
         same_Some shape (asked channel)
         (sym at_shape ∙ ap (λ (shapes : List TableShape). slice_get shapes place) is.shapes ∙ made)
 
-    -- where the channel aggregates, its table counts them
-    table-counts : channel.aggregate ≡ true
-        → HasTable run.context.attributes script run.shared.common.tree seat channel table
+    -- where the channel aggregates, its tables count them together
+    tables-count : channel.aggregate ≡ true
+        → HasTables run.context.attributes script run.shared.common.tree seat channel own
         (snapshots script journal channel)
-    table-counts does =
-        let here = counted.each place shape table at_shape at_table in
+    tables-count does =
+        let here = counted.each place shape own at_shape at_own in
         let accounts = accounts_at account place runners in
         let lefts = tables_at place (channels_of runners) in
+        let shares = shares-at run.context.attributes run.shared.common seat journal.ops place
+        channel shape account does script.threads runners lines-taken here.made in
         record {
           hashers = is.hashers;
-          shape = here.merged.shape ∙ shape-is;
-          counts = subst (λ (recs : List Rec). Counts run.context.attributes script
-              run.shared.common.tree seat table recs)
+          shape = λ k d less.
+              tables-made run.context.attributes script run.shared.common.tree seat shape accounts
+              lefts own all_takens shares here.closed k d less ∙ shape-is;
+          counts = subst (λ (recs : List Rec). CountTogether run.context.attributes script
+              run.shared.common.tree seat own recs)
               (joined-map (taken_by_thread script journal.ops channel)
               (zip script.threads (notes_of runners)) ∙ all-taken)
               (closed-counts run.context.attributes script run.shared.common.tree seat
-              shape accounts lefts all_takens table
-              (shares-at run.context.attributes run.shared.common seat journal.ops place channel
-              shape account does script.threads runners lines-taken here.made) here.merged);
+              shape accounts lefts all_takens own shares here.closed);
         }
 
     -- all threads have taken them, one behind another
     pub taken-there : KeepsLimits script journal channel
         → HaveTaken run.context.attributes script run.shared.common.tree seat channel
-        (at_place place (left_of runners)) table (snapshots script journal channel)
+        (at_place place (left_of runners)) own (snapshots script journal channel)
     taken-there limits = record {
       takens = all_takens;
       whole = flat_map-map (λ (taken : List Rec). taken)
@@ -121,7 +123,7 @@ module _ {P H : Type 0} (account : H → ℕ → AccountOf)
           ∙ all-taken;
       traces = traces-at run.context.attributes run.shared.common seat journal.ops place channel
           shape account script.threads runners lines-taken;
-      counted = table-counts;
+      counted = tables-count;
       known = run_attributes script;
       trace = limits.trace;
       few = limits.few;

@@ -36,7 +36,7 @@ module _ {P H : Type 0} (account : H → ℕ → AccountOf)
     (runners : List (Runner P H)) (by_run : GoByRun takes run runners) (journal : Journal)
     (ended : HaveAllEnded account takes run.shared runners journal.ops)
     (noted : journal.threads ≡ notes_of runners) (seat : RowSeat NodeSort)
-    (knows : All (KnowsNodesOf seat) (threads_of runners)) (tables : List TableValue)
+    (knows : All (KnowsNodesOf seat) (threads_of runners)) (tables : List (List TableValue))
     (counted : AreCounted account run.shapes.items runners tables)
     (apart : NamesAreApart run.context.attributes (script_of run.shared))
     (limits : (channel : Channel) → Contains (script_of run.shared).channels channel
@@ -57,17 +57,17 @@ module _ {P H : Type 0} (account : H → ℕ → AccountOf)
       (λ k r at. length-map r.channels.channels.items emptied
       ∙ (ended.ended k r at).run.is.ready.many))
 
-  taken-each : (place : ℕ) (channel : Channel) (table : TableValue)
+  taken-each : (place : ℕ) (channel : Channel) (own : List TableValue)
       → slice_get (script_of run.shared).channels place ≡ Some channel
-      → slice_get tables place ≡ Some table
+      → slice_get tables place ≡ Some own
       → HaveTaken run.context.attributes (script_of run.shared) run.shared.common.tree seat channel
-      (at_place place (left_of runners)) table (snapshots (script_of run.shared) journal channel)
-  taken-each place channel table at_channel at_table =
+      (at_place place (left_of runners)) own (snapshots (script_of run.shared) journal channel)
+  taken-each place channel own at_channel at_own =
       let within = slice_get_within (script_of run.shared).channels place channel at_channel in
       let long = shapes-long in
       let shape = at-below run.shapes.items place (omega (arith, within, long)) in
       taken-there account takes run is runners by_run journal ended noted seat knows tables counted
-      place channel shape.item table at_channel shape.there at_table
+      place channel shape.item own at_channel shape.there at_own
       (limits channel
       (Contains-number (script_of run.shared).channels place channel at_channel))
 

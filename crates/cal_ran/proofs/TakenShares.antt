@@ -1,19 +1,20 @@
 -- The traces of all threads in a channel, and their shares of its book, thread by thread.
 use Rattle.std.proofs.Common.{◌≡◌, ℕ, zero, suc, true, List, [], ◌∷◌, ◌++◌, length, map}
-use Rattle.std.proofs.Common.{refl, sym, ap, ◌∙◌, subst}
+use Rattle.std.proofs.Common.{get_or, refl, sym, ap, ◌∙◌, subst, arith}
 use Rattle.std.specs.Prelude.{Option, Some, None, IfSome, is_some, slice_get, zip}
 use Rattle.std.specs.List.{AllZip, cons_option}
-use Rattle.std.proofs.lemmas.List.Elements.{All-head, All-tail}
-use Rattle.std.proofs.lemmas.Option.{same_Some}
+use Rattle.std.proofs.lemmas.List.Elements.{All-head, All-push, All-same, All-tail}
+use Rattle.std.proofs.lemmas.Option.{same_Some, slice_get-get_or}
 use Rattle.cal_book.specs.declared.view.Account.{Account}
 use Rattle.cal_channel.proofs.LawLemmas.{taken-later}
 use Rattle.cal_channel.specs.Places.{at_place}
 use Rattle.cal_channel.specs.Values.{ChannelValue}
 use Rattle.cal_closing.proofs.Counting.{share-of}
-use Rattle.cal_closing.specs.Parts.{AreMadeFor, AreOfShape, all_of}
+use Rattle.cal_closing.specs.Parts.{AreMadeFor, AreOfShape, AreTablesOf}
 use Rattle.cal_closing.specs.Seats.{given_by}
 use Rattle.cal_closing.specs.Shares.{AreShares, IsShare}
 use Rattle.cal_delivery.specs.Taken.{HasTrace}
+use Rattle.cal_finish.proofs.LawfulRuns.{at-below}
 use Rattle.cal_finish.specs.Ended.{accounts_at, notes_of}
 use Rattle.cal_handover.specs.Places.{emptied, tables_at}
 use Rattle.cal_keeping.specs.Hands.{AccountOf}
@@ -27,7 +28,7 @@ use Rattle.cal_script.specs.declared.journal.Placed.{Placed}
 use Rattle.cal_script.specs.declared.script.Channel.{Channel}
 use Rattle.cal_script.specs.declared.script.Line.{Line}
 use Rattle.cal_script.specs.declared.script.Script.{Script}
-use Rattle.cal_table.specs.Tables.{Same, TableValue}
+use Rattle.cal_table.specs.Tables.{TableValue}
 use Rattle.cal_table.specs.declared.shape.TableShape.{TableShape}
 use Rattle.cal_tree.specs.declared.tree.Tree.{Tree}
 use Rattle.cal_value.specs.declared.attribute.Attribute.{Attribute}
@@ -41,21 +42,21 @@ there (Some x) is = (x, refl)
 
 -- ---- what tables count
 
--- A table stands for all parts that threads gave, which were made for it, and for what they have
--- left.
-pub record IsCounted (shape : TableShape) (accounts : List AccountOf) (left : List TableValue)
-    (table : TableValue) : Type 0 where
-  pub merged : Same table (all_of shape (given_by accounts ++ left))
+-- Tables are those that threads have left, and behind them one that stands for all parts that they
+-- gave, which were made for it.
+pub record IsCounted (shape : TableShape) (accounts : List AccountOf)
+    (left tables : List TableValue) : Type 0 where
+  pub closed : AreTablesOf shape (given_by accounts) left tables
   pub made : AreMadeFor shape accounts
 
--- and so does each of these, place by place
+-- and so are these, place by place
 pub record AreCounted {P H : Type 0} (account : H → ℕ → AccountOf) (shapes : List TableShape)
-    (runners : List (Runner P H)) (tables : List TableValue) : Type 0 where
+    (runners : List (Runner P H)) (tables : List (List TableValue)) : Type 0 where
   pub many : length tables ≡ length shapes
-  pub each : (place : ℕ) (shape : TableShape) (table : TableValue)
-      → slice_get shapes place ≡ Some shape → slice_get tables place ≡ Some table
+  pub each : (place : ℕ) (shape : TableShape) (own : List TableValue)
+      → slice_get shapes place ≡ Some shape → slice_get tables place ≡ Some own
       → IsCounted shape (accounts_at account place runners) (tables_at place (channels_of runners))
-      table
+      own
 
 -- ---- shares, one more
 
@@ -93,6 +94,26 @@ module _ (attributes : List Attribute) (script : Script) (tree : Tree)
           (subst (λ (x : TableValue). Share account.given x t) (same_Some left l at_l)
           (subst (λ (x : List Rec). Share account.given left x) (same_Some taken t at_t) first))
       each (suc k) a l t at_a at_l at_t = rest.each k a l t at_a at_l at_t
+
+  -- what is left is of the shape
+  left-made : (accounts : List (Account TableValue)) (lefts : List TableValue)
+      (takens : List (List Rec)) → Shares accounts lefts takens → AreOfShape shape lefts
+  left-made accounts lefts takens h k d less =
+      let many = h.lefts_are in
+      let many_takens = h.takens_are in
+      let account = at-below accounts k (omega (arith, less, many)) in
+      let taken = at-below takens k (omega (arith, less, many, many_takens)) in
+      (h.each k account.item (get_or lefts k d) taken.item account.there
+      (slice_get-get_or lefts k d less) taken.there).left_made
+
+  -- and so are all tables of the channel
+  pub tables-made : (accounts : List (Account TableValue)) (lefts tables : List TableValue)
+      (takens : List (List Rec)) → Shares accounts lefts takens
+      → AreTablesOf shape (given_by accounts) lefts tables → AreOfShape shape tables
+  tables-made accounts lefts tables takens h closed =
+      let of : TableValue → Type 0 = λ table. table.shape ≡ shape in
+      All-same of tables (lefts ++ closed.book ∷ []) closed.tables_are
+      (All-push of lefts closed.book (left-made accounts lefts takens h) closed.merged.shape)
 
 -- ---- a channel
 

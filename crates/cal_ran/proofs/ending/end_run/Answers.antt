@@ -29,7 +29,7 @@ end_threads-requires g c =
     let threads = c.requires.handed.parts.threads in
     let law = c.ended_threads_law.ensures in
     let ran = handed-ran c.args.run c.requires.run c.args.handed c.requires.handed
-    c.in_ok-tables.tables.items _ (ap lists_of c.as_mut_slice.ensures.value)
+    (lists_of c.in_ok-tables.tables.items) _ (ap lists_of c.as_mut_slice.ensures.value)
     c.in_ok-tables.ensures.closed in
     record {
       shared = c.requires.run.shared;
@@ -46,7 +46,7 @@ pub returns-clause-ended : goal.returns-clause-ended
 returns-clause-ended g c =
     let run = c.args.run in
     let journal = c.in_ok-journal.journal in
-    let tables = c.in_ok-tables.tables.items in
+    let tables = lists_of c.in_ok-tables.tables.items in
     let lent = ap lists_of c.as_mut_slice.ensures.value in
     let closed = c.in_ok-tables.ensures.closed in
     let valid = c.requires.valid in

@@ -11,7 +11,7 @@ take_rows-requires-clause-taken g c =
     let ended = c.args.self.now in (
       snapshots (script_of ended.shared) ended.journal,
       taken-lent ended _ _ c.requires.ended (ap lists_of c.as_slice.ensures.value)
-          c.as_slice-2.ensures.value,
+          (ap lists_of c.as_slice-2.ensures.value),
     )
 
 pub returns-clause-taken : goal.returns-clause-taken
@@ -20,4 +20,4 @@ returns-clause-taken g c =
     on_ok_weaker c.take_rows.result
     (λ all. all (snapshots (script_of ended.shared) ended.journal)
     (taken-lent ended _ _ c.requires.ended (ap lists_of c.as_slice.ensures.value)
-    c.as_slice-2.ensures.value)) c.take_rows.ensures.taken
+    (ap lists_of c.as_slice-2.ensures.value))) c.take_rows.ensures.taken
