@@ -1,4 +1,4 @@
 mod OnePlace
-mod FromPlace
+pub mod FromPlace
 mod ClosedFrom
 mod LeftBooks
