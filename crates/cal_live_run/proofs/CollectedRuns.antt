@@ -48,7 +48,7 @@ module _ {P Q S : Type 0} (shapes : List TableShape) (run : Run) (is : IsRun run
     channels-are : lent ≡ channels_of has.from
     channels-are = lent_are ∙ ap lists_of has.channels
 
-    -- the tables may take in what is left there
+    -- what is left there may be put beside the tables
     pub gatherable : MayGatherAll h.tables.items lent
     gatherable = subst (λ (cs : List (List ChannelValue)). MayGatherAll h.tables.items cs)
         (sym channels-are)
@@ -98,7 +98,7 @@ module _ {P Q S : Type 0} (shapes : List TableShape) (run : Run) (is : IsRun run
       }
 
       -- and what they have taken is what the plain meaning gives
-      pub collected-taken : (alls : List TableValue) (lent : List (List ChannelValue))
+      pub collected-taken : (alls : List (List TableValue)) (lent : List (List ChannelValue))
           → lent ≡ lists_of h.channels.items → AreGathered h.tables.items lent alls
           → (seat : RowSeat NodeSort) → All (KnowsNodesOf seat) h.threads.items
           → NamesAreApart run.context.attributes (script_of run.shared)

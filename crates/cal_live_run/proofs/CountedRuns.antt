@@ -10,7 +10,6 @@ use Rattle.std.proofs.lemmas.List.Folds.{flat_map-map}
 use Rattle.std.proofs.lemmas.Option.{same_Some, slice_get-get_or, slice_get_within}
 use Rattle.cal_book.specs.Accounts.{ThreadHadTurn}
 use Rattle.cal_channel.specs.Values.{ChannelValue}
-use Rattle.cal_closing.proofs.Rests.{merged-both}
 use Rattle.cal_closing.specs.Parts.{AreMadeFor, AreOfShape, all_of}
 use Rattle.cal_closing.specs.Seats.{given_by}
 use Rattle.cal_collect.specs.Parts.{AreMergesOf, sent_for, tables_for}
@@ -23,9 +22,8 @@ use Rattle.cal_keeping.specs.Hands.{AccountOf}
 use Rattle.cal_keeping.specs.declared.runner.Runner.{Runner}
 use Rattle.cal_live.specs.Sending.{AreMade, IsSendingFor, account_of, sent_by_either, sent_of}
 use Rattle.cal_live.specs.declared.sending.SenderHand.{SenderHand}
-use Rattle.cal_live_run.proofs.LeftParts.{LeaveParts, few-at, made-at}
 use Rattle.cal_live_run.specs.Collected.{HaveSent}
-use Rattle.cal_live_run.specs.Gathering.{AreGathered, MayGather, MayGatherAll}
+use Rattle.cal_live_run.specs.Gathering.{AreGathered, MayGatherAll}
 use Rattle.cal_ran.proofs.Places.{all-lists, channels_of}
 use Rattle.cal_ran.proofs.TakenLines.{GoByRun}
 use Rattle.cal_ran.proofs.TakenShares.{AreCounted, IsCounted}
@@ -99,27 +97,6 @@ module _ {P Q S : Type 0} (shapes : List TableShape) (run : Run) (is : IsRun run
         (λ (r : Runner P (SenderHand Q S)). account_of r.channels.hand place) from
         (λ k d less. made-by k (get_or from k d) (slice_get-get_or from k d less))
 
-    -- what each has left in the channel
-    leave-parts : LeaveParts account_of place shape from
-    leave-parts k r at =
-        let ready = (sent.each k r at).ran.is.ready in
-        let within = slice_get_within shapes place shape at_shape in
-        let long = shapes-long in
-        let many = ready.many in
-        let channel = at-below (script_of run.shared).channels place
-        (omega (arith, within, long)) in
-        let c = at-below r.channels.channels.items place (omega (arith, within, long, many)) in
-        let own_shape : slice_get ready.shapes place ≡ Some shape =
-        ap (λ (some : List TableShape). slice_get some place) (sym ready.takes_them.shapes_are)
-        ∙ at_shape in
-        let each = ready.each place channel.item shape c.item channel.there own_shape c.there in
-        record {
-          c = c.item;
-          channel_at = c.there;
-          made = each.made;
-          few = let few = each.few in omega (arith, few);
-        }
-
     -- what all have given is what they sent
     given-sent : given_by (accounts_at account_of place from) ≡ sent_for place sents
     given-sent =
@@ -138,55 +115,34 @@ module _ {P Q S : Type 0} (shapes : List TableShape) (run : Run) (is : IsRun run
         (sym (given-sent place shape at_shape))
         (merged.each place shape table at_shape at_table)
 
-    may-gather-at : (place : ℕ) (table : TableValue) → slice_get tables place ≡ Some table
-        → MayGather table (tables_at place (channels_of from))
-    may-gather-at place table at =
-        let within = slice_get_within tables place table at in
-        let long = merged.many in
-        let shape = at-below shapes place (omega (arith, within, long)) in
-        let own = table-of place shape.item table shape.there at in
-        let parts = leave-parts place shape.item shape.there in
-        record {
-          made = subst (λ (s : TableShape). AreOfShape s (tables_at place (channels_of from)))
-              (sym own.shape) (made-at account_of place shape.item from parts);
-          few =
-              let few = few-at account_of place shape.item from parts in
-              let is_table = own.snapshots in
-              let few_threads = is.shared.common.runnable.few_threads in
-              let many = sent.many in
-              omega (arith, few, is_table, few_threads, many);
-        }
-
-    -- the tables may take in what is left
+    -- what is left may be put beside the tables
     pub may-gather-all : MayGatherAll tables (channels_of from)
-    may-gather-all = record {
-      channels_are = all-lists (λ (r : Runner P (SenderHand Q S)). r.channels.channels)
-          (λ (own : List ChannelValue). length own ≡ length tables) from
-          (λ k r at. (sent.each k r at).ran.is.ready.many ∙ sym (merged.many ∙ shapes-long));
-      each = may-gather-at;
-    }
+    may-gather-all = all-lists (λ (r : Runner P (SenderHand Q S)). r.channels.channels)
+        (λ (own : List ChannelValue). length own ≡ length tables) from
+        (λ k r at. (sent.each k r at).ran.is.ready.many ∙ sym (merged.many ∙ shapes-long))
 
-    module _ (alls : List TableValue) (gathered : AreGathered tables (channels_of from) alls)
+    module _ (alls : List (List TableValue)) (gathered : AreGathered tables (channels_of from) alls)
       where
-        counted-at : (place : ℕ) (shape : TableShape) (all : TableValue)
-            → slice_get run.shapes.items place ≡ Some shape → slice_get alls place ≡ Some all
+        counted-at : (place : ℕ) (shape : TableShape) (own : List TableValue)
+            → slice_get run.shapes.items place ≡ Some shape → slice_get alls place ≡ Some own
             → IsCounted shape (accounts_at account_of place from)
-            (tables_at place (channels_of from)) all
-        counted-at place shape all at_run at_all =
-            let within = slice_get_within alls place all at_all in
+            (tables_at place (channels_of from)) own
+        counted-at place shape own at_run at_own =
+            let within = slice_get_within alls place own at_own in
             let many = gathered.many in
             let at_shape : slice_get shapes place ≡ Some shape =
             ap (λ (some : List TableShape). slice_get some place) shapes_are ∙ at_run in
             let table = at-below tables place (omega (arith, within, many)) in
             record {
-              merged = merged-both shape (given_by (accounts_at account_of place from))
-                  (tables_at place (channels_of from)) table.item all
-                  (table-of place shape table.item at_shape table.there)
-                  (gathered.each place table.item all table.there at_all);
+              closed = record {
+                book = table.item;
+                tables_are = gathered.each place table.item own table.there at_own;
+                merged = table-of place shape table.item at_shape table.there;
+              };
               made = sent-made place shape at_shape;
             }
 
-        -- and then each counts what the threads sent and have left
+        -- and then those of each place count what the threads sent and have left
         pub all-counted : AreCounted account_of run.shapes.items from alls
         all-counted = record {
           many = gathered.many ∙ merged.many ∙ ap length shapes_are;

@@ -3,10 +3,7 @@ pub mod NextItem
 pub mod HiredSenders
 pub mod Chosen
 pub mod SentRuns
-pub mod OnePlace
-pub mod FromPlace
 pub mod GatheredFrom
 pub mod LeftTables
-pub mod LeftParts
 pub mod CountedRuns
 pub mod CollectedRuns

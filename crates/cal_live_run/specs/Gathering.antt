@@ -6,7 +6,8 @@ use Rattle.cal_table.specs.Tables.{TableValue}
 
 -- each thread has a channel for each table
 abbrev pub MayGatherAll : List TableValue → List (List ChannelValue) → Type 0
-MayGatherAll tables channels = All (λ (own : List ChannelValue). length own ≡ length tables) channels
+MayGatherAll tables channels =
+    All (λ (own : List ChannelValue). length own ≡ length tables) channels
 
 -- for each table there are those that were left in its channel, and behind them itself
 pub record AreGathered (tables : List TableValue) (channels : List (List ChannelValue))

@@ -20,7 +20,7 @@ use cal_value::OutOfMemory;
 use std::alloc::Global;
 use std::sync::Wait;
 
-/// Merges what the threads of a run have left into what was collected of them, and ends the
+/// Puts what the threads of a run have left beside what was collected of them, and ends the
 /// threads. An `Err` is want of memory, and drops all.
 pub(crate) fn end_run<'a, P, Q: Wait, S: Shapes>(
     alloc: Global,

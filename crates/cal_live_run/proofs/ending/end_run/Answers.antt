@@ -60,9 +60,9 @@ returns-clause-ended g c =
           (c.in_ok-journal.ensures.noted ∙ c.requires.collected.notes);
       taken = collected-taken g.S.Shapes.shapes run c.requires.run c.requires.shapes
           c.args.collected c.requires.collected journal c.in_ok-journal.ensures.noted
-          c.in_ok-journal.ensures.known c.in_ok-journal.ensures.begins c.in_ok-alls.alls.items _
-          (ap lists_of c.as_mut_slice.ensures.value) c.in_ok-alls.ensures.gathered _
-          c.in_ok-journal.ensures.joined
+          c.in_ok-journal.ensures.known c.in_ok-journal.ensures.begins
+          (lists_of c.in_ok-alls.alls.items) _ (ap lists_of c.as_mut_slice.ensures.value)
+          c.in_ok-alls.ensures.gathered _ c.in_ok-journal.ensures.joined
           record {
             declared = c.names_law.ensures.declared run.shared.common.script.now valid;
             all = c.names_law.ensures.all run.shared.common.script.now run.context.attributes
