@@ -1,8 +1,10 @@
+//! The splitting of lines of a stream, beside a plain loop over their bytes.
 ghost use Rattle.std.specs.Prelude.{◌≡◌, length, IfOk};
 
 use crate::plain::{NOTHING, Tally, plain_all};
 use anyhow::Result;
-use cal_line::{FieldEnd, FieldPieces, Splitter};
+use cal_line::{FieldEnd, FieldPieces, Piece, Splitter};
+use cal_value::OutOfMemory;
 use std::alloc::Global;
 use std::rt::Clock;
 use std::time::Instant;
@@ -23,20 +25,28 @@ const BYTES: usize = 46_000_000;
 
 /// Times the splitting of 46 MB of lines five times, beside a plain loop over their bytes.
 pub fn measure(rt: &(impl Clock + Print + AllocGlobal)) -> Result<()> {
-    let alloc = rt.alloc();
-    let text = stream(alloc)?;
-    let mut lines = Vec::new(alloc);
-    for line in text.lines() {
-        lines.push(line)?;
-    }
+    let text = stream(rt.alloc())?;
+    let timed = time_text(rt, rt.alloc(), text.as_str());
+    drop(text);
+    timed
+}
+
+fn time_text(rt: &(impl Clock + Print), alloc: Global, text: &str) -> Result<()> {
     println!(rt; "{} bytes", text.len())?;
+    let lines: Vec<&str> = text.lines().collect(alloc)?;
+    let timed = time_rounds(rt, alloc, lines.as_slice());
+    drop(lines);
+    timed
+}
+
+fn time_rounds(rt: &(impl Clock + Print), alloc: Global, lines: &[&str]) -> Result<()> {
     for _round in 0..5 {
-        time_round(rt, alloc, lines.as_slice())?;
+        time_round(rt, alloc, lines)?;
     }
     Ok(())
 }
 
-fn stream(alloc: Global) -> Result<String> {
+fn stream(alloc: Global) -> Result<String, OutOfMemory> {
     let mut text = String::new(alloc);
     for round in 0..BYTES / 56 {
         text.push_str(SAMPLES[round % 8])?;
@@ -45,12 +55,16 @@ fn stream(alloc: Global) -> Result<String> {
     Ok(text)
 }
 
+fn byte_count(alloc: Global, piece: Piece<'_>) -> Result<usize, OutOfMemory> {
+    Ok(piece.text(alloc)?.len())
+}
+
 fn tally_field(alloc: Global, field: &FieldPieces, tally: &mut Tally) -> Result<(), FieldEnd>
     ensures { tally.new.lines ≡ tally.old.lines }
 {
-    let mut bytes = field.key().text(alloc)?.len();
+    let mut bytes = byte_count(alloc, field.key())?;
     for place in 0..field.value_count() {
-        bytes = bytes.wrapping_add(field.value(place).text(alloc)?.len());
+        bytes = bytes.wrapping_add(byte_count(alloc, field.value(place))?);
     }
     tally.pieces = tally.pieces.wrapping_add(field.value_count());
     tally.bytes = tally.bytes.wrapping_add(bytes);
@@ -91,13 +105,23 @@ fn report(rt: &(impl Clock + Print), what: &str, from: Instant, tally: Tally) ->
     Ok(())
 }
 
-fn time_round(rt: &(impl Clock + Print), alloc: Global, lines: &[&str]) -> Result<()> {
+fn time_split(rt: &(impl Clock + Print), alloc: Global, lines: &[&str]) -> Result<Tally> {
     let started = Instant::now(rt)?;
     let split = split_all(alloc, lines)?;
     report(rt, "split", started, split)?;
-    let again = Instant::now(rt)?;
+    Ok(split)
+}
+
+fn time_plain(rt: &(impl Clock + Print), alloc: Global, lines: &[&str]) -> Result<Tally> {
+    let started = Instant::now(rt)?;
     let plain = plain_all(alloc, lines)?;
-    report(rt, "plain", again, plain)?;
+    report(rt, "plain", started, plain)?;
+    Ok(plain)
+}
+
+fn time_round(rt: &(impl Clock + Print), alloc: Global, lines: &[&str]) -> Result<()> {
+    let split = time_split(rt, alloc, lines)?;
+    let plain = time_plain(rt, alloc, lines)?;
     println!(rt; "  the same was seen: {}", split == plain)?;
     Ok(())
 }

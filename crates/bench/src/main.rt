@@ -16,21 +16,33 @@ mod values;
 mod write;
 
 use anyhow::Result;
-use std::rt::Env;
+use std::random::RandomSource;
+use std::rt::{Clock, Env};
+use std::thread::Threads;
+
+fn measure<R>(rt: &R, word: &str) -> Result<()>
+where
+    R: Clock + Print + AllocGlobal + RandomSource + Threads + Sync,
+{
+    match word {
+        "values" => values::measure(rt),
+        "rows" => rows::measure(rt),
+        "tree" => tree::measure(rt),
+        "table" => table::measure(rt),
+        "write" => write::measure(rt),
+        "line" => line::measure(rt),
+        _ => refuse(rt, word),
+    }
+}
+
+fn refuse(rt: &impl Print, word: &str) -> Result<()> {
+    println!(rt; "there is no bench `{word}`: values, rows, tree, table, write or line")?;
+    Ok(())
+}
 
 fn main(rt: HostRuntime) -> Result<()> {
     for word in std::env::args(&rt)?.skip(1) {
-        match word.as_str() {
-            "values" => values::measure(&rt)?,
-            "rows" => rows::measure(&rt)?,
-            "tree" => tree::measure(&rt)?,
-            "table" => table::measure(&rt)?,
-            "write" => write::measure(&rt)?,
-            "line" => line::measure(&rt)?,
-            _ => println!(rt;
-                "there is no bench `{word}`: values, rows, tree, table, write or line"
-            )?,
-        }
+        measure(&rt, word.as_str())?;
     }
     Ok(())
 }

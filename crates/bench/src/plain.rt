@@ -1,3 +1,4 @@
+//! A plain loop over the bytes of lines, to measure their splitting by.
 ghost use Rattle.std.specs.Prelude.{◌≡◌, length, IfOk};
 
 use cal_line::FieldEnd;

@@ -1,3 +1,5 @@
+//! Records to be written.
+
 use anyhow::Result;
 use cal_value::{Attribute, Entry, Kind, Props, Rec, Records, Seq, Text, Variant};
 use std::alloc::Global;
@@ -57,19 +59,32 @@ pub fn in_turn(alloc: Global, one: &Shape, other: &Shape, count: usize) -> Resul
 
 /// A record of this shape; its numbers go by `variant`.
 fn record(alloc: Global, shape: &Shape, variant: usize) -> Result<Rec> {
+    let mut paths = Seq::new(alloc);
+    paths.push(path(alloc, shape)?)?;
+    let imms = results(alloc, shape, variant)?;
+    Ok(Rec { paths, imms })
+}
+
+fn path(alloc: Global, shape: &Shape) -> Result<Seq<Entry>> {
     let mut path = Seq::new(alloc);
-    for name in shape.frames {
-        let value = Variant::Text(Text::from_str(alloc, name)?);
-        path.push(entry(alloc, "function", Kind::Str, 276, value)?)?;
+    for name in shape.frames.iter() {
+        path.push(frame(alloc, name)?)?;
     }
+    Ok(path)
+}
+
+fn frame(alloc: Global, name: &str) -> Result<Entry> {
+    let value = Variant::Text(Text::from_str(alloc, name)?);
+    entry(alloc, "function", Kind::Str, 276, value)
+}
+
+fn results(alloc: Global, shape: &Shape, variant: usize) -> Result<Seq<Entry>> {
     let mut imms = Seq::new(alloc);
     for (place, name) in shape.results.iter().enumerate() {
         let number = 1000i128 * place as i128 + variant as i128;
         imms.push(entry(alloc, name, Kind::Int, 65, Variant::Int(number))?)?;
     }
-    let mut paths = Seq::new(alloc);
-    paths.push(path)?;
-    Ok(Rec { paths, imms })
+    Ok(imms)
 }
 
 fn entry(alloc: Global, name: &str, kind: Kind, props: u32, value: Variant) -> Result<Entry> {

@@ -1,3 +1,4 @@
+//! Inserts into write-once rows, by one seat and by two side by side.
 ghost use Rattle.std.specs.Prelude.{◌≡◌, ◌+◌, ◌^◌, ◌<◌, ◌≤◌, All, length};
 ghost use Rattle.cal_once.specs.Seats.{IsSeatOf, plan_of, view};
 ghost use Rattle.cal_once.specs.Views.{first_seat};
@@ -9,7 +10,7 @@ use cal_words::{NodeId, NodeRec, NodeSort, know_node};
 use std::rt::Clock;
 use std::thread;
 use std::thread::Threads;
-use std::time::Instant;
+use std::time::{Duration, Instant};
 
 /// How many records are put in all, and how many slots there are.
 const RECORDS: u32 = 1_000_000;
@@ -50,19 +51,42 @@ fn alone(rt: &(impl Clock + Print + AllocGlobal)) -> Result<()> {
         arenas: 1,
     };
     let (rows, mut seat) = Rows::new(rt.alloc(), shape, NodeSort)?;
-    let begun = Instant::now(rt)?;
-    fill(&rows, &mut seat, 0, RECORDS);
-    let new = begun.elapsed(rt)?;
-    let begun = Instant::now(rt)?;
-    fill(&rows, &mut seat, 0, RECORDS);
-    let known = begun.elapsed(rt)?;
+    let timed = time_one(rt, &rows, &mut seat);
+    drop(seat);
+    drop(rows);
+    timed
+}
+
+// The records are new in the first round, and known in the second.
+fn time_one(
+    rt: &(impl Clock + Print),
+    rows: &Rows<NodeSort>,
+    seat: &mut RowSeat<NodeSort>,
+) -> Result<()>
+    requires { IsSeatOf rows.now seat.old }
+{
+    let new = time_fill(rt, rows, seat)?;
+    let known = time_fill(rt, rows, seat)?;
     println!(rt;
         "one seat: {} ms for new records, {} ms for known ones, {} filled",
         new.as_millis(),
         known.as_millis(),
-        rows.filled(&mut seat)
+        rows.filled(seat)
     )?;
     Ok(())
+}
+
+fn time_fill(
+    rt: &impl Clock,
+    rows: &Rows<NodeSort>,
+    seat: &mut RowSeat<NodeSort>,
+) -> Result<Duration>
+    requires { IsSeatOf rows.now seat.old }
+    ensures { IsSeatOf rows.now seat.new }
+{
+    let begun = Instant::now(rt)?;
+    fill(rows, seat, 0, RECORDS);
+    Ok(begun.elapsed(rt)?)
 }
 
 #[derive(Drop)]
@@ -81,13 +105,30 @@ fn side_by_side<R: Clock + Print + AllocGlobal + Threads + Sync>(rt: &R) -> Resu
     let one = rows.split(&mut first);
     let two = rows.split(&mut first);
     let mut workers = [Worker { seat: one }, Worker { seat: two }];
+    let timed = time_two(rt, &rows, &mut first, &mut workers);
+    drop(workers);
+    drop(first);
+    drop(rows);
+    timed
+}
+
+fn time_two<R: Clock + Print + Threads + Sync>(
+    rt: &R,
+    rows: &Rows<NodeSort>,
+    first: &mut RowSeat<NodeSort>,
+    workers: &mut [Worker],
+) -> Result<()>
+    requires first { IsSeatOf rows.now first.old }
+    requires seats { All (λ w. IsSeatOf rows.now w.seat) workers.old }
+    requires two { length workers.old ≡ 2 }
+{
     let begun = Instant::now(rt)?;
-    fill_all(rt, &rows, &mut workers);
+    fill_all(rt, rows, workers);
     let new = begun.elapsed(rt)?;
     println!(rt;
         "two seats: {} ms for new records, {} known",
         new.as_millis(),
-        rows.filled(&mut first)
+        rows.filled(first)
     )?;
     Ok(())
 }

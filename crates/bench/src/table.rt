@@ -1,3 +1,4 @@
+//! Snapshots that are added to a table, beside a plain hash map of their keys.
 ghost use Rattle.std.specs.Prelude.{◌≡◌, ◌<◌, IfOk, OnOk, All};
 ghost use Rattle.cal_table.specs.Snapshots.{HasNumberOf64};
 
@@ -21,11 +22,20 @@ pub const SNAPSHOTS: u32 = 1_000_000;
 /// the same snapshots in a plain hash map of keys, in turn.
 pub fn measure(rt: &(impl Clock + Print + AllocGlobal + RandomSource)) -> Result<()> {
     let hashers = RandomState::new(rt)?;
-    for groups in [1_000, 1_000_000] {
-        for _round in 0..3 {
-            by_table(rt, hashers, groups)?;
-            by_map(rt, hashers, groups)?;
-        }
+    time_groups(rt, hashers, 1_000)?;
+    time_groups(rt, hashers, 1_000_000)
+}
+
+fn time_groups(
+    rt: &(impl Clock + Print + AllocGlobal),
+    hashers: RandomState,
+    groups: u32,
+) -> Result<()>
+    requires { 0 < groups }
+{
+    for _round in 0..3 {
+        by_table(rt, hashers, groups)?;
+        by_map(rt, hashers, groups)?;
     }
     Ok(())
 }

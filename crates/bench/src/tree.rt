@@ -1,3 +1,4 @@
+//! Calls for a child of the context tree, by one, two and four seats.
 ghost use Rattle.std.specs.Prelude.{◌≡◌, ◌+◌, ◌^◌, ◌<◌, ◌≤◌, All, IfOk, length, vec_len};
 ghost use Rattle.cal_words.specs.Words.{text_length};
 ghost use Rattle.cal_once.specs.Layout.{IsShape};
@@ -114,10 +115,20 @@ fn time_tree<R: Clock + Print + AllocGlobal + Threads + Sync>(
     requires seats { (0 < task.seats) × (task.seats ≤ 4) × (task.seats < shape.arenas) }
 {
     let (tree, mut first) = Tree::new(rt.alloc(), shape)?;
-    let mut workers = hire(rt.alloc(), &tree, &mut first, task)?;
-    let new = time_all(rt, &tree, workers.as_mut_slice())?;
-    let known = time_all(rt, &tree, workers.as_mut_slice())?;
+    let timed = time_workers(rt, &tree, &mut first, task);
     let nodes = tree.count_nodes(&mut first);
+    drop(first);
+    drop(tree);
+    report(rt, layout, task, nodes, timed?)
+}
+
+fn report(
+    rt: &impl Print,
+    layout: &str,
+    task: Task,
+    nodes: u64,
+    times: (Duration, Duration),
+) -> Result<()> {
     let Task { name, seats, .. } = task;
     let whose = if task.shared {
         "the same nodes"
@@ -126,10 +137,42 @@ fn time_tree<R: Clock + Print + AllocGlobal + Threads + Sync>(
     };
     println!(rt;
         "{name}; {layout}; {seats}; {whose}; {nodes}; {}; {}",
-        new.as_millis(),
-        known.as_millis()
+        times.0.as_millis(),
+        times.1.as_millis()
     )?;
     Ok(())
+}
+
+// How long the workers take to make the nodes, and how long to find them.
+fn time_workers<R: Clock + AllocGlobal + Threads + Sync>(
+    rt: &R,
+    tree: &Tree,
+    first: &mut TreeSeat,
+    task: Task,
+) -> Result<(Duration, Duration)>
+    requires seat { IsTreeSeat tree.now first.old }
+    requires fresh { view first.old ≡ first_seat (plan_of tree.now) }
+    requires seats { (0 < task.seats) × (task.seats ≤ 4)
+        × (task.seats < (plan_of tree.now).shape.arenas) }
+    ensures { IsTreeSeat tree.now first.new }
+{
+    let mut workers = hire(rt.alloc(), tree, first, task)?;
+    let timed = time_twice(rt, tree, workers.as_mut_slice());
+    drop(workers);
+    timed
+}
+
+fn time_twice<R: Clock + Threads + Sync>(
+    rt: &R,
+    tree: &Tree,
+    workers: &mut [Worker],
+) -> Result<(Duration, Duration)>
+    requires workers { All (IsWorker tree.now) workers.old }
+    requires some { 0 < length workers.old }
+{
+    let new = time_all(rt, tree, workers)?;
+    let known = time_all(rt, tree, workers)?;
+    Ok((new, known))
 }
 
 #[derive(Drop)]

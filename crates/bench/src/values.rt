@@ -1,7 +1,8 @@
+//! The reading, printing, comparing and hashing of values of each kind.
 ghost use Rattle.std.specs.Prelude.{◌≡◌, ◌≤◌};
 
 use anyhow::Result;
-use cal_value::{Kind, Text, Variant, parse_value, print_value};
+use cal_value::{Kind, Text, ValueFault, Variant, parse_value, print_value};
 use std::alloc::Global;
 use std::hash::{FoldHasher, Hash, Hasher};
 use std::rt::Clock;
@@ -9,7 +10,10 @@ use std::time::Instant;
 
 const ROUNDS: u64 = 1_000_000;
 
-const SAMPLES: [(&str, &str, &str); 10] = [
+/// The name of a kind, and two values of it.
+type Sample = (&'static str, &'static str, &'static str);
+
+const SAMPLES: [Sample; 10] = [
     ("int", "-1234567", "1234568"),
     ("uint", "18446744073709551615", "42"),
     ("string", "main.cpp", "main.c"),
@@ -26,6 +30,10 @@ const SAMPLES: [(&str, &str, &str); 10] = [
     ),
 ];
 
+fn samples() -> &'static [Sample] {
+    &SAMPLES
+}
+
 /// Times the reading, printing, comparing and hashing of a million values of each kind.
 pub fn measure(rt: &(impl Clock + Print + AllocGlobal)) -> Result<()> {
     println!(rt;
@@ -34,8 +42,8 @@ pub fn measure(rt: &(impl Clock + Print + AllocGlobal)) -> Result<()> {
         size_of::<cal_value::Attribute>(),
         size_of::<cal_value::Entry>()
     )?;
-    for (name, one, other) in SAMPLES {
-        time_kind(rt, rt.alloc(), name, one, other)?;
+    for sample in samples() {
+        time_kind(rt, rt.alloc(), *sample)?;
     }
     Ok(())
 }
@@ -102,25 +110,39 @@ fn report(rt: &(impl Clock + Print), what: &str, from: Instant, check: u64) -> R
     Ok(Instant::now(rt)?)
 }
 
-fn time_kind(
-    rt: &(impl Clock + Print),
-    alloc: Global,
-    name: &str,
-    one: &str,
-    other: &str,
-) -> Result<()> {
+fn time_kind(rt: &(impl Clock + Print), alloc: Global, sample: Sample) -> Result<()> {
+    let (name, one, other) = sample;
     let kind = Kind::from_name(name).unwrap_or(Kind::Usr);
     println!(rt; "{name}, {one} and {other}")?;
+    let parsed = time_parsing(rt, alloc, kind, one, other)?;
+    let (one, other) = both(alloc, kind, one, other)?;
+    let timed = time_values(rt, alloc, &one, &other, parsed);
+    drop(other);
+    drop(one);
+    timed
+}
+
+fn time_parsing(
+    rt: &(impl Clock + Print),
+    alloc: Global,
+    kind: Kind,
+    one: &str,
+    other: &str,
+) -> Result<Instant> {
     let started = Instant::now(rt)?;
     let below = parse_all(alloc, kind, one, other);
-    let parsed = report(rt, "parse", started, below)?;
-    time_values(
-        rt,
-        alloc,
-        &parse_value(alloc, kind, one)?,
-        &parse_value(alloc, kind, other)?,
-        parsed,
-    )
+    report(rt, "parse", started, below)
+}
+
+fn both(
+    alloc: Global,
+    kind: Kind,
+    one: &str,
+    other: &str,
+) -> Result<(Variant, Variant), ValueFault> {
+    let one = parse_value(alloc, kind, one)?;
+    let other = parse_value(alloc, kind, other)?;
+    Ok((one, other))
 }
 
 fn time_values(

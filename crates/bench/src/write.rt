@@ -1,8 +1,9 @@
+//! The writing of records, beside plain copies of their text.
 ghost use Rattle.std.specs.Prelude.{◌≡◌, IfOk};
 ghost use Rattle.cal_write.specs.CanonicalText.{canonical_text};
 
 use crate::copying;
-use crate::records::{self, SOLVING, WRITING};
+use crate::records::{self, SOLVING, Shape, WRITING};
 use anyhow::Result;
 use cal_value::{Records, Text};
 use cal_write::cali_text;
@@ -34,20 +35,34 @@ impl Times {
 
 /// Times the writing of records, beside the copying of their text with escapes.
 pub fn measure(rt: &(impl Clock + Print + AllocGlobal)) -> Result<()> {
-    let alloc = rt.alloc();
-    let alike = records::in_turn(alloc, &SOLVING, &SOLVING, RECORDS)?;
-    report(rt, alloc, "the same attributes", &alike)?;
-    let mixed = records::in_turn(alloc, &SOLVING, &WRITING, RECORDS)?;
-    report(rt, alloc, "attributes in turn", &mixed)
+    time_shapes(rt, rt.alloc(), "the same attributes", &SOLVING)?;
+    time_shapes(rt, rt.alloc(), "attributes in turn", &WRITING)
+}
+
+/// Every second record is of the other shape.
+fn time_shapes(rt: &(impl Clock + Print), alloc: Global, what: &str, other: &Shape) -> Result<()> {
+    let records = records::in_turn(alloc, &SOLVING, other, RECORDS)?;
+    let timed = time_rounds(rt, alloc, what, &records);
+    drop(records);
+    timed
 }
 
 /// Prints the shortest times of some rounds.
-fn report(rt: &(impl Clock + Print), alloc: Global, what: &str, records: &Records) -> Result<()> {
+fn time_rounds(
+    rt: &(impl Clock + Print),
+    alloc: Global,
+    what: &str,
+    records: &Records,
+) -> Result<()> {
     let (mut best, length) = time_round(rt, alloc, records)?;
     for _round in 1..ROUNDS {
         let (times, _length) = time_round(rt, alloc, records)?;
         best = best.least(times);
     }
+    report(rt, what, length, best)
+}
+
+fn report(rt: &impl Print, what: &str, length: usize, best: Times) -> Result<()> {
     let Times {
         written,
         bytes,
@@ -62,19 +77,42 @@ fn report(rt: &(impl Clock + Print), alloc: Global, what: &str, records: &Record
 fn time_round(rt: &impl Clock, alloc: Global, records: &Records) -> Result<(Times, usize)> {
     let start = Instant::now(rt)?;
     let text = written(alloc, records)?;
+    let timed = time_copies(rt, alloc, start, text.as_str());
+    drop(text);
+    timed
+}
+
+/// The copies of a text whose writing began at `start` and has ended now.
+fn time_copies(
+    rt: &impl Clock,
+    alloc: Global,
+    start: Instant,
+    text: &str,
+) -> Result<(Times, usize)> {
     let written = start.elapsed(rt)?;
-    let start = Instant::now(rt)?;
-    let by_bytes = copying::by_bytes(alloc, text.as_str())?;
-    let bytes = start.elapsed(rt)?;
-    let start = Instant::now(rt)?;
-    let through_a_buffer = copying::through_a_buffer(alloc, text.as_str())?;
-    let buffer = start.elapsed(rt)?;
+    let (bytes, copied) = time_by_bytes(rt, alloc, text)?;
+    let (buffer, through) = time_through_a_buffer(rt, alloc, text)?;
     let times = Times {
         written,
         bytes,
         buffer,
     };
-    Ok((times, by_bytes.len().min(through_a_buffer)))
+    Ok((times, copied.min(through)))
+}
+
+fn time_by_bytes(rt: &impl Clock, alloc: Global, text: &str) -> Result<(Duration, usize)> {
+    let start = Instant::now(rt)?;
+    let copied = copying::by_bytes(alloc, text)?;
+    let took = start.elapsed(rt);
+    let length = copied.len();
+    drop(copied);
+    Ok((took?, length))
+}
+
+fn time_through_a_buffer(rt: &impl Clock, alloc: Global, text: &str) -> Result<(Duration, usize)> {
+    let start = Instant::now(rt)?;
+    let through = copying::through_a_buffer(alloc, text)?;
+    Ok((start.elapsed(rt)?, through))
 }
 
 fn written(alloc: Global, records: &Records) -> Result<Text>

@@ -62,28 +62,28 @@ fn input(alloc: Global, text: &str) -> Result<String, AllocError> {
     Ok(whole)
 }
 
-fn is_read(alloc: Global, text: &str) -> Result<bool, AllocError> {
-    let whole = input(alloc, text)?;
-    Ok(read_both(alloc, whole.as_bytes()).is_ok())
-}
-
-fn has_fault(alloc: Global, bytes: &[u8], end: BothEnd) -> bool {
+/// Why an input isn't read, if it isn't.
+fn fault_of(alloc: Global, bytes: &[u8]) -> Option<BothEnd> {
     match read_both(alloc, bytes) {
-        Ok(_) => false,
-        Err(found) => found == end,
+        Ok(both) => {
+            drop(both);
+            None
+        }
+        Err(end) => Some(end),
     }
 }
 
-fn falls(alloc: Global, text: &str, line: u64, kind: JournalKind) -> Result<bool, AllocError> {
+fn fault_behind(alloc: Global, text: &str) -> Result<Option<BothEnd>, AllocError> {
     let whole = input(alloc, text)?;
-    let end = BothEnd::Journal { line, kind };
-    Ok(has_fault(alloc, whole.as_bytes(), end))
+    let fault = fault_of(alloc, whole.as_bytes());
+    drop(whole);
+    Ok(fault)
 }
 
 fn wrong_text(alloc: Global) -> Result<Option<usize>, AllocError> {
     let rows = fine();
     for row in 0..rows.len() {
-        if !is_read(alloc, rows[row])? {
+        if fault_behind(alloc, rows[row])?.is_some() {
             return Ok(Some(row));
         }
     }
@@ -94,7 +94,7 @@ fn wrong_fault(alloc: Global) -> Result<Option<usize>, AllocError> {
     let rows = faults();
     for row in 0..rows.len() {
         let (text, line, kind) = rows[row];
-        if !falls(alloc, text, line, kind)? {
+        if fault_behind(alloc, text)? != Some(BothEnd::Journal { line, kind }) {
             return Ok(Some(row));
         }
     }
@@ -113,10 +113,13 @@ fn the_first_fault_is_told(rt: HostRuntime) {
 
 /// Whether the first fault of an input is told so.
 fn is_told(alloc: Global, bytes: &[u8], wanted: &str) -> Result<bool, OutOfMemory> {
-    let Err(end) = read_both(alloc, bytes) else {
+    let Some(end) = fault_of(alloc, bytes) else {
         return Ok(false);
     };
-    Ok(format!(in alloc; "{end}")?.as_str() == wanted)
+    let told = format!(in alloc; "{end}")?;
+    let is_wanted = told.as_str() == wanted;
+    drop(told);
+    Ok(is_wanted)
 }
 
 /// Inputs whose script is faulty, or whose journal is, and what is told.

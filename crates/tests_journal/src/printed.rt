@@ -1,7 +1,7 @@
 //! A journal that is printed.
 
 use cal_journal::{print_journal, printed_journal_law, read_both};
-use cal_script::Journal;
+use cal_script::JournalText;
 use cal_value::OutOfMemory;
 use std::alloc::Global;
 
@@ -10,19 +10,24 @@ const PRINTED: &str = "journal script\nop 0 1\nop 1 2\nstart 0 -\nline 0 1 done 
     line 1 1 mismatch:3 1 18446744073709551615\nline 1 2 notopen 2 -\nline 1 3 toodeep 2 -\n\
     line 1 4 slotsfull 18446744073709551615 -\nend\n";
 
-fn is_printed(alloc: Global, journal: &Journal) -> Result<bool, OutOfMemory> {
-    let text = print_journal(alloc, journal)?;
-    Ok(text.as_str() == PRINTED)
+fn is_printed(alloc: Global, text: &Option<JournalText>) -> Result<bool, OutOfMemory> {
+    let Some(text) = text else {
+        return Ok(false);
+    };
+    let printed = print_journal(alloc, &text.journal)?;
+    let is_same = printed.as_str() == PRINTED;
+    drop(printed);
+    Ok(is_same)
 }
 
 fn is_printed_as_read(alloc: Global) -> Result<bool, OutOfMemory> {
-    match read_both(alloc, PRINTED.as_bytes()) {
-        Ok((_, text)) => match &text {
-            Some(text) => is_printed(alloc, &text.journal),
-            None => Ok(false),
-        },
-        Err(_) => Ok(false),
-    }
+    let Ok((script, text)) = read_both(alloc, PRINTED.as_bytes()) else {
+        return Ok(false);
+    };
+    let printed = is_printed(alloc, &text);
+    drop(text);
+    drop(script);
+    printed
 }
 
 #[test]

@@ -61,18 +61,21 @@ fn has_marks(marks: &JournalMarks) -> bool {
         && marks.rows.as_slice() == ROWS.as_slice()
 }
 
-fn is_both(script: &Script, text: &JournalText) -> bool {
+fn is_both(script: &Script, text: &Option<JournalText>) -> bool {
+    let Some(text) = text else {
+        return false;
+    };
     script.threads.len() == 2 && has_journal(&text.journal) && has_marks(&text.marks)
 }
 
 fn says_both(alloc: Global) -> bool {
-    match read_both(alloc, BOTH.as_bytes()) {
-        Ok((script, text)) => match &text {
-            Some(text) => is_both(&script, text),
-            None => false,
-        },
-        Err(_) => false,
-    }
+    let Ok((script, text)) = read_both(alloc, BOTH.as_bytes()) else {
+        return false;
+    };
+    let says = is_both(&script, &text);
+    drop(text);
+    drop(script);
+    says
 }
 
 #[test]
@@ -82,10 +85,13 @@ fn a_journal_is_plain_data_with_its_lines(rt: HostRuntime) {
 }
 
 fn says_a_script_alone(alloc: Global) -> bool {
-    match read_both(alloc, b"thread\nsnapshot\n") {
-        Ok((_, text)) => text.is_none(),
-        Err(_) => false,
-    }
+    let Ok((script, text)) = read_both(alloc, b"thread\nsnapshot\n") else {
+        return false;
+    };
+    let alone = text.is_none();
+    drop(text);
+    drop(script);
+    alone
 }
 
 #[test]
