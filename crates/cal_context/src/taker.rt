@@ -10,10 +10,17 @@ use std::marker::Model;
 
 /// Whoever takes snapshots: a writer, a fold, or plain records. After an `Err` nothing is promised
 /// of the taker.
+///
+/// What it takes them for, as a fold its query, stays as it is.
 pub trait Taker {
     ghost use Rattle.std.specs.Prelude.{List};
     ghost use Rattle.cal_value.specs.declared.record.Rec.{Rec};
     ghost use Rattle.cal_context.specs.Tree.{Tree};
+
+    // what it takes records for
+    ghost About: { Type 0 } = { Unit {0} };
+
+    ghost about: { Self → About };
 
     // whether it has taken these records so far, from a context as it stands
     ghost has_taken: { Self → Tree → List Rec → Type 0 };
@@ -21,10 +28,11 @@ pub trait Taker {
     /// Takes the record that a snapshot means in a context.
     fn take(&mut self, context: &Context, snapshot: &Snapshot) -> Result<(), OutOfMemory>
         requires { IsIn context.now snapshot.now }
-        ensures { OnOk result (TakesMore
+        ensures taken { OnOk result (TakesMore
             (has_taken self.old context.now)
             (has_taken self.new context.now)
-            (meaning context.now snapshot.now ∷ [])) };
+            (meaning context.now snapshot.now ∷ [])) }
+        ensures about { OnOk result (about self.new ≡ about self.old) };
 
     // what it has taken stays so while the context grows
     ghost stays: { (taker : Self) (old new : Tree) (rs : List Rec)
@@ -67,6 +75,8 @@ impl Taken {
 }
 
 impl Taker for Taken {
+    ghost about = { λ _. tt };
+
     ghost has_taken = { λ taken _ rs. taken ≡ rs };
 
     ghost stays = { λ taken old new rs is grows. is };
