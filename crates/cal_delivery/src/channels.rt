@@ -57,6 +57,7 @@ pub fn take_rows<T: Taker>(
     ensures seat { IsTreeSeat tree.now seat.new }
     ensures learns { Learns (view seat.old) (view seat.new) }
     ensures grows { Grows context.old context.new }
+    ensures about { OnOk result (T.about taker.new ≡ T.about taker.old) }
 {
     let mut nodes = ContextNodes::new(alloc, tree.shape())?;
     let declared = script.channels.as_slice();
@@ -106,6 +107,7 @@ fn take_channel<T: Taker>(
     ensures learns { Learns (view seat.old) (view seat.new) }
     ensures grows { Grows context.old context.new }
     ensures numbered { AreNumbered tree.now seat.new context.new nodes.new }
+    ensures about { OnOk result (T.about taker.new ≡ T.about taker.old) }
 {
     take_traces(
         alloc, script, channel, place, channels, tree, seat, nodes, context, taker,

@@ -1,5 +1,5 @@
 //! The groups of a channel, from its tables.
-ghost use Rattle.std.specs.Prelude.{[], List, OnOk, if◌then◌else◌};
+ghost use Rattle.std.specs.Prelude.{◌≡◌, [], List, OnOk, if◌then◌else◌};
 ghost use Rattle.cal_channel.specs.Values.{ChannelValue};
 ghost use Rattle.cal_context.specs.Taking.{TakesMore};
 ghost use Rattle.cal_context.specs.Tree.{Grows};
@@ -51,6 +51,7 @@ pub(crate) fn take_groups<T: Taker>(
     ensures learns { Learns (view seat.old) (view seat.new) }
     ensures grows { Grows context.old context.new }
     ensures numbered { AreNumbered tree.now seat.new context.new nodes.new }
+    ensures about { OnOk result (T.about taker.new ≡ T.about taker.old) }
 {
     if !channel.aggregate {
         return Ok(());

@@ -1,5 +1,5 @@
 //! The traces of a channel, thread by thread.
-ghost use Rattle.std.specs.Prelude.{◌<◌, [], List, All, OnOk, if◌then◌else◌, length};
+ghost use Rattle.std.specs.Prelude.{◌≡◌, ◌<◌, [], List, All, OnOk, if◌then◌else◌, length};
 ghost use Rattle.cal_channel.specs.Places.{at_place, lists_of};
 ghost use Rattle.cal_channel.specs.Values.{ChannelValue};
 ghost use Rattle.cal_context.specs.Lists.{IsFront};
@@ -53,6 +53,7 @@ pub(crate) fn take_traces<T: Taker>(
     ensures learns { Learns (view seat.old) (view seat.new) }
     ensures grows { Grows context.old context.new }
     ensures numbered { AreNumbered tree.now seat.new context.new nodes.new }
+    ensures about { OnOk result (T.about taker.new ≡ T.about taker.old) }
 {
     if !channel.trace {
         return Ok(());
@@ -95,6 +96,7 @@ fn take_own_trace<T: Taker>(
     ensures learns { Learns (view seat.old) (view seat.new) }
     ensures grows { Grows context.old context.new }
     ensures numbered { AreNumbered tree.now seat.new context.new nodes.new }
+    ensures about { OnOk result (T.about taker.new ≡ T.about taker.old) }
 {
     match own.trace() {
         Some(trace) => take_trace(alloc, script, trace, tree, seat, nodes, context, taker),

@@ -176,10 +176,11 @@ impl SnapshotFold {
     fn take_plain(&mut self, context: &Context, snapshot: &Snapshot) -> Result<(), OutOfMemory>
         requires within { IsIn context.now snapshot.now }
         requires plain { length self.old.query.lets ≡ 0 }
-        ensures { OnOk result (TakesMore
+        ensures taken { OnOk result (TakesMore
             (HasFolded self.old context.now)
             (HasFolded self.new context.now)
             (meaning context.now snapshot.now ∷ [])) }
+        ensures query { OnOk result (self.new.query ≡ self.old.query) }
     {
         let keeps = self.gate.keeps(context, snapshot)?;
         if !keeps {
@@ -199,10 +200,11 @@ impl SnapshotFold {
     /// Takes a record with the immediates of LET.
     fn take_with_lets(&mut self, context: &Context, snapshot: &Snapshot) -> Result<(), OutOfMemory>
         requires { IsIn context.now snapshot.now }
-        ensures { OnOk result (TakesMore
+        ensures taken { OnOk result (TakesMore
             (HasFolded self.old context.now)
             (HasFolded self.new context.now)
             (meaning context.now snapshot.now ∷ [])) }
+        ensures query { OnOk result (self.new.query ≡ self.old.query) }
     {
         self.gate
             .copy_looked(self.alloc, &self.query, context, snapshot, &mut self.full)?;
@@ -223,8 +225,13 @@ impl SnapshotFold {
 }
 
 impl Taker for SnapshotFold {
+    ghost use Rattle.cal_ql.specs.declared.query.Query.{Query};
     ghost use Rattle.cal_engine.specs.FoldGrows.{HasFolded-stays};
     ghost use Rattle.cal_engine.specs.Standing.{HasFolded};
+
+    ghost About = { Query };
+
+    ghost about = { λ fold. fold.query };
 
     ghost has_taken = { HasFolded };
 

@@ -49,6 +49,7 @@ pub fn take_table_groups<T: Taker>(
         (T.has_taken taker.new context.new)
         (group_records (query_of channel.now) (records_of channel.now keyed))) }
     ensures grows { Grows context.old context.new }
+    ensures about { OnOk result (T.about taker.new ≡ T.about taker.old) }
 {
     let query = channel_query(alloc, channel)?;
     let rows = group_rows(alloc, channel, &query, tables, nodes, context)?;
@@ -123,11 +124,12 @@ fn take_table<T: Taker>(
 ) -> Result<(), OutOfMemory>
     requires columns { AreColumns context.now channel.now.values columns.now }
     requires rows { MayTakeTable nodes.now context.now table.now }
-    ensures { OnOk result ((keyed : List KeyedRow)
+    ensures taken { OnOk result ((keyed : List KeyedRow)
         → TableMeans nodes.now context.now table.now keyed → TakesMore
         (T.has_taken taker.old context.now)
         (T.has_taken taker.new context.now)
         (map (row_record channel.now) keyed)) }
+    ensures about { OnOk result (T.about taker.new ≡ T.about taker.old) }
 {
     let rows = table.rows();
     take_rows(

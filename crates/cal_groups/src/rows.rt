@@ -37,11 +37,12 @@ pub(crate) fn take_rows<T: Taker>(
     requires columns { AreColumns context.now channel.now.values columns.now }
     requires long { length keys.now ≡ length held.now }
     requires rows { MayTake nodes.now context.now (rows_of keys.now held.now) }
-    ensures { OnOk result ((keyed : List KeyedRow) → AllZip (RowMeans nodes.now context.now)
+    ensures taken { OnOk result ((keyed : List KeyedRow) → AllZip (RowMeans nodes.now context.now)
         (rows_of keys.now held.now) keyed → TakesMore
         (T.has_taken taker.old context.now)
         (T.has_taken taker.new context.now)
         (map (row_record channel.now) keyed)) }
+    ensures about { OnOk result (T.about taker.new ≡ T.about taker.old) }
 {
     let numbers = numbers_of_keys(alloc, nodes, keys)?;
     let mut snapshot = Snapshot::new(alloc);

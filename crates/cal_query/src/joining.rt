@@ -154,11 +154,12 @@ pub(crate) fn hand_on<T: Taker>(
 ) -> Result<(), OutOfMemory>
     requires kept { All (IsIn context.now) kept.items }
     requires globals { All (λ i. i.attribute.0 < length context.now.attributes) globals.items }
-    ensures { OnOk result (TakesMore
+    ensures taken { OnOk result (TakesMore
         (T.has_taken taker.old context.now)
         (T.has_taken taker.new context.now)
         (map (with_entries (map (entry_of context.now) globals.items))
         (map (meaning context.now) kept.items))) }
+    ensures about { OnOk result (T.about taker.new ≡ T.about taker.old) }
 {
     for snapshot in kept {
         hand_on_one(context, snapshot, &mut globals, taker)?;
@@ -181,6 +182,7 @@ fn hand_on_one<T: Taker>(
         (T.has_taken taker.new context.now)
         (with_entries (map (entry_of context.now) globals.old.items)
         (meaning context.now snapshot) ∷ [])) }
+    ensures about { OnOk result (T.about taker.new ≡ T.about taker.old) }
 {
     hand_on_lent(context, &mut snapshot, globals, taker)
 }
@@ -200,6 +202,7 @@ fn hand_on_lent<T: Taker>(
         (T.has_taken taker.new context.now)
         (with_entries (map (entry_of context.now) globals.old.items)
         (meaning context.now snapshot.old) ∷ [])) }
+    ensures about { OnOk result (T.about taker.new ≡ T.about taker.old) }
 {
     let own = snapshot.imms.len();
     snapshot.imms.append(globals)?;

@@ -1,4 +1,4 @@
-ghost use Rattle.std.specs.Prelude.{true, false, [], map, IfOk, IfErr, OnOk};
+ghost use Rattle.std.specs.Prelude.{◌≡◌, true, false, [], map, IfOk, IfErr, OnOk};
 ghost use Rattle.std.specs.List.{All};
 ghost use Rattle.cal_base.specs.Change.{change_of};
 ghost use Rattle.cal_context.specs.Snapshots.{IsIn, meaning};
@@ -127,11 +127,12 @@ fn hand_on_joined<T: Taker>(
 ) -> Result<(), OutOfMemory>
     requires kept { All (IsIn context.now) kept.items }
     requires globals { IsIn context.now globals.now }
-    ensures { OnOk result (TakesMore
+    ensures taken { OnOk result (TakesMore
         (T.has_taken taker.old context.now)
         (T.has_taken taker.new context.now)
         (map (with_entries (flat (meaning context.now globals.now)))
         (map (meaning context.now) kept.items))) }
+    ensures about { OnOk result (T.about taker.new ≡ T.about taker.old) }
 {
     let joined = all_immediates(alloc, context, globals)?;
     hand_on(context, kept, joined, taker)

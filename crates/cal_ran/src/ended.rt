@@ -45,6 +45,7 @@ impl<'a> EndedRun<'a> {
           context = self.new.context;
           tree = self.new.tree;
         } }
+        ensures about { OnOk result (T.about taker.new ≡ T.about taker.old) }
     {
         take_rows(
             alloc,

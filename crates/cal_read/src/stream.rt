@@ -1,4 +1,4 @@
-ghost use Rattle.std.specs.Prelude.{◌≡◌, List, IfOk};
+ghost use Rattle.std.specs.Prelude.{OnOk, ◌≡◌, List, IfOk};
 ghost use Rattle.cal_context.specs.Tree.{Grows};
 ghost use Rattle.cal_line.specs.declared.field.Field.{Field};
 ghost use Rattle.cal_read.specs.Lines.{bytes_in};
@@ -64,6 +64,7 @@ impl Stream {
         ensures read { ReadsBy (λ s. streams.line_step s (bytes_in line.entry))
             (standing T.has_taken context.old self.old taker.old)
             (standing T.has_taken context.new self.new taker.new) result }
+        ensures about { OnOk result (T.about taker.new ≡ T.about taker.old) }
     {
         match line {
             Line::Bytes(line) => self.read_bytes(alloc, splitter, line, context, taker),
@@ -85,6 +86,7 @@ impl Stream {
         ensures read { IfOk result (ReadsFront text.now
             (standing T.has_taken context.now self.old taker.old)
             (standing T.has_taken context.now self.new taker.new)) }
+        ensures about { OnOk result (T.about taker.new ≡ T.about taker.old) }
     {
         let Ok(end) = read_front_row(
             alloc,
@@ -117,6 +119,7 @@ impl Stream {
         ensures read { ReadsBy (λ s. streams.line_step s line.now)
             (standing T.has_taken context.old self.old taker.old)
             (standing T.has_taken context.new self.new taker.new) result }
+        ensures about { OnOk result (T.about taker.new ≡ T.about taker.old) }
     {
         match std::str::from_utf8(line) {
             Ok(text) => self.read_str(alloc, splitter, text, context, taker),
@@ -138,6 +141,7 @@ impl Stream {
         ensures read { ReadsBy (λ s. streams.line_step s line.now)
             (standing T.has_taken context.old self.old taker.old)
             (standing T.has_taken context.new self.new taker.new) result }
+        ensures about { OnOk result (T.about taker.new ≡ T.about taker.old) }
     {
         if line.is_empty() {
             return Ok(());
@@ -159,6 +163,7 @@ impl Stream {
         ensures read { ReadsBy (λ s. streams.step_by_list s line.now)
             (standing T.has_taken context.old self.old taker.old)
             (standing T.has_taken context.new self.new taker.new) result }
+        ensures about { OnOk result (T.about taker.new ≡ T.about taker.old) }
     {
         match read_usual_row(
             alloc,
@@ -187,6 +192,7 @@ impl Stream {
         ensures read { ReadsBy (λ s. streams.step_by_list s line.now)
             (standing T.has_taken context.old self.old taker.old)
             (standing T.has_taken context.new self.new taker.new) result }
+        ensures about { OnOk result (T.about taker.new ≡ T.about taker.old) }
     {
         match usual_node(line) {
             Ok(node) => {
@@ -218,6 +224,7 @@ impl Stream {
         ensures read { ReadsBy (λ s. streams.step_by_list s line.now)
             (standing T.has_taken context.old self.old taker.old)
             (standing T.has_taken context.new self.new taker.new) result }
+        ensures about { OnOk result (T.about taker.new ≡ T.about taker.old) }
     {
         match splitter.split(line) {
             Ok(fields) => self.read_fields(alloc, &fields, context, taker),
@@ -238,6 +245,7 @@ impl Stream {
         ensures read { ReadsBy (λ s. streams.step_by_fields s fields.now)
             (standing T.has_taken context.old self.old taker.old)
             (standing T.has_taken context.new self.new taker.new) result }
+        ensures about { OnOk result (T.about taker.new ≡ T.about taker.old) }
     {
         if repeats_key(alloc, context.seeds(), fields)? {
             return Err(LineEnd::Bad(StreamKind::BadField));
@@ -261,6 +269,7 @@ impl Stream {
         ensures read { ReadsBy (λ s. streams.step_by_sort s fields.now Sort.OfRow)
             (standing T.has_taken context.now self.old taker.old)
             (standing T.has_taken context.now self.new taker.new) result }
+        ensures about { OnOk result (T.about taker.new ≡ T.about taker.old) }
     {
         read_record(
             alloc,

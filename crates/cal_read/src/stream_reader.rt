@@ -73,6 +73,7 @@ impl StreamReader {
             → IsRefusalOf (ended_lines (bytes ++ piece.now)) end) }
         ensures refused { IfErr result (IsRefused self.new) }
         ensures again { (end : StreamEnd) → IsRefused self.old end → result ≡ Err end }
+        ensures about { OnOk result (T.about taker.new ≡ T.about taker.old) }
     {
         if let Some(end) = self.refused {
             return Err(end);
@@ -105,6 +106,7 @@ impl StreamReader {
             → IsRefusalOf (lines_of bytes) end) }
         ensures refused { IfErr result (IsRefused self.new) }
         ensures again { (end : StreamEnd) → IsRefused self.old end → result ≡ Err end }
+        ensures about { OnOk result (T.about taker.new ≡ T.about taker.old) }
     {
         if let Some(end) = self.refused {
             return Err(end);
@@ -138,6 +140,7 @@ impl StreamReader {
             bytes (bytes ++ piece.now)) }
         ensures fault { IfErr result (λ end. (bytes : List ℕ) → HasRead self.old context.old bytes
             → IsRefusalOf (ended_lines (bytes ++ piece.now)) end) }
+        ensures about { OnOk result (T.about taker.new ≡ T.about taker.old) }
     {
         let mut rest = Line::of(piece);
         while let Some((line, after)) = rest.ended() {
@@ -161,6 +164,7 @@ impl StreamReader {
             (T.has_taken taker.new context.now) self.old self.new context.now
             (bytes_in all.entry) (bytes_in rest)) }
         ensures memory { IfErr result (λ end. end ≡ StreamEnd.OutOfMemory) }
+        ensures about { OnOk result (T.about taker.new ≡ T.about taker.old) }
     {
         let mut rest = all;
         while let Some(after) = self.end_row(rest, context, taker)? {
@@ -185,6 +189,7 @@ impl StreamReader {
             (T.has_taken taker.new context.now) self.old self.new context.now
             (bytes_in all.entry) (rest_in all.entry next)) }
         ensures memory { IfErr result (λ end. end ≡ StreamEnd.OutOfMemory) }
+        ensures about { OnOk result (T.about taker.new ≡ T.about taker.old) }
     {
         let Line::Text(text) = all else {
             return Ok(None);
@@ -214,6 +219,7 @@ impl StreamReader {
             bytes) }
         ensures fault { IfErr result (λ end. (bytes : List ℕ) → HasRead self.old context.old bytes
             → IsRefusalOf (lines_of bytes) end) }
+        ensures about { OnOk result (T.about taker.new ≡ T.about taker.old) }
     {
         if self.begun.as_slice().is_empty() {
             return Ok(());
@@ -250,6 +256,7 @@ impl StreamReader {
             bytes ((bytes ++ bytes_in part.entry) ++ 10 ∷ [])) }
         ensures fault { IfErr result (λ end. (bytes : List ℕ) → HasRead self.old context.old bytes
             → IsRefusalOf (ended_lines ((bytes ++ bytes_in part.entry) ++ 10 ∷ [])) end) }
+        ensures about { OnOk result (T.about taker.new ≡ T.about taker.old) }
     {
         if self.begun.as_slice().is_empty() {
             return self.read_line(part, context, taker);
@@ -270,6 +277,7 @@ impl StreamReader {
             bytes (bytes ++ 10 ∷ [])) }
         ensures fault { IfErr result (λ end. (bytes : List ℕ) → HasRead self.old context.old bytes
             → IsRefusalOf (ended_lines (bytes ++ 10 ∷ [])) end) }
+        ensures about { OnOk result (T.about taker.new ≡ T.about taker.old) }
     {
         let line = mem::replace(&mut self.begun, Vec::new(self.alloc));
         self.read_line(Line::Bytes(line.as_slice()), context, taker)?;
@@ -298,6 +306,7 @@ impl StreamReader {
             bytes ((bytes ++ bytes_in line.entry) ++ 10 ∷ [])) }
         ensures fault { IfErr result (λ end. (bytes : List ℕ) → HasRead self.old context.old bytes
             → IsRefusalOf (ended_lines ((bytes ++ bytes_in line.entry) ++ 10 ∷ [])) end) }
+        ensures about { OnOk result (T.about taker.new ≡ T.about taker.old) }
     {
         if self.lines == u64::MAX {
             return Err(StreamEnd::OutOfMemory);

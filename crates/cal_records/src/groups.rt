@@ -53,6 +53,7 @@ pub(crate) fn take_groups<T: Taker>(
     ensures counted { IfNone journal.entry
         (IfOk result (λ counted. is_some counted ≡ channel.now.aggregate)) }
     ensures grows { Grows context.old context.new }
+    ensures about { OnOk result (T.about taker.new ≡ T.about taker.old) }
 {
     if !channel.aggregate {
         return Ok(None);
@@ -86,6 +87,7 @@ fn take_query<T: Taker>(
     ensures refused { IfOk result (CountsRefused script.now) }
     ensures counted { IfNone journal.entry (IfOk result (λ counted. is_some counted ≡ true)) }
     ensures grows { Grows context.old context.new }
+    ensures about { OnOk result (T.about taker.new ≡ T.about taker.old) }
 {
     let (rows, refused) = group_rows(alloc, script, journal, channel, query, numbers, context)?;
     take_grouped_rows(alloc, &rows, query.aggs.as_slice(), context, taker)?;
@@ -161,11 +163,12 @@ pub fn take_grouped_rows<T: Taker>(
     context: &Context,
     taker: &mut T,
 ) -> Result<(), OutOfMemory>
-    ensures { OnOk result ((rs : List ARecord)
+    ensures taken { OnOk result ((rs : List ARecord)
         → MakesRows context.now aggs.now rows.now rs → TakesMore
         (T.has_taken taker.old context.now)
         (T.has_taken taker.new context.now)
         (sorted (rows_cmp aggs.now) rs)) }
+    ensures about { OnOk result (T.about taker.new ≡ T.about taker.old) }
 {
     let order = sorted_by_group(alloc, context, aggs, rows)?;
     take_rows(alloc, rows, order.as_slice(), context, taker)
@@ -179,11 +182,12 @@ fn take_rows<T: Taker>(
     context: &Context,
     taker: &mut T,
 ) -> Result<(), OutOfMemory>
-    ensures { OnOk result ((aggs : List AnAgg) (rs : List ARecord)
+    ensures taken { OnOk result ((aggs : List AnAgg) (rs : List ARecord)
         → MakesRows context.now aggs rows.now rs → TakesMore
         (T.has_taken taker.old context.now)
         (T.has_taken taker.new context.now)
         (map (nth_row rs) order.now)) }
+    ensures about { OnOk result (T.about taker.new ≡ T.about taker.old) }
 {
     let mut row = Snapshot::new(alloc);
     for number in order {

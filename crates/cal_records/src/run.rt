@@ -38,6 +38,7 @@ pub fn take_run<T: Taker>(
         (T.has_taken taker.new context.new)
         (run_rows script.now journal.now)) }
     ensures grows { Grows context.old context.new }
+    ensures about { OnOk result (T.about taker.new ≡ T.about taker.old) }
 {
     for channel in script.channels.as_slice() {
         take_rows_of(
@@ -72,6 +73,7 @@ pub fn take_plain_run<T: Taker>(
     ensures refused { IfOk result (CountsRefused script.now) }
     ensures counted { IfOk result (IsCounted script.now) }
     ensures grows { Grows context.old context.new }
+    ensures about { OnOk result (T.about taker.new ≡ T.about taker.old) }
 {
     let mut refused = None;
     for channel in script.channels.as_slice() {
@@ -117,6 +119,7 @@ fn take_rows_of<T: Taker>(
     ensures counted { IfNone journal.entry
         (IfOk result (λ counted. is_some counted ≡ is_kept channel.now)) }
     ensures grows { Grows context.old context.new }
+    ensures about { OnOk result (T.about taker.new ≡ T.about taker.old) }
 {
     let traced = take_trace(alloc, script, journal, channel, numbers, context, taker)?;
     let grouped = take_groups(alloc, script, journal, channel, numbers, context, taker)?;
@@ -144,6 +147,7 @@ fn take_trace<T: Taker>(
     ensures counted { IfNone journal.entry
         (IfOk result (λ counted. is_some counted ≡ channel.now.trace)) }
     ensures grows { Grows context.old context.new }
+    ensures about { OnOk result (T.about taker.new ≡ T.about taker.old) }
 {
     if !channel.trace {
         return Ok(None);
@@ -173,6 +177,7 @@ pub(crate) fn take_snapshots<T: Taker>(
     ensures refused { IfOk result (CountsRefused script.now) }
     ensures counted { IfNone journal.entry (IfOk result (λ counted. is_some counted ≡ true)) }
     ensures grows { Grows context.old context.new }
+    ensures about { OnOk result (T.about taker.new ≡ T.about taker.old) }
 {
     match journal {
         Some(journal) => {

@@ -47,6 +47,7 @@ pub fn take_trace<T: Taker>(
     ensures attributes { context.new.attributes ≡ context.old.attributes }
     ensures numbered { AreNumbered tree.now seat.new context.new nodes.new }
     ensures keeps { KeepsNumbers nodes.old nodes.new }
+    ensures about { OnOk result (T.about taker.new ≡ T.about taker.old) }
 {
     let mut snapshot = Snapshot::new(alloc);
     for place in 0..trace.len() {

@@ -93,6 +93,7 @@ impl Behind {
         ensures before { OnOk result (self.new.before
             ≡ before_after script.now self.old.before line) }
         ensures grows { Grows context.old context.new }
+        ensures about { OnOk result (T.about taker.new ≡ T.about taker.old) }
     {
         match line {
             Line::Begin { .. } => self.step(
@@ -146,6 +147,7 @@ impl Behind {
         ensures before { OnOk result (self.new.before
             ≡ before_after script.now self.old.before line) }
         ensures grows { Grows context.old context.new }
+        ensures about { OnOk result (T.about taker.new ≡ T.about taker.old) }
     {
         let shared = is_placed(script, line, history);
         let first = seen_first(shared, self.before, self.thread.process.count);

@@ -54,6 +54,7 @@ pub(crate) fn run_line<T: Taker>(
         ≡ seen_before script.now history.now line note) }
     ensures timed { OnOk result (thread.new.timed ≡ thread.old.timed) }
     ensures grows { Grows context.old context.new }
+    ensures about { OnOk result (T.about taker.new ≡ T.about taker.old) }
 {
     let shared = is_process_line(script, line);
     let seen = seen_before(shared, note);
@@ -102,6 +103,7 @@ pub(crate) fn run_known<T: Taker>(
     ensures process { OnOk result (thread.new.process ≡ thread.old.process) }
     ensures timed { OnOk result (thread.new.timed ≡ thread.old.timed) }
     ensures grows { Grows context.old context.new }
+    ensures about { OnOk result (T.about taker.new ≡ T.about taker.old) }
 {
     let _ = history;
     if !accepted {
@@ -169,6 +171,7 @@ fn hand_on<T: Taker>(
     ensures previous { OnOk result (thread.new.previous
         ≡ (if channel.now.timer && takes script.now channel.now line
         then unwrap_or note.reading 0 else thread.old.previous)) }
+    ensures about { OnOk result (T.about taker.new ≡ T.about taker.old) }
 {
     if !takes(script, channel, line) {
         return Ok(());

@@ -46,6 +46,7 @@ pub fn take_plain_channel<T: Taker>(
         (snapshots script.now (plain script.now) channel.now)) }
     ensures refused { IfOk result (λ refused. refused ≡ refused_in (plain script.now).threads) }
     ensures grows { Grows context.old context.new }
+    ensures about { OnOk result (T.about taker.new ≡ T.about taker.old) }
 {
     let mut drafts = Drafts::new(alloc);
     let history = plain_history(alloc, script)?;
@@ -97,6 +98,7 @@ fn run_behind<T: Taker>(
         (taken_behind script.now channel.now before 0 at_start 0 lines.now)) }
     ensures ended { IfOk result (HasRun script.now before lines.now) }
     ensures grows { Grows context.old context.new }
+    ensures about { OnOk result (T.about taker.new ≡ T.about taker.old) }
 {
     let mut behind = Behind::new(alloc, script, before, channel.timer);
     let mut refused = 0;

@@ -38,6 +38,7 @@ pub fn take_channel<T: Taker>(
         (T.has_taken taker.new context.new)
         (snapshots script.now journal.now channel.now)) }
     ensures grows { Grows context.old context.new }
+    ensures about { OnOk result (T.about taker.new ≡ T.about taker.old) }
 {
     let mut drafts = Drafts::new(alloc);
     let threads = script.threads.as_slice();
@@ -87,6 +88,7 @@ fn take_thread<T: Taker>(
         (T.has_taken taker.new context.new)
         (taken_by_thread script.now history.now channel.now (lines.now, note.now))) }
     ensures grows { Grows context.old context.new }
+    ensures about { OnOk result (T.about taker.new ≡ T.about taker.old) }
 {
     let start = note.start.unwrap_or(0);
     let notes = note.lines.as_slice();

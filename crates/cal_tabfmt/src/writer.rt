@@ -62,6 +62,8 @@ impl Taker for ExpandWriter {
     ghost use Rattle.cal_tabfmt.specs.Writer.{HasTaken};
     ghost use Rattle.cal_tabfmt.specs.WriterGrows.{HasTaken-stays};
 
+    ghost about = { λ _. tt };
+
     ghost has_taken = { HasTaken };
 
     /// Writes the next record's line. After an `Err` nothing is promised of the writer.

@@ -96,6 +96,8 @@ impl Measurer {
 impl Taker for Measurer {
     ghost use Rattle.cal_write.specs.Measuring.{HasMeasured, HasMeasured-stays};
 
+    ghost about = { λ _. tt };
+
     ghost has_taken = { HasMeasured };
 
     /// Counts the next row.

@@ -109,6 +109,8 @@ impl Taker for Writer {
     ghost use Rattle.cal_write.specs.Writer.{HasTaken, IsRefused};
     ghost use Rattle.cal_write.specs.WriterGrows.{HasTaken-stays};
 
+    ghost about = { λ _. tt };
+
     ghost has_taken = { HasTaken };
 
     /// Writes the next record. After an `Err` the writer refuses.
