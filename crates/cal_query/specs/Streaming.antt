@@ -1,5 +1,5 @@
 -- A reader at work on an input (private).
-use Rattle.std.specs.Prelude.{◌≡◌, ℕ, List, ◌++◌, Option, None, Some}
+use Rattle.std.specs.Prelude.{◌≡◌, ℕ, List, ◌++◌, Option, None, Some, IfNone}
 use Rattle.cal_context.specs.Snapshots.{IsIn, meaning}
 use Rattle.cal_context.specs.Tree.{Tree}
 use Rattle.cal_context.specs.declared.snapshot.Snapshot.{Snapshot}
@@ -33,6 +33,10 @@ module _ {T : Type 0} (has_taken : T → Tree → List Rec → Type 0) where
     pub rows : has_taken f.taker f.context stream.rows
     pub within : IsIn f.context f.globals
     pub globals : meaning f.context f.globals ≡ stream.globals
+
+-- where no fault was met, the taker is about this
+abbrev pub IsAbout : {T About : Type 0} → (T → About) → Streaming T → About → Type 0
+IsAbout about s what = IfNone s.fault (about s.taker ≡ what)
 
 -- a reader that has read to the end, with the globals there
 abbrev pub finished : {T : Type 0} → Streaming T → Snapshot → Finished T

@@ -10,7 +10,7 @@ ghost use Rattle.cal_query.specs.Seeing.{SeesRows};
 ghost use Rattle.cal_query.specs.declared.end.RowsEnd.TheVariants as ends;
 
 use crate::RowsEnd;
-use crate::folding::{answer_over, new_fold};
+use crate::folding::new_fold;
 use crate::layout::lay_out;
 use crate::seeing::{Seen, see_rows};
 use cal_base::Source;
@@ -126,5 +126,5 @@ fn find_answer<S: Source>(
     let Seen { context, taker } = new_fold(alloc, seeds, query)?;
     let seen = see_rows(alloc, input, limit, join, context, taker)?;
     let Seen { context, taker } = seen;
-    Ok(answer_over(taker, context, query)?)
+    Ok(taker.finish(context)?)
 }

@@ -11,7 +11,7 @@ ghost use Rattle.cal_query.specs.Layout.{LaysOutWhere, StopsRows};
 ghost use Rattle.cal_query.specs.Seeing.{SeesRows};
 
 use crate::answering::{is_plain, lay_out_found};
-use crate::folding::{answer_over, new_fold};
+use crate::folding::new_fold;
 use crate::guarded::Guarded;
 use crate::seeing::{Seen, see_rows};
 use crate::{Guard, RowsEnd};
@@ -114,5 +114,5 @@ fn answer_where<S: Source, K: Guard + Drop>(
     let Seen { context, taker } = seen;
     let Guarded { guard, taker } = taker;
     drop(guard);
-    Ok(answer_over(taker, context, query)?)
+    Ok(taker.finish(context)?)
 }

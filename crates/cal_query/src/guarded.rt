@@ -13,6 +13,10 @@ pub(crate) struct Guarded<K: Drop, T: Drop> {
 impl<K: Guard + Drop, T: Taker + Drop> Taker for Guarded<K, T> {
     ghost use Rattle.cal_query.specs.Guarding.{HasLetThrough, HasLetThrough-stays};
 
+    ghost About = { T.About };
+
+    ghost about = { λ guarded. T.about guarded.taker };
+
     ghost has_taken = { HasLetThrough K.conditions K.answers_in T.has_taken };
 
     ghost stays = { HasLetThrough-stays K.conditions K.answers_in T.has_taken K.keeps_on T.stays };

@@ -22,7 +22,8 @@ pub(crate) struct Kept<T: Drop> {
 impl<T: Taker + Drop> Kept<T> {
     /// No row, for a taker that has taken none. It takes no memory.
     pub fn new(alloc: Global, waiting: T) -> Kept<T>
-        ensures { (t : Tree) → T.has_taken waiting t [] → HasKept T.has_taken result t [] }
+        ensures taken { (t : Tree) → T.has_taken waiting t [] → HasKept T.has_taken result t [] }
+        ensures about { T.about result.waiting ≡ T.about waiting }
     {
         Kept {
             alloc,
@@ -34,6 +35,10 @@ impl<T: Taker + Drop> Kept<T> {
 
 impl<T: Taker + Drop> Taker for Kept<T> {
     ghost use Rattle.cal_query.specs.Keeping.{HasKept, HasKept-stays};
+
+    ghost About = { T.About };
+
+    ghost about = { λ kept. T.about kept.waiting };
 
     ghost has_taken = { HasKept T.has_taken };
 

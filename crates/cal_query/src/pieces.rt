@@ -16,12 +16,19 @@ pub(crate) trait Fed {
     /// Whether these bytes are what it has been fed.
     ghost has_read: { Self → List ℕ → Type 0 };
 
+    /// What it is for, and whether it is for that.
+    ghost About: { Type 0 };
+
+    ghost is_about: { Self → About → Type 0 };
+
     /// Takes the next bytes. After an `Err` nothing is promised of it.
     fn feed(&mut self, piece: &[u8]) -> Result<(), OutOfMemory>
         requires { is_ready self.old }
         ensures ready { OnOk result (is_ready self.new) }
         ensures read { OnOk result ((front : List ℕ)
-            → has_read self.old front → has_read self.new (front ++ piece.now)) };
+            → has_read self.old front → has_read self.new (front ++ piece.now)) }
+        ensures about { OnOk result ((what : About) → is_about self.old what
+            → is_about self.new what) };
 }
 
 /// How many bytes are asked for at once.
@@ -42,6 +49,8 @@ pub(crate) fn feed_all<S: Source, F: Fed>(
     ensures all { OnOk result ((bytes : List ℕ)
         × ReadsAll limit (change_of S.left S.faults input.old input.new) bytes
         × ((front : List ℕ) → F.has_read fed.old front → F.has_read fed.new (front ++ bytes))) }
+    ensures about { OnOk result ((what : F.About) → F.is_about fed.old what
+        → F.is_about fed.new what) }
 
     // Why it isn't read to its end, and how much was taken then.
     ensures refused { IfErr result (λ end.
@@ -64,6 +73,8 @@ fn feed_through<S: Source, F: Fed>(
     ensures all { OnOk result ((bytes : List ℕ)
         × ReadsAll limit (change_of S.left S.faults input.old input.new) bytes
         × ((front : List ℕ) → F.has_read fed.old front → F.has_read fed.new (front ++ bytes))) }
+    ensures about { OnOk result ((what : F.About) → F.is_about fed.old what
+        → F.is_about fed.new what) }
     ensures refused { IfErr result (λ end.
         StopsAt end limit (change_of S.left S.faults input.old input.new)) }
 {

@@ -38,6 +38,7 @@ pub(crate) fn see_rows<S: Source, T: Taker + Drop>(
     ensures taken { IfOk result (λ seen.
         SeesRows join limit (change_of S.left S.faults input.old input.new)
         (HasSeen T.has_taken seen)) }
+    ensures about { IfOk result (λ seen. T.about seen.taker ≡ T.about taker) }
     ensures refused { IfErr result (λ end.
         StopsRows end limit (change_of S.left S.faults input.old input.new)) }
 {
@@ -60,6 +61,7 @@ fn see_plain<S: Source, T: Taker + Drop>(
     ensures taken { IfOk result (λ seen.
         SeesRows false limit (change_of S.left S.faults input.old input.new)
         (HasSeen T.has_taken seen)) }
+    ensures about { IfOk result (λ seen. T.about seen.taker ≡ T.about taker) }
     ensures refused { IfErr result (λ end.
         StopsRows end limit (change_of S.left S.faults input.old input.new)) }
 {
@@ -82,6 +84,7 @@ fn see_joined<S: Source, T: Taker + Drop>(
     ensures taken { IfOk result (λ seen.
         SeesRows true limit (change_of S.left S.faults input.old input.new)
         (HasSeen T.has_taken seen)) }
+    ensures about { IfOk result (λ seen. T.about seen.taker ≡ T.about taker) }
     ensures refused { IfErr result (λ end.
         StopsRows end limit (change_of S.left S.faults input.old input.new)) }
 {
@@ -93,11 +96,12 @@ fn see_joined<S: Source, T: Taker + Drop>(
 fn join<T: Taker + Drop>(alloc: Global, read: Finished<Kept<T>>) -> Result<Seen<T>, OutOfMemory>
     requires kept { All (IsIn read.context) read.taker.snapshots.items }
     requires globals { IsIn read.context read.globals }
-    ensures { IfOk result (λ seen. TakesMore
+    ensures taken { IfOk result (λ seen. TakesMore
         (T.has_taken read.taker.waiting read.context)
         (T.has_taken seen.taker seen.context)
         (map (with_entries (flat (meaning read.context read.globals)))
         (map (meaning read.context) read.taker.snapshots.items))) }
+    ensures about { IfOk result (λ seen. T.about seen.taker ≡ T.about read.taker.waiting) }
 {
     let Finished {
         context,

@@ -1,8 +1,8 @@
-ghost use Rattle.std.specs.Prelude.{◌≡◌, [], ◌++◌, ℕ, List, None, IfOk, IfErr};
+ghost use Rattle.std.specs.Prelude.{◌≡◌, [], ◌++◌, ℕ, List, None, IfOk, IfErr, OnOk};
 ghost use Rattle.cal_base.specs.Change.{change_of};
 ghost use Rattle.cal_base.specs.ReadEnds.{ReadsAll};
 ghost use Rattle.cal_query.specs.Layout.{StopsRows};
-ghost use Rattle.cal_query.specs.Streaming.{FallsAt, HasFinished, HasStreamed, MayBeFed, finished};
+ghost use Rattle.cal_query.specs.Streaming.{FallsAt, HasFinished, HasStreamed, IsAbout, MayBeFed, finished};
 
 use crate::RowsEnd;
 use crate::pieces::{Fed, feed_all};
@@ -37,11 +37,15 @@ pub(crate) struct Finished<T: Drop> {
 }
 
 impl<T: Taker + Drop> Fed for Streaming<T> {
-    ghost use Rattle.cal_query.specs.Streaming.{HasStreamed, MayBeFed};
+    ghost use Rattle.cal_query.specs.Streaming.{HasStreamed, IsAbout, MayBeFed};
 
     ghost is_ready = { λ s. MayBeFed s.fault s };
 
     ghost has_read = { HasStreamed T.has_taken };
+
+    ghost About = { T.About };
+
+    ghost is_about = { IsAbout T.about };
 
     fn feed(&mut self, piece: &[u8]) -> Result<(), OutOfMemory> {
         if self.fault.is_some() {
@@ -63,6 +67,7 @@ impl<T: Taker + Drop> Streaming<T> {
         requires { T.has_taken taker context [] }
         ensures ready { IfOk result (λ s. MayBeFed s.fault s) }
         ensures read { IfOk result (λ s. HasStreamed T.has_taken s []) }
+        ensures about { IfOk result (λ s. IsAbout T.about s (T.about taker)) }
     {
         let Ok(reader) = StreamReader::new(alloc, &mut context) else {
             drop(taker);
@@ -89,6 +94,8 @@ impl<T: Taker + Drop> Streaming<T> {
         ensures read { IfOk result (λ globals. (bytes : List ℕ)
             × ReadsAll limit (change_of S.left S.faults input.old input.new) bytes
             × HasFinished T.has_taken (finished self.new globals) bytes) }
+        ensures about { OnOk result ((what : T.About) → IsAbout T.about self.old what
+            → T.about self.new.taker ≡ what) }
         ensures refused { IfErr result (λ end.
             StopsRows end limit (change_of S.left S.faults input.old input.new)) }
     {
@@ -102,6 +109,8 @@ impl<T: Taker + Drop> Streaming<T> {
         requires read { HasStreamed T.has_taken self.old [] }
         ensures read { IfOk result (λ globals.
             HasFinished T.has_taken (finished self.new globals) bytes.now) }
+        ensures about { OnOk result ((what : T.About) → IsAbout T.about self.old what
+            → T.about self.new.taker ≡ what) }
         ensures refused { IfErr result (λ end. FallsAt end bytes.now) }
     {
         self.feed(bytes)?;
@@ -114,6 +123,8 @@ impl<T: Taker + Drop> Streaming<T> {
         ensures read { IfOk result (λ globals. (bytes : List ℕ)
             → HasStreamed T.has_taken self.old bytes
             → HasFinished T.has_taken (finished self.new globals) bytes) }
+        ensures about { OnOk result ((what : T.About) → IsAbout T.about self.old what
+            → T.about self.new.taker ≡ what) }
         ensures refused { IfErr result (λ end. (bytes : List ℕ)
             → HasStreamed T.has_taken self.old bytes → FallsAt end bytes) }
     {
@@ -158,6 +169,7 @@ pub(crate) fn read_stream<S: Source, T: Taker + Drop>(
     ensures read { IfOk result (λ f. (bytes : List ℕ)
         × ReadsAll limit (change_of S.left S.faults input.old input.new) bytes
         × HasFinished T.has_taken f bytes) }
+    ensures about { IfOk result (λ f. T.about f.taker ≡ T.about taker) }
     ensures refused { IfErr result (λ end.
         StopsRows end limit (change_of S.left S.faults input.old input.new)) }
 {
@@ -181,6 +193,7 @@ pub(crate) fn read_whole<T: Taker + Drop>(
 ) -> Result<Finished<T>, RowsEnd>
     requires { T.has_taken taker context [] }
     ensures read { IfOk result (λ f. HasFinished T.has_taken f bytes.now) }
+    ensures about { IfOk result (λ f. T.about f.taker ≡ T.about taker) }
     ensures refused { IfErr result (λ end. FallsAt end bytes.now) }
 {
     let mut streaming = Streaming::new(alloc, context, taker)?;

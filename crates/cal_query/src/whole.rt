@@ -1,17 +1,16 @@
 //! The fold of a query over a stream that is at hand as a whole.
-ghost use Rattle.std.specs.Prelude.{◌≡◌, IfOk, IfErr};
+ghost use Rattle.std.specs.Prelude.{IfOk, IfErr};
 ghost use Rattle.cal_ql.specs.Valid.{IsValidQuery};
 ghost use Rattle.cal_query.specs.Streaming.{FallsAt};
 ghost use Rattle.cal_query.specs.Wholes.{HasFoldedWhole};
 
 use crate::RowsEnd;
-use crate::folding::{is_same, new_fold};
+use crate::folding::new_fold;
 use crate::seeing::Seen;
 use crate::streaming::{Finished, read_whole};
 use cal_engine::SnapshotFold;
 use cal_ql::Query;
 use cal_seeds::Seeds;
-use cal_value::OutOfMemory;
 use std::alloc::Global;
 
 /// A query's fold over the rows of these bytes, which are read as a stream, with the context that
@@ -35,18 +34,5 @@ pub fn fold_whole(
         globals,
     } = read_whole(alloc, bytes, context, taker)?;
     drop(globals);
-    Ok(of_query(query, Seen { context, taker })?)
-}
-
-/// A fold of this query. Who hands rows on promises nothing of the query that the fold was made
-/// for, so it is looked at here; one of another query is answered as want of memory is.
-fn of_query(query: &Query, seen: Seen<SnapshotFold>) -> Result<Seen<SnapshotFold>, OutOfMemory>
-    ensures same { IfOk result (λ own. own ≡ seen) }
-    ensures query { IfOk result (λ own. own.taker.query ≡ query.now) }
-{
-    if !is_same(seen.taker.query(), query) {
-        drop(seen);
-        return Err(OutOfMemory);
-    }
-    Ok(seen)
+    Ok(Seen { context, taker })
 }
