@@ -18,7 +18,7 @@ use cal_context::{Context, Taker};
 use cal_engine::{GroupedRows, SnapshotFold};
 use cal_nodes::ContextNodes;
 use cal_ql::Query;
-use cal_records::{channel_query, same_query, take_grouped_rows};
+use cal_records::{channel_query, take_grouped_rows};
 use cal_script::ChannelQuery;
 use cal_table::Table;
 use cal_value::OutOfMemory;
@@ -77,7 +77,7 @@ fn group_rows(
     let mut fold = SnapshotFold::new(alloc, query, context)?;
     let columns = ResultColumns::new(alloc, channel.values.as_slice(), context)?;
     fold_tables(
-        alloc, channel, query, &columns, tables, nodes, context, &mut fold,
+        alloc, channel, &columns, tables, nodes, context, &mut fold,
     )?;
     let rows = fold.grouped_rows(context)?;
     Ok(rows)
@@ -87,7 +87,6 @@ fn group_rows(
 fn fold_tables(
     alloc: Global,
     channel: &ChannelQuery,
-    query: &Query,
     columns: &ResultColumns,
     tables: &[Table],
     nodes: &ContextNodes,
@@ -97,17 +96,13 @@ fn fold_tables(
     requires columns { AreColumns context.now channel.now.values columns.now }
     requires rows { All (MayTakeTable nodes.now context.now) tables.now }
     requires none { HasFolded fold.old context.now [] }
-    ensures query { OnOk result (fold.new.query ≡ query.now) }
+    ensures query { OnOk result (fold.new.query ≡ fold.old.query) }
     ensures folded { OnOk result ((keyed : List (List KeyedRow))
         → AllZip (TableMeans nodes.now context.now) tables.now keyed
         → HasFolded fold.new context.now (records_of channel.now keyed)) }
 {
     for table in tables {
         take_table(alloc, channel, columns, table, nodes, context, fold)?;
-    }
-    // a taker's contract doesn't say that it is still about this query
-    if !same_query(fold.query(), query) {
-        return Err(OutOfMemory);
     }
     Ok(())
 }

@@ -6,4 +6,3 @@ pub mod Ranking
 pub mod GlobalLemmas
 pub mod TakingLemmas
 pub mod QueryLemmas
-pub mod SameLemmas

@@ -1,12 +1,11 @@
 //! The groups of a channel, handed to a taker.
-ghost use Rattle.std.specs.Prelude.{◌≡◌, [], List, map, true, IfNone, IfOk, IfSome, OnOk, is_some};
+ghost use Rattle.std.specs.Prelude.{◌≡◌, List, map, true, IfNone, IfOk, IfSome, OnOk, is_some};
 ghost use Rattle.std.specs.Prelude.{option_copied};
 ghost use Rattle.cal_context.specs.Taking.{TakesMore};
 ghost use Rattle.cal_context.specs.Tree.{Grows};
 ghost use Rattle.cal_engine.specs.Answers.{answer_of};
 ghost use Rattle.cal_engine.specs.Making.{MakesRows};
 ghost use Rattle.cal_engine.specs.Sorting.{sorted};
-ghost use Rattle.cal_engine.specs.Standing.{HasFolded};
 ghost use Rattle.cal_profile.specs.Groups.{group_records, rows_cmp};
 ghost use Rattle.cal_ql.specs.Valid.{IsValidQuery};
 ghost use Rattle.cal_ql.specs.declared.query.Agg.{Agg as AnAgg};
@@ -21,7 +20,6 @@ ghost use Rattle.cal_value.specs.declared.record.Rec.{Rec as ARecord};
 
 use crate::query::channel_query;
 use crate::run::take_snapshots;
-use crate::same::same_query;
 use crate::sorting::sorted_by_group;
 use cal_context::{Context, Snapshot, Taker};
 use cal_engine::{GroupedRows, SnapshotFold};
@@ -116,41 +114,11 @@ fn group_rows(
     ensures grows { Grows context.old context.new }
 {
     let mut fold = SnapshotFold::new(alloc, query, context)?;
-    let refused = fold_snapshots(
-        alloc, script, journal, channel, query, numbers, context, &mut fold,
+    let refused = take_snapshots(
+        alloc, script, journal, channel, numbers, context, &mut fold,
     )?;
     let rows = fold.grouped_rows(context)?;
     Ok((rows, refused))
-}
-
-/// Adds the snapshots of a channel to its query's fold of none.
-fn fold_snapshots(
-    alloc: Global,
-    script: &Script,
-    journal: Option<&Journal>,
-    channel: &Channel,
-    query: &Query,
-    numbers: &Numbers,
-    context: &mut Context,
-    fold: &mut SnapshotFold,
-) -> Result<Option<u64>, OutOfMemory>
-    requires runnable { IsRunnable script.now }
-    requires read { IfSome journal (λ journal. CanBeRead script.now journal.now) }
-    requires numbered { AreNumbered context.old script.now numbers.now }
-    requires none { HasFolded fold.old context.old [] }
-    ensures query { OnOk result (fold.new.query ≡ query.now) }
-    ensures folded { OnOk result (HasFolded fold.new context.new
-        (snapshots script.now (told script.now (option_copied journal.entry)) channel.now)) }
-    ensures refused { IfOk result (CountsRefused script.now) }
-    ensures counted { IfNone journal.entry (IfOk result (λ counted. is_some counted ≡ true)) }
-    ensures grows { Grows context.old context.new }
-{
-    let refused = take_snapshots(alloc, script, journal, channel, numbers, context, fold)?;
-    // a taker's contract doesn't say that it is still about this query
-    if !same_query(fold.query(), query) {
-        return Err(OutOfMemory);
-    }
-    Ok(refused)
 }
 
 /// Hands the rows of groups to a taker, in the order of groups, each made as it comes. `aggs` are

@@ -14,11 +14,9 @@ mod likely;
 mod likely_key;
 mod query;
 mod run;
-mod same;
 mod sorting;
 
 pub use globals::put_globals;
 pub use groups::take_grouped_rows;
 pub use query::channel_query;
 pub use run::{run_records, take_plain_run, take_run};
-pub use same::same_query;

@@ -1,4 +1,4 @@
-use Rattle.std.proofs.Common.{◌<◌, ◌∙◌, List, length, get_or, sym, ap, subst, arith}
+use Rattle.std.proofs.Common.{◌<◌, ◌∙◌, List, length, get_or, sym, ap, subst, arith, refl}
 use Rattle.std.specs.List.{flat_map}
 use Rattle.std.proofs.lemmas.List.{take_all}
 use Rattle.cal_channel.specs.Places.{at_place, lists_of}
@@ -21,6 +21,7 @@ loop-place-init g c = record {
   numbered = c.in_ok-nodes.ensures.numbered c.args.tree.now c.args.seat.now c.args.context.now
       (sym c.shape.ensures.shape);
   taken = λ of taken. takes-none (g.T.Taker.has_taken c.args.taker.now c.args.context.now);
+  about = refl;
 }
 
 pub bounds-tables-place : goal.bounds-tables-place
@@ -95,7 +96,11 @@ loop-place-preserved g c =
           (subst (λ (cs : List Channel). place < length cs) all less)
           (c.index-declared-place.is ∙ ap (λ (cs : List Channel). get_or cs place channel) all)
           (inv.taken of taken) (c.in_ok-take_channel.ensures.taken (of channel) later);
+      about = c.in_ok-take_channel.ensures.about ∙ inv.about;
     }
+
+pub returns-clause-about : goal.returns-clause-about
+returns-clause-about g c = c.loop-place.invariant.about
 
 pub returns-clause-taken : goal.returns-clause-taken
 returns-clause-taken g c of taken =

@@ -1,4 +1,4 @@
-use Rattle.std.proofs.Common.{List, take}
+use Rattle.std.proofs.Common.{List, take, ◌≡◌}
 use Rattle.std.specs.List.{flat_map}
 use Rattle.cal_channel.specs.Places.{lists_of}
 use Rattle.cal_context.specs.Taking.{TakesMore}
@@ -25,4 +25,5 @@ invariant-loop-place g l = record {
       → TakesMore (g.T.Taker.has_taken l.fn.taker l.fn.context)
       (g.T.Taker.has_taken l.taker l.context)
       (flat_map (λ (c : Channel). rows_of c (of c)) (take l.place l.script.channels));
+  about : g.T.Taker.about l.taker ≡ g.T.Taker.about l.fn.taker;
 }

@@ -1,4 +1,4 @@
-use Rattle.std.proofs.Common.{◌≡◌, ◌<◌, true, [], length, get_or, sym, ◌∙◌, subst, arith}
+use Rattle.std.proofs.Common.{◌≡◌, ◌<◌, true, [], length, get_or, sym, ◌∙◌, subst, arith, refl}
 use Rattle.std.proofs.lemmas.Bool.{cond-true}
 use Rattle.cal_channel.specs.Places.{at_place, lists_of}
 use Rattle.cal_context.proofs.CallerLemmas.{Grows-refl, Grows-trans}
@@ -19,6 +19,7 @@ loop-own-init g c = record {
   grows = Grows-refl c.args.context.now;
   numbered = c.requires.numbered;
   taken = λ tables recs h. takes-none (g.T.Taker.has_taken c.args.taker.now c.args.context.now);
+  about = refl;
 }
 
 pub index-requires : goal.index-requires
@@ -86,7 +87,11 @@ loop-own-preserved g c =
           (has c.take_own_trace.new.taker c.take_own_trace.new.context) h.taken.takens i
           (omega (arith, many, less)) (inv.taken tables recs h)
           (c.in_ok-take_own_trace.ensures.taken (get_or h.taken.takens i []) own);
+      about = c.in_ok-take_own_trace.ensures.about ∙ inv.about;
     }
+
+pub returns-clause-about : goal.returns-clause-about
+returns-clause-about g c = c.loop-own.invariant.about
 
 pub returns-clause-taken : goal.returns-clause-taken
 returns-clause-taken g c tables recs h =

@@ -1,4 +1,4 @@
-use Rattle.std.proofs.Common.{[], subst}
+use Rattle.std.proofs.Common.{[], subst, ◌∙◌}
 use Rattle.cal_context.proofs.CallerLemmas.{Grows-trans}
 use Rattle.cal_engine.specs.Answers.{answer_of}
 use Rattle.cal_engine.specs.FoldGrows.{HasFolded-stays}
@@ -44,6 +44,7 @@ returns-clause-rows c = λ keyed means.
     let recs = records_of c.args.channel.now keyed in
     let grown = Grows-trans _ _ _ c.in_ok-fold.ensures.grows c.in_ok-columns.ensures.grows in
     subst (λ (q : Query). MakesRows c.grouped_rows.new.context q.aggs c.in_ok-rows.rows
-    (answer_of q recs).rows.rows) c.in_ok-fold_tables.ensures.query
+    (answer_of q recs).rows.rows) (c.in_ok-fold_tables.ensures.query
+    ∙ c.in_ok-fold.ensures.query)
     (c.in_ok-rows.ensures.rows recs (c.in_ok-fold_tables.ensures.folded keyed
     (tables-Grows grown c.args.nodes.now c.args.tables.now keyed means)))

@@ -9,7 +9,7 @@ take_rows-requires-clause-rows g c =
     subst (MayTake c.args.nodes.now c.args.context.now) (sym c.rows-rows.ensures.rows)
     c.requires.rows
 
-pub returns : goal.returns
-returns g c = λ keyed means. c.in_ok-take_rows.ensures keyed
+pub returns-clause-taken : goal.returns-clause-taken
+returns-clause-taken g c = λ keyed means. c.in_ok-take_rows.ensures.taken keyed
     (subst (λ (rows : List Row). AllZip (RowMeans c.args.nodes.now c.args.context.now) rows keyed)
     (sym c.rows-rows.ensures.rows) means)

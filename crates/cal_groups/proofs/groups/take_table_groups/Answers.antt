@@ -19,7 +19,7 @@ returns-clause-taken g c = λ keyed means before had.
     (sym c.as_slice.ensures) (c.in_ok-rows.ensures.rows keyed means) in
     let taken = subst (λ (a : List Agg). has_taken c.take_grouped_rows.new.taker t
     (before ++ sorted (rows_cmp a) rs)) c.as_slice.ensures
-    (c.in_ok-take_grouped_rows.ensures rs made before
+    (c.in_ok-take_grouped_rows.ensures.taken rs made before
     (g.met.T.Taker.stays _ _ _ _ had c.in_ok-rows.ensures.grows)) in
     subst (λ (k : Query). has_taken c.take_grouped_rows.new.taker t
     (before ++ group_records k recs)) c.in_ok-query.ensures.query taken

@@ -1,5 +1,5 @@
 use Rattle.std.proofs.Common.{◌≡◌, ◌∙◌, ◌+◌, ◌<◌, ◌≤◌, List, [], ◌∷◌, length, map, take, drop, ap}
-use Rattle.std.proofs.Common.{subst, sym, arith}
+use Rattle.std.proofs.Common.{refl, subst, sym, arith}
 use Rattle.std.proofs.lemmas.List.{map_more, take_all}
 use Rattle.std.specs.List.{AllZip}
 use Rattle.cal_context.proofs.CallerLemmas.{TakesMore-trans}
@@ -25,6 +25,7 @@ loop-place-init g c = record {
   taken = λ keyed means. takes-none (g.T.Taker.has_taken c.args.taker.now c.args.context.now);
   within = omega arith;
   left = c.in_ok-numbers.ensures;
+  about = refl;
 }
 
 pub part-own-requires : goal.part-own-requires
@@ -93,13 +94,17 @@ loop-place-preserved g c =
           (c.loop-place.invariant.taken keyed means)
           (subst (λ (r : Rec). TakesMore then has (r ∷ [])) (c.in_ok-fill.ensures.means
           c.args.nodes.now _ own row)
-          c.in_ok-take.ensures));
+          c.in_ok-take.ensures.taken));
       within = own_within nodes keys i key short is many long numbers from inv.left inv.within;
       left = left_more nodes keys i key short is many long numbers from inv.left;
+      about = c.in_ok-take.ensures.about ∙ inv.about;
     }
 
-pub returns : goal.returns
-returns g c = λ keyed means.
+pub returns-clause-about : goal.returns-clause-about
+returns-clause-about g c = c.loop-place.invariant.about
+
+pub returns-clause-taken : goal.returns-clause-taken
+returns-clause-taken g c = λ keyed means.
     let has_taken = g.T.Taker.has_taken in
     let t = c.args.context.now in
     let long = keyed_long c.args.nodes.now t c.args.keys.now c.args.held.now c.requires.long keyed

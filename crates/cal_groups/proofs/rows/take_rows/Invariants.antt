@@ -17,4 +17,5 @@ invariant-loop-place g l = record {
       (map (row_record l.channel) (take l.place keyed));
   within : l.from ≤ length l.numbers.items;
   left : drop l.from l.numbers.items ≡ flat_map (numbers_of l.nodes) (drop l.place l.keys);
+  about : g.T.Taker.about l.taker ≡ g.T.Taker.about l.fn.taker;
 }

@@ -18,5 +18,5 @@ returns-clause-taken g c =
     let made = subst (λ (a : List Agg). MakesRows t a c.in_ok-rows.rows rs)
     (sym c.as_slice.ensures) c.in_ok-rows.ensures.rows in
     λ before had. subst (λ (a : List Agg). g.T.Taker.has_taken c.take_grouped_rows.new.taker t (before ++ sorted (rows_cmp a) rs))
-    c.as_slice.ensures (c.in_ok-take_grouped_rows.ensures rs made before
+    c.as_slice.ensures (c.in_ok-take_grouped_rows.ensures.taken rs made before
     (g.met.T.Taker.stays _ _ _ _ had c.in_ok-rows.ensures.grows))

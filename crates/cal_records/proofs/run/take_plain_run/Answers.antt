@@ -16,6 +16,7 @@ loop-channel-init g c = record {
   numbered = c.requires.numbered;
   grows = Grows-refl _;
   taken = takes-none (g.T.Taker.has_taken c.args.taker.now c.args.context.now);
+  about = refl;
   refused = tt;
   counted = refl;
 }
@@ -39,6 +40,7 @@ loop-channel-preserved g c =
           (subst (λ (xs : List Channel). i < length xs) all c.loop-channel-test.true)
           (c.channel-item.is ∙ ap (λ (xs : List Channel). get_or xs i channel) all)
           old.taken next.taken;
+      about = next.about ∙ old.about;
       refused = c.either-refused.ensures.refused;
       counted = counted-more is_kept c.args.script.now.channels i channel c.loop-channel.refused
           c.in_ok-counted.counted c.either-refused.result
@@ -50,6 +52,9 @@ loop-channel-preserved g c =
 pub returns-in_err-counted-clause-grows : goal.returns-in_err-counted-clause-grows
 returns-in_err-counted-clause-grows g c =
     Grows-trans _ _ _ c.loop-channel.invariant.grows c.take_rows_of.ensures.grows
+
+pub returns-clause-about : goal.returns-clause-about
+returns-clause-about g c = c.loop-channel.invariant.about
 
 pub returns-clause-taken : goal.returns-clause-taken
 returns-clause-taken g c =

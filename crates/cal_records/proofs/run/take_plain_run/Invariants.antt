@@ -19,4 +19,5 @@ invariant-loop-channel g l = record {
       (flat_map (channel_rows l.script (plain l.script)) (take l.channel-index l.script.channels));
   refused : CountsRefused l.script l.refused;
   counted : is_some l.refused ≡ list_any is_kept (take l.channel-index l.script.channels);
+  about : g.T.Taker.about l.taker ≡ g.T.Taker.about l.fn.taker;
 }

@@ -1,4 +1,4 @@
-use Rattle.std.proofs.Common.{◌<◌, ◌≤◌, List, length, get_or, ap, subst, ◌∙◌}
+use Rattle.std.proofs.Common.{◌<◌, ◌≤◌, List, length, get_or, ap, subst, ◌∙◌, refl}
 use Rattle.std.specs.List.{flat_map}
 use Rattle.std.proofs.lemmas.List.{take_all}
 use Rattle.cal_context.proofs.CallerLemmas.{Grows-refl, Grows-trans}
@@ -14,6 +14,7 @@ loop-channel-init g c = record {
   numbered = c.requires.numbered;
   grows = Grows-refl _;
   taken = takes-none (g.T.Taker.has_taken c.args.taker.now c.args.context.now);
+  about = refl;
 }
 
 pub loop-channel-preserved : goal.loop-channel-preserved
@@ -35,11 +36,15 @@ loop-channel-preserved g c =
           (subst (λ (xs : List Channel). i < length xs) all c.loop-channel-test.true)
           (c.channel-item.is ∙ ap (λ (xs : List Channel). get_or xs i channel) all)
           old.taken next.taken;
+      about = next.about ∙ old.about;
     }
 
 pub returns-in_err-take_rows_of-clause-grows : goal.returns-in_err-take_rows_of-clause-grows
 returns-in_err-take_rows_of-clause-grows g c =
     Grows-trans _ _ _ c.loop-channel.invariant.grows c.take_rows_of.ensures.grows
+
+pub returns-clause-about : goal.returns-clause-about
+returns-clause-about g c = c.loop-channel.invariant.about
 
 pub returns-clause-taken : goal.returns-clause-taken
 returns-clause-taken g c =

@@ -1,4 +1,4 @@
-use Rattle.std.proofs.Common.{take}
+use Rattle.std.proofs.Common.{take, ◌≡◌}
 use Rattle.std.specs.List.{flat_map}
 use Rattle.cal_context.specs.Taking.{TakesMore}
 use Rattle.cal_context.specs.Tree.{Grows}
@@ -14,4 +14,5 @@ invariant-loop-channel g l = record {
   taken : TakesMore (g.T.Taker.has_taken l.fn.taker l.fn.context)
       (g.T.Taker.has_taken l.taker l.context)
       (flat_map (channel_rows l.script l.journal) (take l.channel-index l.script.channels));
+  about : g.T.Taker.about l.taker ≡ g.T.Taker.about l.fn.taker;
 }
