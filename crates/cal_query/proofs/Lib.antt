@@ -4,5 +4,4 @@ pub mod Keepings
 pub mod Plainness
 pub mod Layouts
 pub mod Stops
-pub mod SameQuery
 pub mod FoldedWholes

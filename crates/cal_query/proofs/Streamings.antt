@@ -1,6 +1,6 @@
 -- A reader at work, step by step.
 use Rattle.std.proofs.Common.{◌≡◌, ℕ, Bool, true, false, List, [], ◌∷◌, ◌++◌, Option, Some, None, refl, sym, ap, subst, ◌∙◌, append_assoc, append-nil}
-use Rattle.std.specs.Prelude.{is_some, Ok}
+use Rattle.std.specs.Prelude.{is_some, IfNone, Ok}
 use Rattle.cal_context.specs.Snapshots.{IsIn, meaning}
 use Rattle.cal_context.specs.Tree.{Tree}
 use Rattle.cal_value.specs.declared.record.Rec.{Rec}
@@ -24,6 +24,15 @@ takes_up_to : (had has : List Rec → Type 0) (before after : List Rec)
     → TakesUpTo had has before after → had before → has after
 takes_up_to had has before after takes taken =
     subst has (sym takes.rows) (takes.taken before taken)
+
+-- what holds where no fault was met
+pub about_this : {P : Type 0} (fault : Option BadLine) → is_some fault ≡ false → IfNone fault P → P
+about_this None none is = is
+about_this (Some fault) none is = absurd cc
+
+pub about_still : {P : Type 0} (fault : Option BadLine) → is_some fault ≡ false → P → IfNone fault P
+about_still None none is = is
+about_still (Some fault) none is = absurd cc
 
 module _ {T : Type 0} (has_taken : T → Tree → List Rec → Type 0) where
   -- behind a fault nothing is looked at

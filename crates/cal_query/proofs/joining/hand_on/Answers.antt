@@ -26,6 +26,7 @@ loop-snapshot-init g c =
             (sym (append-nil rs)) had),
         ap joined items,
       );
+      about = refl;
     }
 
 pub hand_on_one-requires-clause-row : goal.hand_on_one-requires-clause-row
@@ -70,4 +71,5 @@ loop-snapshot-preserved g c =
         append_assoc handed.0 (joined (meaning t s) ∷ [])
             (map joined (map (meaning t) (into_iter_items c.next.new.self))) ∙ whole,
       );
+      about = c.in_ok-hand_on_one.ensures.about ∙ c.loop-snapshot.invariant.about;
     }

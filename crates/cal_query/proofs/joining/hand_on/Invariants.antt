@@ -21,4 +21,5 @@ invariant-loop-snapshot g l =
           × TakesMore (taken.has_taken l.fn.taker l.context) (taken.has_taken l.taker l.context) done
           × (done ++ joined (map (meaning l.context) left)
           ≡ joined (map (meaning l.context) l.fn.kept.items));
+      about : taken.about l.taker ≡ taken.about l.fn.taker;
     }

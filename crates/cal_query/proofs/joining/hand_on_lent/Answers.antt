@@ -22,7 +22,7 @@ returns-clause-taken g c = λ rs had.
     search rules in
     let has = λ (rs : List Rec). g.T.Taker.has_taken c.take.new.self t rs in
     subst (λ (r : Rec). has (rs ++ r ∷ []))
-    (full_means t full s c.args.globals.now.items refl behind) (c.in_ok-take.ensures rs had)
+    (full_means t full s c.args.globals.now.items refl behind) (c.in_ok-take.ensures.taken rs had)
 
 pub returns-clause-globals : goal.returns-clause-globals
 returns-clause-globals g c =

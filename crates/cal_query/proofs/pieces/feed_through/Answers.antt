@@ -41,4 +41,5 @@ loop-count-preserved g c =
       within = omega (arith, c.loop-count.invariant.within, c.in_ok-count.ensures.within);
       room = omega (arith, c.loop-count.invariant.room);
       later = search rules;
+      about = λ what is. c.in-Ok.ensures.about what (c.loop-count.invariant.about what is);
     }

@@ -14,6 +14,7 @@ invariant-loop-count g l =
       within : l.total ≤ l.limit;
       room : 0 < length l.buffer;
       later : source.faults l.fn.input ≤ source.faults l.input;
+      about : (what : fed.About) → fed.is_about l.fn.fed what → fed.is_about l.fed what;
     }
 
 abbrev pub decreases-loop-count : goal.decreases-loop-count

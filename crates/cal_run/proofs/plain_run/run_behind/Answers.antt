@@ -44,6 +44,7 @@ loop-place-init g c =
             c.args.lines.now)) in
             omega (arith, same)),
       );
+      about = refl;
     }
 
 pub run_line-requires-clause-placed : goal.run_line-requires-clause-placed
@@ -133,6 +134,7 @@ loop-place-preserved g c =
             ∙ refused-drop script was.before was.seen state lines i l c.loop-place.refused
             c.refusals-refused.result _ c.loop-place-test.true at one so_far.6,
       );
+      about = c.in_ok-reply.ensures.about ∙ c.loop-place.invariant.about;
     }
 
 pub returns-clause-taken : goal.returns-clause-taken
@@ -155,3 +157,6 @@ returns-clause-ended g c =
       refused = refused-end c.args.script.now was.before was.seen old.so_far.0 c.args.lines.now
           c.loop-place.place c.loop-place.refused _ c.loop-place-test.false old.so_far.6;
     }
+
+pub returns-clause-about : goal.returns-clause-about
+returns-clause-about g c = c.loop-place.invariant.about

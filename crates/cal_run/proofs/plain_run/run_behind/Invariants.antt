@@ -29,4 +29,5 @@ invariant-loop-place g l = record {
       × (l.refused + refused_of (notes_from l.script l.behind.before l.behind.seen state
       (drop l.place l.lines))
       ≡ refused_of (notes_from l.script l.fn.before 0 at_start l.lines));
+  about : g.T.Taker.about l.taker ≡ g.T.Taker.about l.fn.taker;
 }

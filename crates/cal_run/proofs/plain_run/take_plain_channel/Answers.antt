@@ -31,6 +31,7 @@ loop-number-init g c =
         refl,
       );
       refused = omega arith;
+      about = refl;
     }
 
 pub run_behind-requires-clause-placed : goal.run_behind-requires-clause-placed
@@ -115,6 +116,7 @@ loop-number-preserved g c =
       refused = refused-drop_threads script c.loop-number.before c.in_ok-end.end.before
           script.threads i t c.loop-number.refused c.in_ok-end.end.refused _ below is end.before
           end.refused old.refused;
+      about = c.in_ok-end.ensures.about ∙ c.loop-number.invariant.about;
     }
 
 pub returns-clause-taken : goal.returns-clause-taken
@@ -134,3 +136,6 @@ returns-clause-refused g c =
     let past : length script.threads ≤ c.loop-number.number = omega arith in
     refused-end_threads script c.loop-number.before script.threads c.loop-number.number
     c.loop-number.refused _ past c.loop-number.invariant.refused
+
+pub returns-clause-about : goal.returns-clause-about
+returns-clause-about g c = c.loop-number.invariant.about

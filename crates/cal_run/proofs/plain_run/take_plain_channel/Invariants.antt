@@ -25,4 +25,5 @@ invariant-loop-number g l = record {
       ≡ snapshots l.script (plain l.script) l.channel);
   refused : l.refused + refused_in (threads_from l.script l.before
       (drop l.number l.script.threads)) ≡ refused_in (plain l.script).threads;
+  about : g.T.Taker.about l.taker ≡ g.T.Taker.about l.fn.taker;
 }

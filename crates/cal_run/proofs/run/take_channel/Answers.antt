@@ -1,4 +1,4 @@
-use Rattle.std.proofs.Common.{◌≡◌, ◌<◌, ◌≤◌, List, length, get_or, subst, sym, ap, ◌∙◌, arith}
+use Rattle.std.proofs.Common.{◌≡◌, ◌<◌, ◌≤◌, List, length, get_or, subst, sym, ap, ◌∙◌, arith, refl}
 use Rattle.std.specs.Prelude.{zip}
 use Rattle.std.proofs.lemmas.Slice.Zip.{AllZip-long}
 use Rattle.cal_context.proofs.CallerLemmas.{Grows-trans}
@@ -106,6 +106,7 @@ loop-number-preserved g c =
       taken = thread-more script.threads journal.threads i th n lines noted below long
           (taken_by_thread script journal.ops channel)
           (has_taken c.args.taker.now c.args.context.now) mid has old.taken next;
+      about = c.in_ok-take_thread.ensures.about ∙ c.loop-number.invariant.about;
     }
 
 pub returns-clause-taken : goal.returns-clause-taken
@@ -118,3 +119,6 @@ returns-clause-taken g c =
     (subst (λ (ts : List (List Line)). length ts ≤ c.loop-number.number) c.as_slice-threads.ensures
     c.loop-number-test.false)
     c.loop-number.invariant.taken
+
+pub returns-clause-about : goal.returns-clause-about
+returns-clause-about g c = c.loop-number.invariant.about

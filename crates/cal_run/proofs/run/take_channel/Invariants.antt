@@ -1,4 +1,4 @@
-use Rattle.std.proofs.Common.{take}
+use Rattle.std.proofs.Common.{take, ◌≡◌}
 use Rattle.std.specs.Prelude.{flat_map, zip}
 use Rattle.cal_context.specs.Taking.{TakesMore}
 use Rattle.cal_context.specs.Tree.{Grows}
@@ -15,4 +15,5 @@ invariant-loop-number g l = record {
       (g.T.Taker.has_taken l.taker l.context)
       (flat_map (taken_by_thread l.script l.journal.ops l.channel)
       (take l.number (zip l.script.threads l.journal.threads)));
+  about : g.T.Taker.about l.taker ≡ g.T.Taker.about l.fn.taker;
 }

@@ -31,6 +31,7 @@ loop-place-init g c =
             (sym (append-nil rs)) had),
         refl,
       );
+      about = refl;
     }
 
 pub run_line-requires-clause-can : goal.run_line-requires-clause-can
@@ -102,6 +103,7 @@ loop-place-preserved g c =
             below c.requires.noted
             c.args.channel.now state previous so_far.3 _ so_far.8,
       );
+      about = c.in_ok-run_line.ensures.about ∙ c.loop-place.invariant.about;
     }
 
 pub returns-clause-taken : goal.returns-clause-taken
@@ -115,3 +117,6 @@ returns-clause-taken g c =
     (λ k d past. c.lines_to_run-place-end.ensures.behind k d
     (omega (arith, past, c.loop-place-test.false)))
     so_far.8 so_far.7
+
+pub returns-clause-about : goal.returns-clause-about
+returns-clause-about g c = c.loop-place.invariant.about

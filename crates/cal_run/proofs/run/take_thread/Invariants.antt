@@ -27,4 +27,5 @@ invariant-loop-place g l = record {
       (drop l.place (zip l.lines l.note.lines))
       ≡ taken_from l.script l.history l.channel at_start (unwrap_or l.note.start 0)
       (zip l.lines l.note.lines));
+  about : g.T.Taker.about l.taker ≡ g.T.Taker.about l.fn.taker;
 }

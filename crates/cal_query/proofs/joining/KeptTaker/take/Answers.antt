@@ -1,8 +1,8 @@
 use Rattle.cal_query.proofs.Keepings.{IsCopy, all_more, means_more}
 use Rattle.cal_query.proofs.joining.KeptTaker.take.Goals as goal
 
-pub returns : goal.returns
-returns g c = λ rs has.
+pub returns-clause-taken : goal.returns-clause-taken
+returns-clause-taken g c = λ rs has.
     let copied : IsCopy c.in_ok-copy_of.field-0 c.args.snapshot.now =
     record { nodes = c.in_ok-copy_of.ensures.nodes; imms = c.in_ok-copy_of.ensures.imms } in
     record {

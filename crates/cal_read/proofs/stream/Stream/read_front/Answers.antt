@@ -30,7 +30,7 @@ returns g c =
                 taken = record {
                   more = it.row ∷ [];
                   rows = refl;
-                  taken = subst (λ r. TakesMore (g.T.Taker.has_taken c.args.taker.now c.args.context.now) (g.T.Taker.has_taken c.take.new.self c.args.context.now) (r ∷ [])) it.means c.in_ok-take.ensures;
+                  taken = subst (λ r. TakesMore (g.T.Taker.has_taken c.args.taker.now c.args.context.now) (g.T.Taker.has_taken c.take.new.self c.args.context.now) (r ∷ [])) it.means c.in_ok-take.ensures.taken;
                 };
               },
             );

@@ -14,7 +14,7 @@ returns g c = record {
           taken = record {
             more = it.0 ∷ [];
             rows = refl;
-            taken = subst (λ r. TakesMore (g.T.Taker.has_taken c.args.taker.now c.args.context.now) (g.T.Taker.has_taken c.take.new.self c.args.context.now) (r ∷ [])) it.2.1 c.in_ok-take.ensures;
+            taken = subst (λ r. TakesMore (g.T.Taker.has_taken c.args.taker.now c.args.context.now) (g.T.Taker.has_taken c.take.new.self c.args.context.now) (r ∷ [])) it.2.1 c.in_ok-take.ensures.taken;
           };
         },
       );

@@ -17,7 +17,7 @@ returns-in_ok-take-in-Ok-clause-read g c = λ s stands.
         taken = record {
           more = it.row ∷ [];
           rows = refl;
-          taken = subst (λ r. TakesMore (g.T.Taker.has_taken c.args.taker.now c.args.context.now) (g.T.Taker.has_taken c.take.new.self c.args.context.now) (r ∷ [])) it.means c.in_ok-take-in-Ok.ensures;
+          taken = subst (λ r. TakesMore (g.T.Taker.has_taken c.args.taker.now c.args.context.now) (g.T.Taker.has_taken c.take.new.self c.args.context.now) (r ∷ [])) it.means c.in_ok-take-in-Ok.ensures.taken;
         };
       },
     )

@@ -1,4 +1,4 @@
-use Rattle.std.proofs.Common.{ℕ, List, [], ◌∷◌, ◌++◌, sym, ap, ◌∙◌, subst, append_assoc, append-nil}
+use Rattle.std.proofs.Common.{ℕ, List, [], ◌∷◌, ◌++◌, sym, ap, ◌∙◌, subst, append_assoc, append-nil, refl}
 use Rattle.std.proofs.lemmas.Result.{on_ok_weaker}
 use Rattle.cal_context.proofs.CallerLemmas.{Grows-refl, Grows-trans}
 use Rattle.cal_read.specs.Cuts.{ended_lines}
@@ -18,6 +18,7 @@ loop-line-init g c =
         sym c.of-rest.ensures,
         (λ bytes h. subst (HasRead c.args.self.now c.args.context.now) (sym (append-nil bytes)) h),
         (λ bytes h. TakesUpTo-none had had (rows_before bytes) (rows_before (bytes ++ [])) (ap rows_before (append-nil bytes)) (λ rs k. k)),
+        refl,
       ),
     )
 
@@ -65,6 +66,7 @@ loop-line-preserved g c =
         (λ bytes h. subst (HasRead c.end_rows.new.self c.end_line.new.context) (append_assoc bytes gone on.front) (on.read (bytes ++ gone) (read bytes h))),
         (λ bytes h. subst (TakesBytes had has bytes) (append_assoc bytes gone on.front)
             (TakesUpTo-trans had mid has (rows_before bytes) (rows_before (bytes ++ gone)) (rows_before ((bytes ++ gone) ++ on.front)) (taken bytes h) (on.taken (bytes ++ gone) (read bytes h)))),
+        c.in_ok-rest.ensures.about ∙ c.in_ok-end_line.ensures.about ∙ turn.4,
       ),
     )
 
@@ -89,3 +91,7 @@ returns-in_err-end_line-clause-grows g c = Grows-trans _ _ _ c.loop-line.invaria
 
 pub returns-in_err-rest-clause-grows : goal.returns-in_err-rest-clause-grows
 returns-in_err-rest-clause-grows g c = Grows-trans _ _ _ c.loop-line.invariant.0 c.in_ok-end_line.ensures.grows
+
+pub returns-clause-about : goal.returns-clause-about
+returns-clause-about g c =
+    on_ok_weaker c.begin.result (λ read. c.loop-line.invariant.1.4) c.begin.ensures.read

@@ -11,7 +11,8 @@ invariant-loop-line g l =
     × (l.piece ≡ consumed ++ bytes_in l.rest)
     × ((bytes : List ℕ) → HasRead l.fn.self l.fn.context bytes → HasRead l.self l.context (bytes ++ consumed))
     × ((bytes : List ℕ) → HasRead l.fn.self l.fn.context bytes
-    → TakesBytes (g.T.Taker.has_taken l.fn.taker l.fn.context) (g.T.Taker.has_taken l.taker l.context) bytes (bytes ++ consumed)))
+    → TakesBytes (g.T.Taker.has_taken l.fn.taker l.fn.context) (g.T.Taker.has_taken l.taker l.context) bytes (bytes ++ consumed))
+    × (g.T.Taker.about l.taker ≡ g.T.Taker.about l.fn.taker))
 
 abbrev pub decreases-loop-line : goal.decreases-loop-line
 decreases-loop-line g l = length (bytes_in l.rest)
