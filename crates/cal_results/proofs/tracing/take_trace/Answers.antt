@@ -21,6 +21,7 @@ loop-place-init g c = record {
   keeps = λ node n is. is;
   taken = λ recs m rs had. subst (g.T.Taker.has_taken c.args.taker.now c.args.context.now)
       (sym (append-nil rs)) had;
+  about = refl;
 }
 
 pub place_snap-requires-clause-named : goal.place_snap-requires-clause-named
@@ -82,9 +83,10 @@ loop-place-preserved g c =
           (has c.take.new.self new) (meaning new c.place_snap.new.snapshot) rec
           (c.in_ok-place_snap.ensures.means rec one)
           (λ rs had. g.met.T.Taker.stays c.loop-place.taker old new rs had done.grows)
-          c.in_ok-take.ensures in
+          c.in_ok-take.ensures.taken in
           taken_more (has c.args.taker.now c.args.context.now) (has c.loop-place.taker old)
           (has c.take.new.self new) recs i none (omega (arith, long, less)) (inv.taken recs m) next;
+      about = c.in_ok-take.ensures.about ∙ c.loop-place.invariant.about;
     }
 
 pub returns-clause-taken : goal.returns-clause-taken
@@ -97,3 +99,6 @@ returns-clause-taken g c recs m =
     subst (TakesMore (g.T.Taker.has_taken c.args.taker.now c.args.context.now)
     (g.T.Taker.has_taken c.loop-place.taker c.loop-place.context))
     (take_all c.loop-place.place recs (omega (arith, long))) (inv.taken recs m)
+
+pub returns-clause-about : goal.returns-clause-about
+returns-clause-about g c = c.loop-place.invariant.about

@@ -22,4 +22,5 @@ invariant-loop-place g l = record {
       → TraceMeans l.fn.context l.script l.tree l.fn.seat l.trace recs
       → TakesMore (g.T.Taker.has_taken l.fn.taker l.fn.context)
       (g.T.Taker.has_taken l.taker l.context) (take l.place recs);
+  about : g.T.Taker.about l.taker ≡ g.T.Taker.about l.fn.taker;
 }
