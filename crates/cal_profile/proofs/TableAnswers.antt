@@ -285,20 +285,22 @@ module _ (attributes : List Attribute) (channel : ChannelQuery) (named : IsNamed
                 (λ m. is_group (table_key channel m) row.key));
           }
 
+    -- the records in place of rows stand for the snapshots with their keys, in whatever list of these
+    pub rows_stand : (trace : List Rec) → AllByRecursion (IsSnapshot attributes) trace
+        → HasSums channel trace → (rows : List KeyedRow)
+        → AllByRecursion (IsRowOf channel trace) rows
+        → AllZip (StandsFor (channel_query channel)) (map (row_record channel) rows)
+        (map (λ row. with_key channel row.key trace) rows)
+    rows_stand trace snaps sums [] all = tt
+    rows_stand trace snaps sums (row ∷ rows) all =
+        (row_stands trace row all.0 snaps sums, rows_stand trace snaps sums rows all.1)
+
 -- ---- all rows
 
 module _ (attributes : List Attribute) (channel : ChannelQuery) (trace : List Rec)
     (is : IsTrace attributes channel trace) where
   abbrev parts : List KeyedRow → List (List Rec)
   parts rows = map (λ row. with_key channel row.key trace) rows
-
-  rows_stand : (rows : List KeyedRow) → AllByRecursion (IsRowOf channel trace) rows
-      → AllZip (StandsFor (channel_query channel)) (map (row_record channel) rows) (parts rows)
-  rows_stand [] all = tt
-  rows_stand (row ∷ rows) all = (
-    row_stands attributes channel is.named trace row all.0 is.snapshots is.sums,
-    rows_stand rows all.1,
-  )
 
   parts_are : (rows : List KeyedRow) → all_of (parts rows)
       ≡ flat_map (λ key. with_key channel key trace) (map (λ row. row.key) rows)
@@ -315,7 +317,7 @@ module _ (attributes : List Attribute) (channel : ChannelQuery) (trace : List Re
       after (channel_query channel) (map (row_record channel) rows) whole trace
       (subst (AnswerAlike (channel_query channel) (map (row_record channel) rows)) (parts_are rows)
       (stand_ins_answer (channel_query channel) addable (map (row_record channel) rows)
-      (parts rows) (rows_stand rows are.each)))
+      (parts rows) (rows_stand attributes channel is.named trace is.snapshots is.sums rows are.each)))
       (reordered_alike (channel_query channel) addable whole trace
       (λ M v merge kept. by_parts kept (table_key channel) keys (once_apart keys are.once) trace
       are.all))

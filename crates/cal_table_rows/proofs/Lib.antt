@@ -4,8 +4,5 @@ pub mod OneMeaning
 pub mod Counted
 pub mod Holding
 pub mod MeantRows
-pub mod Orders
-pub mod Merging
 pub mod Fronts
-pub mod RowStandIns
 pub mod Together

@@ -21,8 +21,8 @@ use Rattle.cal_profile.proofs.Reordering.{by_parts, reordered_alike}
 use Rattle.cal_profile.proofs.Seeing.{after}
 use Rattle.cal_profile.proofs.StandingIn.{stand_ins_answer}
 use Rattle.cal_profile.proofs.TableAnswers.{channel_addable, channel_aggregated, plain_groups}
+use Rattle.cal_profile.proofs.TableAnswers.{rows_stand}
 use Rattle.cal_script.specs.declared.script.ChannelQuery.{ChannelQuery}
-use Rattle.cal_table_rows.proofs.RowStandIns.{rows_stand}
 use Rattle.cal_table_rows.proofs.Zips.{AllZip-append}
 use Rattle.cal_table_rows.specs.PartSums.{HasPartSums}
 use Rattle.cal_value.specs.declared.attribute.Attribute.{Attribute}

@@ -1,69 +1,12 @@
 -- Two lists of which each item goes with one of the other.
-use Rattle.std.proofs.Common.{◌≡◌, ℕ, zero, suc, ◌<◌, Bool, true, false, List, [], ◌∷◌, ◌++◌}
-use Rattle.std.proofs.Common.{length, get_or, set, swap, refl, sym, subst, arith, IsPermutation}
-use Rattle.std.proofs.Common.{Contains, filter, ap, ◌∙◌, if◌then◌else◌, inl, inr, true≢false}
+use Rattle.std.proofs.Common.{◌≡◌, ◌<◌, Bool, true, false, List, [], ◌∷◌, ◌++◌}
+use Rattle.std.proofs.Common.{length, refl, sym, subst, arith}
+use Rattle.std.proofs.Common.{Contains, filter, ap, ◌∙◌, inl, inr, true≢false}
 use Rattle.std.specs.Prelude.{◌⊎◌}
 use Rattle.std.specs.List.{AllByRecursion, AllZip}
-use Rattle.std.proofs.lemmas.List.Sorted.{IsPermutation-keeps, IsPermutation-refl}
-use Rattle.std.proofs.lemmas.List.Sorted.{IsPermutation-swap, IsPermutation-trans}
 use Rattle.cal_profile.proofs.Lists.{Contains-cases, Contains-cons, Contains-first, Contains-nil}
 
 module _ {A B : Type 0} (R : A → B → Type 0) where
-  zip-get : (xs : List A) (ys : List B) (i : ℕ) (d : A) (e : B) → AllZip R xs ys → i < length ys
-      → R (get_or xs i d) (get_or ys i e)
-  zip-get [] [] i d e all within = absurd (omega arith)
-  zip-get [] (y ∷ ys) i d e all within = absurd all
-  zip-get (x ∷ xs) [] i d e all within = absurd all
-  zip-get (x ∷ xs) (y ∷ ys) zero d e all within = all.0
-  zip-get (x ∷ xs) (y ∷ ys) (suc i) d e all within = zip-get xs ys i d e all.1 (omega arith)
-
-  zip-set : (xs : List A) (ys : List B) (i : ℕ) (x : A) (y : B) → AllZip R xs ys → R x y
-      → AllZip R (set xs i x) (set ys i y)
-  zip-set [] [] i x y all here = tt
-  zip-set [] (b ∷ ys) i x y all here = absurd all
-  zip-set (a ∷ xs) [] i x y all here = absurd all
-  zip-set (a ∷ xs) (b ∷ ys) zero x y all here = (here, all.1)
-  zip-set (a ∷ xs) (b ∷ ys) (suc i) x y all here = (all.0, zip-set xs ys i x y all.1 here)
-
-  zip-swap : (xs : List A) (ys : List B) (i j : ℕ) → AllZip R xs ys → i < length ys
-      → j < length ys → AllZip R (swap xs i j) (swap ys i j)
-  zip-swap [] [] i j all one other = tt
-  zip-swap [] (y ∷ ys) i j all one other = absurd all
-  zip-swap (x ∷ xs) [] i j all one other = absurd all
-  zip-swap (x ∷ xs) (y ∷ ys) i j all one other =
-      zip-set (set (x ∷ xs) i (get_or (x ∷ xs) j x)) (set (y ∷ ys) i (get_or (y ∷ ys) j y)) j
-      (get_or (x ∷ xs) i x) (get_or (y ∷ ys) i y)
-      (zip-set (x ∷ xs) (y ∷ ys) i (get_or (x ∷ xs) j x) (get_or (y ∷ ys) j y) all
-      (zip-get (x ∷ xs) (y ∷ ys) j x y all other))
-      (zip-get (x ∷ xs) (y ∷ ys) i x y all one)
-
-  zip-long : (xs : List A) (ys : List B) → AllZip R xs ys → length xs ≡ length ys
-  zip-long [] [] all = refl
-  zip-long [] (y ∷ ys) all = absurd all
-  zip-long (x ∷ xs) [] all = absurd all
-  zip-long (x ∷ xs) (y ∷ ys) all = let rest = zip-long xs ys all.1 in omega (arith, rest)
-
-  -- a list that goes with another in another order
-  pub record GoesWith (xs : List A) (ys : List B) : Type 0 where
-    pub items : List A
-    pub order : IsPermutation xs items
-    pub zip : AllZip R items ys
-
-  -- where one is put into another order, so can the other be
-  pub AllZip-order : (xs : List A) (ys zs : List B) → AllZip R xs ys → IsPermutation ys zs
-      → GoesWith xs zs
-  AllZip-order xs ys zs all = IsPermutation-keeps ys (GoesWith xs)
-      (record { items = xs; order = IsPermutation-refl xs; zip = all })
-      (λ l i j one other goes.
-      let long = zip-long goes.items l goes.zip in
-      record {
-        items = swap goes.items i j;
-        order = IsPermutation-trans xs goes.items (swap goes.items i j) goes.order
-            (IsPermutation-swap goes.items (swap goes.items i j) i j (omega (arith, long))
-            (omega (arith, long)) refl);
-        zip = zip-swap goes.items l i j goes.zip one other;
-      }) zs
-
   pub AllZip-append : (xs xs' : List A) (ys ys' : List B) → AllZip R xs ys → AllZip R xs' ys'
       → AllZip R (xs ++ xs') (ys ++ ys')
   AllZip-append [] xs' [] ys' all more = more

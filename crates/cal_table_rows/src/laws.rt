@@ -1,6 +1,6 @@
 //! Laws of tables that count records. Nothing here is ever run.
 
-ghost use Rattle.std.specs.Prelude.{◌≡◌, List, ◌++◌, flat_map, map};
+ghost use Rattle.std.specs.Prelude.{◌≡◌, List, flat_map, map};
 ghost use Rattle.std.specs.Prelude.{IsPermutation};
 ghost use Rattle.std.specs.List.{AllZip, IsDistinct};
 ghost use Rattle.std.specs.declared.random_state.RandomState.{RandomState as Hashers};
@@ -15,11 +15,9 @@ ghost use Rattle.cal_rowset.specs.Texts.{is_same};
 ghost use Rattle.cal_script.specs.Parts.{attribute_names};
 ghost use Rattle.cal_script.specs.declared.script.ChannelQuery.{ChannelQuery};
 ghost use Rattle.cal_script.specs.declared.script.Script.{Script};
-ghost use Rattle.cal_snap.specs.declared.numbered.NumberedSnap.{NumberedSnap};
 ghost use Rattle.cal_table.specs.Rows.{Row};
 ghost use Rattle.cal_table.specs.Shapes.{shape_of};
-ghost use Rattle.cal_table.specs.Snapshots.{StandsFor};
-ghost use Rattle.cal_table.specs.Tables.{Same, TableValue, merged_tables};
+ghost use Rattle.cal_table.specs.Tables.{TableValue};
 ghost use Rattle.cal_table.specs.declared.key.TableKey.{TableKey};
 ghost use Rattle.cal_table_rows.specs.Meanings.{HasRows, MeanRowsOf, NamesAreApart, RowMeans};
 ghost use Rattle.cal_table_rows.specs.PartSums.{HasPartSums};
@@ -48,39 +46,6 @@ pub fn rows_have_one_meaning()
         → IsTreeSeat tree seat → NamesAreApart attributes script
         → AllZip (RowMeans attributes script tree seat) rows one
         → AllZip (RowMeans attributes script tree seat) rows other → one ≡ other }
-{}
-
-/// A table stands for its snapshots in any order, and counts its records in any order.
-pub fn tables_count_in_any_order()
-    ensures snapshots { (snaps others : List NumberedSnap) (table : TableValue)
-        → IsPermutation snaps others → StandsFor snaps table → StandsFor others table }
-    ensures records { (attributes : List Attribute) (script : Script) (tree : Tree)
-        (seat : RowSeat NodeSort) (table : TableValue) (recs others : List Rec)
-        → IsPermutation recs others → Counts attributes script tree seat table recs
-        → Counts attributes script tree seat table others }
-{}
-
-/// A merge of two tables counts the records of both; and what is the same as a table counts what
-/// that counts.
-pub fn merges_count_both()
-    ensures merged { (attributes : List Attribute) (script : Script) (tree : Tree)
-        (seat : RowSeat NodeSort) (one other merged : TableValue) (recs more : List Rec)
-        → Counts attributes script tree seat one recs
-        → Counts attributes script tree seat other more → other.shape ≡ one.shape
-        → Same merged (merged_tables one other)
-        → Counts attributes script tree seat merged (recs ++ more) }
-    ensures same { (attributes : List Attribute) (script : Script) (tree : Tree)
-        (seat : RowSeat NodeSort) (table other : TableValue) (recs : List Rec)
-        → Counts attributes script tree seat table recs → Same other table
-        → Counts attributes script tree seat other recs }
-{}
-
-/// The first parts of all threads and then the second ones are both parts of each thread, thread by
-/// thread, in another order.
-pub fn parts_in_any_order()
-    ensures { (parts : List (List Rec × List Rec))
-        → IsPermutation (flat_map (λ p. p.0 ++ p.1) parts)
-        (flat_map (λ p. p.0) parts ++ flat_map (λ p. p.1) parts) }
 {}
 
 /// Where all names of a run are apart, so are those of its script, whose attributes stand in front.

@@ -2,15 +2,14 @@
 //!
 //! A table holds keys by numbers: nodes of the shared tree, and numbers of attributes. By what a
 //! seat knows of the tree each key means a record, and then the rows are those of the channel's
-//! table of the records that the snapshots mean (`tables_have_the_rows_of_records`), whatever the
-//! order in which parts were merged (`tables_count_in_any_order`). How a run comes to its tables
-//! isn't said here.
+//! table of the records that the snapshots mean (`tables_have_the_rows_of_records`). Several tables
+//! have together the groups of all their snapshots (`tables_together_have_the_groups_of_traces`).
+//! How a run comes to its tables isn't said here.
 #![tactic(auto)]
 
 mod laws;
 
 pub use laws::{
-    merges_count_both, names_of_runs_are_apart, parts_in_any_order, rows_have_one_meaning,
-    tables_count_in_any_order, tables_have_the_rows_of_records,
+    names_of_runs_are_apart, rows_have_one_meaning, tables_have_the_rows_of_records,
     tables_together_have_the_groups_of_traces,
 };
