@@ -29,7 +29,8 @@ pub(crate) fn seats_at(
     Ok(taken)
 }
 
-/// The tables that the threads' channels have left at a place. Empty ones stay there.
+/// The tables that the threads' channels have left at a place, thread by thread. Empty ones stay
+/// there. After an `Err` nothing is said of the channels. It takes memory and time for the threads.
 pub fn tables_at(
     alloc: Global,
     place: usize,

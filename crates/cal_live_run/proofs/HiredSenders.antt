@@ -16,7 +16,7 @@ use Rattle.cal_keeping.specs.Runners.{lines_left}
 use Rattle.cal_keeping.specs.declared.runner.Runner.{Runner}
 use Rattle.cal_live.specs.Sending.{Home, IsSendingFor, account_of, sent_by_either}
 use Rattle.cal_live.specs.declared.sending.SenderHand.{SenderHand}
-use Rattle.cal_live_run.proofs.Limits.{few-lines, timed-channels}
+use Rattle.cal_start.proofs.ScriptLimits.{few-lines, timed-channels}
 use Rattle.cal_live_run.proofs.NextItem.{within-all}
 use Rattle.cal_live_run.specs.Hired.{AreHiredBelow, IsHiredToSend}
 use Rattle.cal_mail.specs.Ends.{AreNewSenders, IsSenderOf, Mailbox, mailbox_of_sender, number_of}

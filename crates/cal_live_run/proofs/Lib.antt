@@ -1,4 +1,3 @@
-pub mod Limits
 pub mod NextItem
 pub mod HiredSenders
 pub mod Chosen

@@ -3,5 +3,5 @@ mod ManyBooks
 mod ManyRunners
 mod NewHands
 mod OneHired
-mod ScriptLimits
+pub mod ScriptLimits
 mod StartedRuns

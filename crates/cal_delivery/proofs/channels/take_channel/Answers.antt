@@ -1,3 +1,4 @@
+use Rattle.std.proofs.Common.{◌∙◌}
 use Rattle.std.proofs.lemmas.Result.{on_ok_weaker}
 use Rattle.cal_channel.specs.Places.{at_place, lists_of}
 use Rattle.cal_context.proofs.CallerLemmas.{Grows-trans, TakesMore-trans}
@@ -46,3 +47,8 @@ returns-clause-learns g c = learns_then (view c.args.seat.now) (view c.take_trac
 pub returns-clause-grows : goal.returns-clause-grows
 returns-clause-grows g c = Grows-trans c.args.context.now c.take_traces.new.context
     c.take_groups.new.context c.take_traces.ensures.grows c.take_groups.ensures.grows
+
+pub returns-clause-about : goal.returns-clause-about
+returns-clause-about g c =
+    on_ok_weaker c.take_groups.result (λ about. about ∙ c.in_ok-take_traces.ensures.about)
+    c.take_groups.ensures.about

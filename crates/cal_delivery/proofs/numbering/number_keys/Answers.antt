@@ -1,9 +1,8 @@
-use Rattle.std.proofs.Common.{◌∙◌, List, sym, subst}
+use Rattle.std.proofs.Common.{sym, subst, ◌∙◌}
 use Rattle.std.specs.List.{All}
 use Rattle.cal_delivery.proofs.KeyNumbers.{all_items, each_list}
 use Rattle.cal_delivery.specs.KeyNodes.{nodes_of}
 use Rattle.cal_nodes.specs.Numbers.{CanNumber, IsNumbered}
-use Rattle.cal_words.specs.declared.node.NodeId.{NodeId}
 use Rattle.cal_delivery.proofs.numbering.number_keys.Goals as goal
 
 pub number_all-requires-clause-nodes : goal.number_all-requires-clause-nodes
