@@ -35,4 +35,5 @@ returns g c =
               },
             );
       };
+      about = c.in_ok-take.ensures.about;
     }

@@ -18,4 +18,5 @@ returns g c = record {
           };
         },
       );
+  about = c.in_ok-take.ensures.about;
 }
