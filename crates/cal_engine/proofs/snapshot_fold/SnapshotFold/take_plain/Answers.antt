@@ -4,8 +4,8 @@ use Rattle.cal_filter.specs.Kept.{kept}
 use Rattle.cal_engine.proofs.Staying.{dropped_filtered, filtered_plain, kept_filtered, stands_dropped, stands_kept}
 use Rattle.cal_engine.proofs.snapshot_fold.SnapshotFold.take_plain.Goals as goal
 
-pub returns-then-not-keeps : goal.returns-then-not-keeps
-returns-then-not-keeps c = λ rs h.
+pub returns-then-not-keeps-clause-taken : goal.returns-then-not-keeps-clause-taken
+returns-then-not-keeps-clause-taken c = λ rs h.
     let t = c.args.context.now in
     let old = c.args.self.now in
     let r = meaning t c.args.snapshot.now in
@@ -16,8 +16,8 @@ returns-then-not-keeps c = λ rs h.
       holds = stands_dropped t old.query rs r old.tally old.rows (dropped_filtered old.query r r c.in_ok-keeps.keeps plain c.if-not-keeps.true) h.holds;
     }
 
-pub returns : goal.returns
-returns c = λ rs h.
+pub returns-clause-taken : goal.returns-clause-taken
+returns-clause-taken c = λ rs h.
     let t = c.args.context.now in
     let old = c.args.self.now in
     let r = meaning t c.args.snapshot.now in

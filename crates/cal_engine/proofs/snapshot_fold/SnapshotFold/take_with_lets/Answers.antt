@@ -9,8 +9,8 @@ use Rattle.cal_engine.proofs.Looking.{filtered_same, full_same, holds_same}
 use Rattle.cal_engine.proofs.Staying.{dropped_filtered, kept_filtered, stands_dropped, stands_kept}
 use Rattle.cal_engine.proofs.snapshot_fold.SnapshotFold.take_with_lets.Goals as goal
 
-pub returns-then-not-keeps : goal.returns-then-not-keeps
-returns-then-not-keeps c = λ rs h.
+pub returns-then-not-keeps-clause-taken : goal.returns-then-not-keeps-clause-taken
+returns-then-not-keeps-clause-taken c = λ rs h.
     let t = c.args.context.now in
     let q = c.args.self.now.query in
     let r = meaning t c.args.snapshot.now in
@@ -26,8 +26,8 @@ returns-then-not-keeps c = λ rs h.
           (dropped_filtered q r (with_lets q.lets r) c.in_ok-keeps.keeps filtered c.if-not-keeps.true) h.holds;
     }
 
-pub returns : goal.returns
-returns c = λ rs h.
+pub returns-clause-taken : goal.returns-clause-taken
+returns-clause-taken c = λ rs h.
     let t = c.args.context.now in
     let q = c.args.self.now.query in
     let r = meaning t c.args.snapshot.now in
