@@ -76,9 +76,7 @@ fn group_rows(
 {
     let mut fold = SnapshotFold::new(alloc, query, context)?;
     let columns = ResultColumns::new(alloc, channel.values.as_slice(), context)?;
-    fold_tables(
-        alloc, channel, &columns, tables, nodes, context, &mut fold,
-    )?;
+    fold_tables(alloc, channel, &columns, tables, nodes, context, &mut fold)?;
     let rows = fold.grouped_rows(context)?;
     Ok(rows)
 }

@@ -114,9 +114,7 @@ fn group_rows(
     ensures grows { Grows context.old context.new }
 {
     let mut fold = SnapshotFold::new(alloc, query, context)?;
-    let refused = take_snapshots(
-        alloc, script, journal, channel, numbers, context, &mut fold,
-    )?;
+    let refused = take_snapshots(alloc, script, journal, channel, numbers, context, &mut fold)?;
     let rows = fold.grouped_rows(context)?;
     Ok((rows, refused))
 }

@@ -17,8 +17,7 @@ loop-after-preserved g c =
     let had = g.T.Taker.has_taken c.args.taker.now t in
     let then = g.T.Taker.has_taken c.loop-after.taker t in
     let has = g.T.Taker.has_taken c.end_row.new.taker t in
-    let on = rw c.in-Some.is at c.in_ok-after.ensures.read in
-    (
+    let on = rw c.in-Some.is at c.in_ok-after.ensures.read in (
       ReadsOn-trans had then has c.args.self.now c.loop-after.self c.end_row.new.self t (bytes_in c.args.all) (bytes_in c.loop-after.rest) (bytes_in c.in-Some.after) c.loop-after.invariant.0 on,
       c.in_ok-after.ensures.about ∙ c.loop-after.invariant.1,
     )
