@@ -1,7 +1,7 @@
 -- Two lists of which each item goes with one of the other.
 use Rattle.std.proofs.Common.{◌≡◌, ◌<◌, Bool, true, false, List, [], ◌∷◌, ◌++◌}
 use Rattle.std.proofs.Common.{length, refl, sym, subst, arith}
-use Rattle.std.proofs.Common.{Contains, filter, ap, ◌∙◌, inl, inr, true≢false}
+use Rattle.std.proofs.Common.{Contains, filter, ap, ◌∙◌, if◌then◌else◌, inl, inr, true≢false}
 use Rattle.std.specs.Prelude.{◌⊎◌}
 use Rattle.std.specs.List.{AllByRecursion, AllZip}
 use Rattle.cal_profile.proofs.Lists.{Contains-cases, Contains-cons, Contains-first, Contains-nil}
