@@ -2,7 +2,8 @@ ghost use Rattle.std.specs.Prelude.{◌≡◌, [], ◌++◌, ℕ, List, None, If
 ghost use Rattle.cal_base.specs.Change.{change_of};
 ghost use Rattle.cal_base.specs.ReadEnds.{ReadsAll};
 ghost use Rattle.cal_query.specs.Layout.{StopsRows};
-ghost use Rattle.cal_query.specs.Streaming.{FallsAt, HasFinished, HasStreamed, IsAbout, MayBeFed, finished};
+ghost use Rattle.cal_query.specs.Streaming.{FallsAt, HasFinished, HasStreamed, IsAbout};
+ghost use Rattle.cal_query.specs.Streaming.{MayBeFed, finished};
 
 use crate::RowsEnd;
 use crate::pieces::{Fed, feed_all};

@@ -20,4 +20,5 @@ returns-in-Err-BadLine-clause-read g c = λ front has.
 pub returns-in-Ok-clause-about : goal.returns-in-Ok-clause-about
 returns-in-Ok-clause-about g c = λ what is.
     let none : is_some c.args.self.now.fault ≡ false = search rules in
-    about_still c.args.self.now.fault none (c.in-Ok.ensures.about ∙ about_this c.args.self.now.fault none is)
+    about_still c.args.self.now.fault none
+    (c.in-Ok.ensures.about ∙ about_this c.args.self.now.fault none is)
