@@ -1,5 +1,5 @@
 -- The rows of a query.
-use Rattle.std.specs.Prelude.{ℕ, Bool, ◌||◌, ◌&&◌, not, List, ◌++◌, ◌==◌, length}
+use Rattle.std.specs.Prelude.{◌≡◌, ℕ, Bool, true, ◌||◌, ◌&&◌, not, List, [], ◌++◌, ◌==◌, length}
 use Rattle.std.specs.Prelude.{Option, filter, is_some, map, option_map, if◌then◌else◌}
 use Rattle.std.specs.List.{filter_map, starts_with}
 use Rattle.std.specs.Ordering.{eq_by_cmp}
@@ -49,6 +49,11 @@ row_of q rs group = record { paths = group.paths; imms = group.imms ++ results q
 -- a query is aggregated where it has GROUP BY or a kernel
 abbrev pub is_aggregated : Query → Bool
 is_aggregated q = is_some q.group || not (length q.aggs == 0)
+
+-- a query whose rows are its groups', in first-seen order
+pub record IsOfGroups (q : Query) : Type 0 where
+  pub aggregated : is_aggregated q ≡ true
+  pub unordered : q.order ≡ []
 
 -- The rows of a query over the kept records: one for each group, or the records themselves.
 abbrev pub rows_of : Query → List Rec → List Rec

@@ -1,4 +1,4 @@
-ghost use Rattle.std.specs.Prelude.{IsTrue, All};
+ghost use Rattle.std.specs.Prelude.{IsTrue, All, ◌↔◌};
 ghost use Rattle.cal_filter.specs.Named.{HasSmallNumbers};
 ghost use Rattle.cal_value.specs.Reading.{IsSmall};
 
@@ -20,13 +20,14 @@ pub(crate) fn has_small_numbers(rec: &Rec) -> bool
 }
 
 fn are_small(entries: &[Entry]) -> bool
-    ensures { IsTrue result → All (λ e. IsSmall e.value) entries.now }
+    ensures { IsTrue result ↔ All (λ e. IsSmall e.value) entries.now }
 {
     entries.iter().all(|entry| is_small(&entry.value))
 }
 
+/// Whether a value is no Int and no Fixed above 2^86 in magnitude.
 pub(crate) fn is_small(value: &Variant) -> bool
-    ensures { IsTrue result → IsSmall value.now }
+    ensures { IsTrue result ↔ IsSmall value.now }
 {
     match value {
         Variant::Int(number) | Variant::Fixed(number) => number.unsigned_abs() <= MOST,

@@ -13,6 +13,7 @@ ghost use Rattle.cal_engine.specs.Answers.{answer_of};
 ghost use Rattle.cal_engine.specs.Gates.{IsGate};
 ghost use Rattle.cal_keys.specs.Keys.{room_of};
 ghost use Rattle.cal_engine.specs.Making.{MakesRows};
+ghost use Rattle.cal_engine.specs.Rows.{IsOfGroups};
 ghost use Rattle.cal_engine.specs.Standing.{HasFolded};
 ghost use Rattle.cal_engine.specs.Tallies.{Holds, HoldsIn};
 
@@ -123,19 +124,12 @@ impl SnapshotFold {
         )
     }
 
-    /// The query that it was made for.
-    pub fn query(&self) -> &Query
-        ensures { result.now ≡ self.now.query }
-    {
-        let _ = &self.gate;
-        let _ = &self.tally;
-        &self.query
-    }
-
     /// The rows of the answer over the records that were taken, made one by one as snapshots of the
     /// context that they came in, to which the attributes of results and the nodes of groups are
-    /// added. It is for an aggregated query without ORDER BY; of another one none are made.
+    /// added. It is for an aggregated query without ORDER BY. It takes memory and time in the groups
+    /// and the nodes of their keys. After an `Err` the context has grown.
     pub fn grouped_rows(self, context: &mut Context) -> Result<GroupedRows, OutOfMemory>
+        requires { IsOfGroups self.query }
         ensures rows { IfOk result (λ made. (rs : List ARecord) → HasFolded self context.old rs
             → MakesRows context.new self.query.aggs made (answer_of self.query rs).rows.rows) }
         ensures grows { Grows context.old context.new }
@@ -300,15 +294,13 @@ fn rows_of_tally(
     tally: Tally,
     context: &mut Context,
 ) -> Result<GroupedRows, OutOfMemory>
+    requires { IsOfGroups query.now }
     ensures rows { IfOk result (λ made. (rs : List ARecord) (others : List NumberedRow)
         → Holds context.old query.now (filter_map (kept_by query.now) rs) tally others
         → MakesRows context.new query.now.aggs made (answer_of query.now rs).rows.rows) }
     ensures grows { Grows context.old context.new }
 {
     context.has_each_once();
-    if !is_aggregated(query) || !query.order.is_empty() {
-        return Err(OutOfMemory);
-    }
     let TalliedGroups { own, groups } = tally.into_groups();
     if query.group.is_some() {
         return GroupedRows::moved(alloc, query, own, groups, context);

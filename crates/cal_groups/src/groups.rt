@@ -5,6 +5,7 @@ ghost use Rattle.cal_context.specs.Taking.{TakesMore};
 ghost use Rattle.cal_context.specs.Tree.{Grows};
 ghost use Rattle.cal_engine.specs.Answers.{answer_of};
 ghost use Rattle.cal_engine.specs.Making.{MakesRows};
+ghost use Rattle.cal_engine.specs.Rows.{IsOfGroups};
 ghost use Rattle.cal_engine.specs.Standing.{HasFolded};
 ghost use Rattle.cal_groups.specs.Columns.{AreColumns};
 ghost use Rattle.cal_groups.specs.ContextRows.{MayTakeTable, TableMeans, records_of};
@@ -68,6 +69,7 @@ fn group_rows(
 ) -> Result<GroupedRows, OutOfMemory>
     requires rows { All (MayTakeTable nodes.now context.old) tables.now }
     requires valid { IsValidQuery query.now }
+    requires groups { IsOfGroups query.now }
     ensures rows { IfOk result (λ rows. (keyed : List (List KeyedRow))
         → AllZip (TableMeans nodes.now context.old) tables.now keyed
         → MakesRows context.new query.now.aggs rows

@@ -5,6 +5,7 @@ ghost use Rattle.cal_context.specs.Taking.{TakesMore};
 ghost use Rattle.cal_context.specs.Tree.{Grows};
 ghost use Rattle.cal_engine.specs.Answers.{answer_of};
 ghost use Rattle.cal_engine.specs.Making.{MakesRows};
+ghost use Rattle.cal_engine.specs.Rows.{IsOfGroups};
 ghost use Rattle.cal_engine.specs.Sorting.{sorted};
 ghost use Rattle.cal_profile.specs.Groups.{group_records, rows_cmp};
 ghost use Rattle.cal_ql.specs.Valid.{IsValidQuery};
@@ -77,6 +78,7 @@ fn take_query<T: Taker>(
     requires read { IfSome journal (λ journal. CanBeRead script.now journal.now) }
     requires numbered { AreNumbered context.old script.now numbers.now }
     requires valid { IsValidQuery query.now }
+    requires groups { IsOfGroups query.now }
     ensures taken { OnOk result (TakesMore
         (T.has_taken taker.old context.old)
         (T.has_taken taker.new context.new)
@@ -106,6 +108,7 @@ fn group_rows(
     requires read { IfSome journal (λ journal. CanBeRead script.now journal.now) }
     requires numbered { AreNumbered context.old script.now numbers.now }
     requires valid { IsValidQuery query.now }
+    requires groups { IsOfGroups query.now }
     ensures rows { IfOk result (λ rows. MakesRows context.new query.now.aggs rows.0
         (answer_of query.now (snapshots script.now (told script.now (option_copied journal.entry))
         channel.now)).rows.rows) }

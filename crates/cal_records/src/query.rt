@@ -1,6 +1,7 @@
 //! The query of a channel.
 ghost use Rattle.std.specs.Prelude.{◌≡◌, true, ◌++◌, IfOk, OnOk};
 ghost use Rattle.cal_profile.specs.Groups.{agg_of, aggs_of, channel_query as query_of, value_aggs};
+ghost use Rattle.cal_engine.specs.Rows.{IsOfGroups};
 ghost use Rattle.cal_ql.specs.Kernels.{first_of_each, result_name};
 ghost use Rattle.cal_ql.specs.Once.{with_all_new, with_new};
 ghost use Rattle.cal_ql.specs.Valid.{IsValidQuery};
@@ -19,10 +20,11 @@ pub(crate) struct Kept {
     aggs: Seq<Agg>,
 }
 
-/// The query of a channel, which is valid.
+/// The query of a channel, which is valid, and whose rows are its groups'.
 pub fn channel_query(alloc: Global, channel: &ChannelQuery) -> Result<Query, OutOfMemory>
     ensures query { IfOk result (λ query. query ≡ query_of channel.now) }
     ensures valid { IfOk result IsValidQuery }
+    ensures groups { IfOk result IsOfGroups }
 {
     let query = made_query(alloc, channel)?;
     Ok(query)

@@ -17,7 +17,7 @@ loop-path-preserved c =
     let long : length c.as_slice-path-items.result.now ≡ length paths = ap length same in
     let more = joined-more paths n path (omega arith) (c.path-item.is ∙ ap (λ xs. get_or xs n path) same) in
     let P = λ (e : Entry). IsSmall e.value in
-    let here : All P path = subst (All P) c.as_slice.ensures (c.are_small.ensures c.if-not-are_small.false) in
+    let here : All P path = subst (All P) c.as_slice.ensures (c.are_small.ensures.0 c.if-not-are_small.false) in
     subst (All P) (sym more) (All-append P (joined (take n paths)) path c.loop-path.invariant here)
 
 pub returns : goal.returns
@@ -29,4 +29,4 @@ returns c = λ yes.
     let P = λ (e : Entry). IsSmall e.value in
     All-append P (joined paths) c.args.rec.now.imms
     (subst (λ ps. All P (joined ps)) all c.loop-path.invariant)
-    (subst (All P) c.as_slice-2.ensures (c.are_small-2.ensures yes))
+    (subst (All P) c.as_slice-2.ensures (c.are_small-2.ensures.0 yes))

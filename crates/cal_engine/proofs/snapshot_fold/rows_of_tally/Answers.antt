@@ -1,10 +1,8 @@
-use Rattle.std.proofs.Common.{◌≡◌, [], true, sym, subst, ◌∙◌, arith}
+use Rattle.std.proofs.Common.{sym, subst, ◌∙◌}
 use Rattle.std.specs.List.{filter_map}
-use Rattle.std.proofs.lemmas.Grind.{common_steps}
 use Rattle.std.proofs.lemmas.Result.{IfOk-weaker}
 use Rattle.cal_filter.specs.Kept.{kept}
 use Rattle.cal_engine.specs.Making.{MakesRows}
-use Rattle.cal_engine.specs.Rows.{is_aggregated}
 use Rattle.cal_engine.proofs.Making.{unordered_rows}
 use Rattle.cal_engine.proofs.Tallying.{holds_in, room_by_name, room_by_nodes}
 use Rattle.cal_engine.proofs.snapshot_fold.rows_of_tally.Goals as goal
@@ -14,8 +12,8 @@ returns-then-is_some-clause-rows c =
     let q = c.args.query.now in
     let tally = c.args.tally in
     let parts = c.into_groups-own.result in
-    let agg : is_aggregated q ≡ true = sym c.is_aggregated.ensures ∙ c.if-not-is_aggregated.false in
-    let none : q.order ≡ [] = grind (arith, common_steps, c.if-not-is_empty.false, c.is_empty.ensures) in
+    let agg = c.requires.aggregated in
+    let none = c.requires.unordered in
     let room = c.into_groups-own.ensures.own ∙ sym (room_by_name q.group c.args.context.now tally.own (sym c.is_some.ensures ∙ c.if-is_some.true)) in
     IfOk-weaker c.moved.result _ _
     (λ made makes rs others h.
@@ -29,8 +27,8 @@ returns-clause-rows c =
     let t = c.args.context.now in
     let tally = c.args.tally in
     let parts = c.into_groups-own.result in
-    let agg : is_aggregated q ≡ true = sym c.is_aggregated.ensures ∙ c.if-not-is_aggregated.false in
-    let none : q.order ≡ [] = grind (arith, common_steps, c.if-not-is_empty.false, c.is_empty.ensures) in
+    let agg = c.requires.aggregated in
+    let none = c.requires.unordered in
     let room = sym (room_by_nodes q.group t tally.own (sym c.is_some.ensures ∙ c.if-is_some.false)) in
     IfOk-weaker c.new.result _ _
     (λ made makes rs others h.

@@ -1,8 +1,9 @@
-use Rattle.std.proofs.Common.{[], subst, ◌∙◌}
+use Rattle.std.proofs.Common.{[], subst, sym, ◌∙◌}
 use Rattle.cal_context.proofs.CallerLemmas.{Grows-trans}
 use Rattle.cal_engine.specs.Answers.{answer_of}
 use Rattle.cal_engine.specs.FoldGrows.{HasFolded-stays}
 use Rattle.cal_engine.specs.Making.{MakesRows}
+use Rattle.cal_engine.specs.Rows.{IsOfGroups}
 use Rattle.cal_groups.proofs.TableLemmas.{may_take_tables-Grows, tables-Grows}
 use Rattle.cal_groups.proofs.groups.group_rows.Goals as goal
 use Rattle.cal_groups.specs.ContextRows.{records_of}
@@ -48,3 +49,6 @@ returns-clause-rows c = λ keyed means.
     ∙ c.in_ok-fold.ensures.query)
     (c.in_ok-rows.ensures.rows recs (c.in_ok-fold_tables.ensures.folded keyed
     (tables-Grows grown c.args.nodes.now c.args.tables.now keyed means)))
+
+pub grouped_rows-requires : goal.grouped_rows-requires
+grouped_rows-requires c = subst IsOfGroups (sym (c.in_ok-fold_tables.ensures.query ∙ c.in_ok-fold.ensures.query)) c.requires.groups

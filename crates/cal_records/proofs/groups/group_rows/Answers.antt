@@ -1,8 +1,9 @@
-use Rattle.std.proofs.Common.{[], subst, ◌∙◌}
+use Rattle.std.proofs.Common.{[], subst, sym, ◌∙◌}
 use Rattle.std.specs.Prelude.{option_copied}
 use Rattle.cal_context.proofs.CallerLemmas.{Grows-trans}
 use Rattle.cal_engine.specs.Answers.{answer_of}
 use Rattle.cal_engine.specs.Making.{MakesRows}
+use Rattle.cal_engine.specs.Rows.{IsOfGroups}
 use Rattle.cal_ql.specs.declared.query.Query.{Query}
 use Rattle.cal_records.specs.Told.{told}
 use Rattle.cal_run.proofs.NumberLemmas.{AreNumbered-Grows}
@@ -34,3 +35,6 @@ returns-clause-rows c =
     subst (λ (q : Query). MakesRows c.grouped_rows.new.context q.aggs c.in_ok-rows.rows
     (answer_of q taken).rows.rows) (c.in_ok-refused.ensures.about ∙ c.in_ok-fold.ensures.query)
     (c.in_ok-rows.ensures.rows taken (c.in_ok-refused.ensures.taken [] c.in_ok-fold.ensures.none))
+
+pub grouped_rows-requires : goal.grouped_rows-requires
+grouped_rows-requires c = subst IsOfGroups (sym (c.in_ok-refused.ensures.about ∙ c.in_ok-fold.ensures.query)) c.requires.groups
