@@ -1,1 +1,4 @@
+pub mod Apart
 pub mod Ended
+pub mod MailEnded
+pub mod Named

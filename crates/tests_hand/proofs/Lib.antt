@@ -1,1 +1,3 @@
+mod Appends
+mod NewBoards
 mod OneValue

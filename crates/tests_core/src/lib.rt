@@ -1,8 +1,0 @@
-//! Tests of blackboards.
-//!
-//! Each file is one layer's table of worked rows and hand-written answers. It promises nothing
-//! that a contract says; it shows what no clause can say, that calls succeed with ample memory.
-#![tactic(auto)]
-
-#[cfg(test)]
-mod boards;

@@ -1,2 +1,0 @@
-mod Appends
-mod NewBoards

@@ -1,5 +1,0 @@
-use Rattle.cal_tree.specs.Seats.{IsTreeSeat}
-use Rattle.tests_small.proofs.trees.wrong_line.Given as goal
-
-abbrev pub invariant-loop-number : goal.invariant-loop-number
-invariant-loop-number l = IsTreeSeat l.tree l.seat
