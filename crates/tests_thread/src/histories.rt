@@ -1,11 +1,9 @@
 //! The history of two threads that share a phase.
-ghost use Rattle.std.specs.Prelude.{IfOk};
-ghost use Rattle.cal_script.specs.Reading.{Means};
 ghost use Rattle.cal_script.specs.Valid.{IsRunnable};
 
 use crate::ends::history_of_two;
-use cal_script::{Placed, Script, read_script};
-use cal_valid::valid_script_law;
+use crate::scripts::runnable;
+use cal_script::{Placed, Script};
 use cal_value::{OutOfMemory, Seq};
 use std::alloc::Global;
 use std::test::Fail;
@@ -13,23 +11,6 @@ use std::test::Fail;
 const SHARED: &str = "attribute phase string 268\nattribute function string 276\n\
     thread\nbegin phase init\nend phase\n\
     thread\nset phase solve\nbegin function main\n";
-
-/// The script that a text means.
-fn script_of(alloc: Global, text: &str) -> Result<Script, Fail>
-    ensures { IfOk result (Means text.now) }
-{
-    let script = read_script(alloc, text.as_bytes())?;
-    Ok(script)
-}
-
-/// A script that can be run.
-fn runnable(alloc: Global, text: &str) -> Result<Script, Fail>
-    ensures { IfOk result IsRunnable }
-{
-    valid_script_law();
-    let script = script_of(alloc, text)?;
-    Ok(script)
-}
 
 /// The history of a script, if it has two threads.
 fn history(alloc: Global, script: &Script) -> Option<Result<Seq<Placed>, OutOfMemory>>

@@ -17,4 +17,6 @@ mod phases;
 #[cfg(test)]
 mod replicas;
 #[cfg(test)]
+mod scripts;
+#[cfg(test)]
 mod walkers;

@@ -1,11 +1,9 @@
 //! A phase of the process that two threads begin and end.
-ghost use Rattle.std.specs.Prelude.{IfOk};
-ghost use Rattle.cal_script.specs.Reading.{Means};
 ghost use Rattle.cal_script.specs.Valid.{IsRunnable};
 
+use crate::scripts::runnable;
 use crate::walkers::{Row, Walk, walk_two};
-use cal_script::{Reply, Script, read_script};
-use cal_valid::valid_script_law;
+use cal_script::{Reply, Script};
 use cal_value::OutOfMemory;
 use std::alloc::Global;
 use std::test::Fail;
@@ -14,23 +12,6 @@ const SHARED: &str = "attribute phase string 268\nattribute function string 276\
     channel t trace\n\
     thread\nbegin phase init\nsnapshot\nbegin function main\nend phase\nend function\n\
     thread\nsnapshot\nend phase\nend function\nsnapshot\n";
-
-/// The script that a text means.
-fn script_of(alloc: Global, text: &str) -> Result<Script, Fail>
-    ensures { IfOk result (Means text.now) }
-{
-    let script = read_script(alloc, text.as_bytes())?;
-    Ok(script)
-}
-
-/// A script that can be run.
-fn runnable(alloc: Global, text: &str) -> Result<Script, Fail>
-    ensures { IfOk result IsRunnable }
-{
-    valid_script_law();
-    let script = script_of(alloc, text)?;
-    Ok(script)
-}
 
 /// The walk of a script, if it has two threads.
 fn walked(alloc: Global, script: &Script, rows: &[Row]) -> Option<Result<Walk, OutOfMemory>>

@@ -1,11 +1,11 @@
-ghost use Rattle.std.specs.Prelude.{IfOk};
+//! What a look at an empty history sees.
 ghost use Rattle.cal_script.specs.Valid.{IsRunnable};
 
+use crate::scripts::runnable;
 use cal_board::BoardReply;
 use cal_process::{Common, Replica};
 use cal_run::attr_ref;
-use cal_script::{Script, read_script};
-use cal_valid::valid_script_law;
+use cal_script::Script;
 use cal_value::OutOfMemory;
 use cal_words::OpCode;
 use std::alloc::Global;
@@ -13,15 +13,6 @@ use std::test::Fail;
 
 // two threads that share a phase
 const SHARED: &str = "attribute phase string 268\nthread\nbegin phase init\nthread\nend phase\n";
-
-/// A script that can be run.
-fn runnable(alloc: Global, text: &str) -> Result<Script, Fail>
-    ensures { IfOk result IsRunnable }
-{
-    valid_script_law();
-    let script = read_script(alloc, text.as_bytes())?;
-    Ok(script)
-}
 
 /// How many operations a look at an empty history sees, and the reply to an end behind it.
 fn look_at_nothing(alloc: Global, script: &Script) -> Result<(u64, BoardReply), OutOfMemory>

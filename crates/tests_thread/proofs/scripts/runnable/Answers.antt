@@ -1,4 +1,4 @@
-use Rattle.tests_thread.proofs.phases.runnable.Goals as goal
+use Rattle.tests_thread.proofs.scripts.runnable.Goals as goal
 
 pub returns : goal.returns
 returns c =
